@@ -1,0 +1,64 @@
+// Numbers in bytes, highest byte first, and copying bytes into a place.
+ghost use mathlib.Core.Path.{_≡_};
+ghost use Prim.Native.Nat.{_+_, _≤_, _<_};
+ghost use lib.ListN.{length};
+ghost use Rattle.words.specs.Numbers.{be2, be4, be8, put, bytes8};
+
+fn wide(x: u8) -> u64
+    ensures { λ r. ⌜ (r ≡ x) × (r < 256) ⌝ }
+{
+    x as u64
+}
+
+pub fn read2(s: &[u8], at: usize) -> u64
+    requires { ⌜ at + 2 ≤ length (now s) ⌝ }
+    ensures { λ r. ⌜ (r ≡ be2 (now (s .entry)) at) × (r < 65536) ⌝ }
+{
+    wide(s[at]) * 256 + wide(s[at + 1])
+}
+
+pub fn read4(s: &[u8], at: usize) -> u64
+    requires { ⌜ at + 4 ≤ length (now s) ⌝ }
+    ensures { λ r. ⌜ (r ≡ be4 (now (s .entry)) at) × (r < 4294967296) ⌝ }
+{
+    read2(s, at) * 65536 + read2(s, at + 2)
+}
+
+pub fn read8(s: &[u8], at: usize) -> u64
+    requires { ⌜ at + 8 ≤ length (now s) ⌝ }
+    ensures { λ r. ⌜ r ≡ be8 (now (s .entry)) at ⌝ }
+{
+    read4(s, at) * 4294967296 + read4(s, at + 4)
+}
+
+// s's bytes from at on are those of v afterwards; all others stay.
+pub fn copy_in(s: &mut [u8], at: usize, v: &[u8])
+    requires { ⌜ at + length (now v) ≤ length (now s) ⌝ }
+    ensures { λ _. ⌜ now (s .exit) ≡ put (now (s .entry)) at (now (v .entry)) ⌝ }
+{
+    let mut i = 0;
+    while i < v.len() {
+        s[at + i] = v[i];
+        i += 1;
+    }
+}
+
+pub fn write8(s: &mut [u8], at: usize, v: u64)
+    requires { ⌜ at + 8 ≤ length (now s) ⌝ }
+    ensures { λ _. ⌜ now (s .exit) ≡ put (now (s .entry)) at (bytes8 v) ⌝ }
+{
+    let h = v / 4294967296;
+    let g = h / 65536;
+    let l = v / 65536;
+    let b = [
+        (g / 256 % 256) as u8,
+        (g % 256) as u8,
+        (h / 256 % 256) as u8,
+        (h % 256) as u8,
+        (l / 256 % 256) as u8,
+        (l % 256) as u8,
+        (v / 256 % 256) as u8,
+        (v % 256) as u8,
+    ];
+    copy_in(s, at, &b);
+}
