@@ -1,10 +1,10 @@
--- Laws of `put` that a caller cites instead of its text. Assumes nothing.
+-- Laws of numbers in bytes and of `put`, which the crates above cite instead of the definitions' text.
 use Prim.Native.Nat.{ℕ, zero, suc, _+_, _-_, _*_, _/_, _%_, _≤_, _<_}
 use mathlib.Core.Path.{_≡_, refl, sym, ap, _∙_}
 use mathlib.Core.List.{List, [], _∷_, _++_, append-assoc, append-nil}
 use native.Mathlib.Omega.{arith}
 use native.Mathlib.Numerals.{add-one}
-use native.Mathlib.Nat.{add-zero, add-assoc}
+use native.Mathlib.Nat.{add-zero, zero-add, add-assoc, mod-eq-of-lt}
 use lib.ListN.{length, take, drop, getD, set, length-append, length-drop, length-take, take-append-drop, List·getD-append}
 use lib.Seq.{paste, paste-suc, take-length, length-take-le, take-at, drop-at, drop-drop, getD-take, getD-drop, getD-append-add}
 use Rattle.words.specs.Numbers.{put, be2, be4, be8, bytes2, bytes4, bytes8}
@@ -135,3 +135,19 @@ halves8 v = refl
 
 pub be8-bytes : (v : ℕ) → be8 (bytes8 v) 0 ≡ v % 18446744073709551616
 be8-bytes v = omega (arith, halves8 v, be4-bytes (v / 4294967296), be4-bytes v)
+
+-- ---- the round trip: what was written is read back
+
+-- v put at a place, and v alone, agree
+agree-put : (s : List ℕ) (at : ℕ) (v : List ℕ) → at ≤ length s → Agree (put s at v) at v 0 (length v)
+agree-put s at v h = record { same = λ i b. get-in s at v i b h ∙ ap (λ (x : ℕ). getD v x 0) (sym (zero-add i)) }
+
+module _ (s : List ℕ) (at v : ℕ) (h : at ≤ length s) where
+  pub round2 : v < 65536 → be2 (put s at (bytes2 v)) at ≡ v
+  round2 b = same2 (agree-put s at (bytes2 v) h) (omega arith) ∙ be2-bytes v ∙ mod-eq-of-lt b
+
+  pub round4 : v < 4294967296 → be4 (put s at (bytes4 v)) at ≡ v
+  round4 b = same4 (agree-put s at (bytes4 v) h) (omega arith) ∙ be4-bytes v ∙ mod-eq-of-lt b
+
+  pub round8 : v < 18446744073709551616 → be8 (put s at (bytes8 v)) at ≡ v
+  round8 b = same8 (agree-put s at (bytes8 v) h) (omega arith) ∙ be8-bytes v ∙ mod-eq-of-lt b

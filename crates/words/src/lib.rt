@@ -1,8 +1,8 @@
-// Numbers in bytes, highest byte first, and copying bytes into a place.
+// Numbers of 2, 4 and 8 bytes, highest byte first, read and written at a place of a lent buffer.
 ghost use mathlib.Core.Path.{_≡_};
 ghost use Prim.Native.Nat.{_+_, _≤_, _<_};
 ghost use lib.ListN.{length};
-ghost use Rattle.words.specs.Numbers.{be2, be4, be8, put, bytes8};
+ghost use Rattle.words.specs.Numbers.{be2, be4, be8, put, bytes2, bytes4, bytes8};
 
 fn wide(x: u8) -> u64
     ensures { λ r. ⌜ (r ≡ x) × (r < 256) ⌝ }
@@ -41,6 +41,28 @@ pub fn copy_in(s: &mut [u8], at: usize, v: &[u8])
         s[at + i] = v[i];
         i += 1;
     }
+}
+
+pub fn write2(s: &mut [u8], at: usize, v: u64)
+    requires { ⌜ at + 2 ≤ length (now s) ⌝ }
+    ensures { λ _. ⌜ now (s .exit) ≡ put (now (s .entry)) at (bytes2 v) ⌝ }
+{
+    let b = [(v / 256 % 256) as u8, (v % 256) as u8];
+    copy_in(s, at, &b);
+}
+
+pub fn write4(s: &mut [u8], at: usize, v: u64)
+    requires { ⌜ at + 4 ≤ length (now s) ⌝ }
+    ensures { λ _. ⌜ now (s .exit) ≡ put (now (s .entry)) at (bytes4 v) ⌝ }
+{
+    let h = v / 65536;
+    let b = [
+        (h / 256 % 256) as u8,
+        (h % 256) as u8,
+        (v / 256 % 256) as u8,
+        (v % 256) as u8,
+    ];
+    copy_in(s, at, &b);
 }
 
 pub fn write8(s: &mut [u8], at: usize, v: u64)
