@@ -1,0 +1,71 @@
+// Tests of the bytes from one index of a buffer up to another, and the answer of a search.
+ghost use mathlib.Core.Path.{_≡_};
+ghost use Prim.Native.Nat.{_+_, _≤_, _<_};
+ghost use lib.ListN.{length};
+ghost use Rattle.scan.specs.Bytes.{part, all};
+ghost use Rattle.ranges.specs.Ranges.{zeros, isOf, isNothing};
+
+// Where a search found what it looked for.
+pub enum Found {
+    At(usize),
+    Nothing,
+}
+
+// What the bytes of a code may be.
+pub enum Class {
+    Digits,
+    Alphanumeric,
+}
+
+pub fn is_nothing(f: Found) -> bool
+    ensures { λ r. ⌜ r ≡ isNothing f ⌝ }
+{
+    match f {
+        Found::At(_) => false,
+        Found::Nothing => true,
+    }
+}
+
+fn wide(x: u8) -> u64
+    ensures { λ r. ⌜ (r ≡ x) × (r < 256) ⌝ }
+{
+    x as u64
+}
+
+// Whether the bytes from a up to e are zero. Their sum is taken to the end: an exit at each byte would cost twice the time.
+pub fn are_zero(t: &[u8], a: usize, e: usize) -> bool
+    requires { ⌜ (a ≤ e) × (e ≤ length (now t)) × (length (now t) ≤ 65536) ⌝ }
+    ensures { λ r. ⌜ r ≡ zeros (now (t .entry)) a e ⌝ }
+{
+    let mut i = a;
+    let mut sum: u64 = 0;
+    while i < e {
+        sum += wide(t[i]);
+        i += 1;
+    }
+    sum == 0
+}
+
+fn is_of(c: Class, b: u8) -> bool
+    ensures { λ r. ⌜ r ≡ isOf c b ⌝ }
+{
+    match c {
+        Class::Digits => scan::is_digit(b),
+        Class::Alphanumeric => scan::is_alnum(b),
+    }
+}
+
+// Whether the bytes from a up to e are all of a class.
+pub fn are_of(t: &[u8], a: usize, e: usize, c: Class) -> bool
+    requires { ⌜ (a ≤ e) × (e ≤ length (now t)) ⌝ }
+    ensures { λ r. ⌜ r ≡ all (isOf c) (part (now (t .entry)) a e) ⌝ }
+{
+    let mut i = a;
+    while i < e {
+        if !is_of(c, t[i]) {
+            return false;
+        }
+        i += 1;
+    }
+    true
+}
