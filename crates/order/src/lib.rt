@@ -1,0 +1,25 @@
+// An order as a flow writes it. The reader of flows makes it and the rules judge it; neither knows the other.
+use calendar::Date;
+use fields::Operation;
+
+// A line of an order: its progressivo and its cents.
+pub struct Line {
+    pub progressivo: u64,
+    pub amount: u64,
+}
+
+// An order's lines: how many, and each of them, zeros after them.
+pub struct Lines {
+    pub count: usize,
+    pub each: [Line; 8],
+}
+
+// Kind: 1 mandato, 2 reversale.
+pub struct Order {
+    pub kind: u8,
+    pub operation: Operation,
+    pub number: u64,
+    pub date: Date,
+    pub total: u64,
+    pub lines: Lines,
+}
