@@ -1,0 +1,425 @@
+use mathlib.Core.Path.{_≡_, refl, sym, ap, _∙_}
+use mathlib.Core.Bool.{false}
+use Prim.Native.Nat.{_≤_, _-_, _+_, ℕ, _<_}
+use native.Mathlib.Omega.{arith}
+use borrow.Author.Needs.{needs}
+use borrow.Author.Tests.{eq-eqb, not-true, not-false}
+use lib.ListN.{length}
+use Rattle.scan.specs.declared.Walk.the-variants.{Past}
+use Rattle.scan.specs.Bytes.{bytes, byteAt, isWhite, hasAt}
+use Rattle.scan.proofs.Laws.{stands, run-from, run-within}
+use Rattle.tokens.specs.Tokens.{nameAt, whiteAt}
+use Rattle.tokens.proofs.Laws.{name-past}
+use Rattle.markup.specs.Markup.{childrenBy, elementAt, contentAt}
+use Rattle.markup.specs.Noted.{Noted}
+use Rattle.markup.proofs.Noted.{noted-more}
+use Rattle.markup.proofs.Laws.{element-past, content-at-past, element-deep, element-no-name, element-no-end, element-inside, element-ends, content-text, content-empty, content-children, children-stop, children-step, children-other, children-broken}
+use borrow.Fn.Kinds.{In}
+use borrow.Fn.PlainCycle.{Measures, is, falls, and}
+use Rattle.markup.proofs.content.Reads as content
+use Rattle.markup.proofs.content.Kinds as content-kinds
+use Rattle.markup.proofs.+content+element.Lts-content as content-lts
+use Rattle.markup.proofs.element.Reads as element
+use Rattle.markup.proofs.element.Kinds as element-kinds
+use Rattle.markup.proofs.+content+element.Lts-element as element-lts
+use Rattle.markup.proofs.note.Reads as note-reads
+use Rattle.scan.proofs.byte.Reads as byte-reads
+use Rattle.scan.proofs.white_end.Reads as white-end-reads
+use Rattle.tokens.proofs.closes.Reads as closes-reads
+use Rattle.tokens.proofs.end_tag.Reads as end-tag-reads
+use Rattle.tokens.proofs.name_end.Reads as name-end-reads
+use Rattle.tokens.proofs.text.Reads as text-reads
+use Rattle.markup.proofs.+content+element.{statement}
+use Rattle.markup.proofs.+content+element.Tie.{close}
+
+abbrev μ-content : Measures 2 content-kinds.ps ℕ
+μ-content κs a = length (a .0 .now) - a .1 .0
+
+abbrev μ-element : Measures 2 element-kinds.ps ℕ
+μ-element κs a = length (a .0 .now) - a .1 .0
+
+abbrev content-at : ℕ → In 2 content-kinds.ps
+content-at t = and 2 content-kinds.ps (is 2 content-kinds.ps μ-content t) content.Pre
+
+abbrev content-below : ℕ → In 2 content-kinds.ps
+content-below t = and 2 content-kinds.ps (falls 2 content-kinds.ps _<_ μ-content t) content.Pre
+
+abbrev element-at : ℕ → In 2 element-kinds.ps
+element-at t = and 2 element-kinds.ps (is 2 element-kinds.ps μ-element t) element.Pre
+
+abbrev element-below : ℕ → In 2 element-kinds.ps
+element-below t = and 2 element-kinds.ps (falls 2 element-kinds.ps _<_ μ-element t) element.Pre
+
+abbrev content-calls : ℕ → content-lts.Claims
+content-calls t = (white-end-reads.Asked, white-end-reads.Learnt, byte-reads.Asked, byte-reads.Learnt, text-reads.Asked, text-reads.Learnt, closes-reads.Asked, closes-reads.Learnt, element-below t, element.Post)
+
+abbrev element-calls : ℕ → element-lts.Claims
+element-calls t = (name-end-reads.Asked, name-end-reads.Learnt, byte-reads.Asked, byte-reads.Learnt, content-below t, content.Post, end-tag-reads.Asked, end-tag-reads.Learnt, note-reads.Asked, note-reads.Learnt)
+
+abbrev content-Inv-loop : content-lts.InvT-loop
+content-Inv-loop s at depth past₀ w i₀ past i = (at ≤ i) × (i ≤ length s) × (contentAt depth s at ≡ childrenBy (elementAt depth s) s i) × Noted s past × (length past ≡ length past₀)
+
+abbrev content-μ-loop : content-lts.MeasureT-loop
+content-μ-loop s at depth past₀ w i₀ past i = length s - i
+
+content-white-end-requires : (t : ℕ) → content-lts.Need-white-end-requires (content-calls t) (content-at t) content.Post content-Inv-loop content-μ-loop
+content-white-end-requires t c κs = c .before .before .pre .1 .0
+
+content-byte-requires : (t : ℕ) → content-lts.Need-byte-requires (content-calls t) (content-at t) content.Post content-Inv-loop content-μ-loop
+content-byte-requires t c κs = search needs
+
+content-text-requires : (t : ℕ) → content-lts.Need-text-requires (content-calls t) (content-at t) content.Post content-Inv-loop content-μ-loop
+content-text-requires t c κs = c .before .before .before .before .before .pre .1 .0
+
+content-returns : (t : ℕ) → content-lts.Need-returns (content-calls t) (content-at t) content.Post content-Inv-loop content-μ-loop
+content-returns t c =
+    let s = c .before .before .before .before .before .before .args .s .now in
+    let at = c .before .before .before .before .before .before .args .at in
+    let d = c .before .before .before .before .before .before .args .depth in
+    let v : c .before .before .before .white-end .result ≡ whiteAt s at = c .before .before .before .white-end .ensures in
+    let y : c .before .before .byte .result ≡ byteAt s (whiteAt s at) = c .before .before .byte .ensures ∙ ap (byteAt s) v in
+    (c .text .ensures ∙ sym (content-text d s at (λ h. c .before .if1 .taken (y ∙ h))), c .before .before .before .before .before .before .pre .1 .2)
+
+content-add-byte : (t : ℕ) → content-lts.Need-add-byte (content-calls t) (content-at t) content.Post content-Inv-loop content-μ-loop
+content-add-byte t c =
+    let s = c .before .before .before .before .before .args .s .now in
+    let at = c .before .before .before .before .before .args .at in
+    let d = c .before .before .before .before .before .args .depth in
+    let v : c .before .before .white-end .result ≡ whiteAt s at = c .before .before .white-end .ensures in
+    let y : c .before .byte .result ≡ byteAt s (whiteAt s at) = c .before .byte .ensures ∙ ap (byteAt s) v in
+    let x : byteAt s (whiteAt s at) ≡ 60 = sym y ∙ c .if1 .left in
+    let i = stands 59 s (whiteAt s at) (eq-eqb _ _ x) in
+    omega arith
+
+content-byte-requires-2 : (t : ℕ) → content-lts.Need-byte-requires-2 (content-calls t) (content-at t) content.Post content-Inv-loop content-μ-loop
+content-byte-requires-2 t c κs = search needs
+
+content-text-requires-2 : (t : ℕ) → content-lts.Need-text-requires-2 (content-calls t) (content-at t) content.Post content-Inv-loop content-μ-loop
+content-text-requires-2 t c κs = c .before .before .before .before .before .before .before .pre .1 .0
+
+content-returns-2 : (t : ℕ) → content-lts.Need-returns-2 (content-calls t) (content-at t) content.Post content-Inv-loop content-μ-loop
+content-returns-2 t c =
+    let s = c .before .before .before .before .before .before .before .before .args .s .now in
+    let at = c .before .before .before .before .before .before .before .before .args .at in
+    let d = c .before .before .before .before .before .before .before .before .args .depth in
+    let v : c .before .before .before .before .before .white-end .result ≡ whiteAt s at = c .before .before .before .before .before .white-end .ensures in
+    let y : c .before .before .before .before .byte .result ≡ byteAt s (whiteAt s at) = c .before .before .before .before .byte .ensures ∙ ap (byteAt s) v in
+    let x : byteAt s (whiteAt s at) ≡ 60 = sym y ∙ c .before .before .before .if1 .left in
+    let z : c .before .before .byte2 .result ≡ byteAt s (whiteAt s at + 1) = c .before .before .byte2 .ensures ∙ ap (λ (n : ℕ). byteAt s (n + 1)) v in
+    (c .text2 .ensures ∙ sym (content-empty d s at x (sym z ∙ c .before .if2 .taken)), c .before .before .before .before .before .before .before .before .pre .1 .2)
+
+content-loop-holds : (t : ℕ) → content-lts.Need-loop-holds (content-calls t) (content-at t) content.Post content-Inv-loop content-μ-loop
+content-loop-holds t c =
+    let s = c .before .before .before .before .before .before .before .args .s .now in
+    let at = c .before .before .before .before .before .before .before .args .at in
+    let d = c .before .before .before .before .before .before .before .args .depth in
+    let v : c .before .before .before .before .white-end .result ≡ whiteAt s at = c .before .before .before .before .white-end .ensures in
+    let y : c .before .before .before .byte .result ≡ byteAt s (whiteAt s at) = c .before .before .before .byte .ensures ∙ ap (byteAt s) v in
+    let x : byteAt s (whiteAt s at) ≡ 60 = sym y ∙ c .before .before .if1 .left in
+    let z : c .before .byte2 .result ≡ byteAt s (whiteAt s at + 1) = c .before .byte2 .ensures ∙ ap (λ (n : ℕ). byteAt s (n + 1)) v in
+    let f = run-from isWhite s at in
+    let g = run-within isWhite s at (c .before .before .before .before .before .before .before .pre .1 .0) in
+    (omega arith, omega arith, rw v (content-children d s at x (λ h. c .if2 .left (z ∙ h))), c .before .before .before .before .before .before .before .pre .1 .2, refl)
+
+content-closes-requires : (t : ℕ) → content-lts.Need-closes-requires (content-calls t) (content-at t) content.Post content-Inv-loop content-μ-loop
+content-closes-requires t c κs = c .loop .inv .1
+
+content-byte-requires-3 : (t : ℕ) → content-lts.Need-byte-requires-3 (content-calls t) (content-at t) content.Post content-Inv-loop content-μ-loop
+content-byte-requires-3 t c κs = search needs
+
+content-same-length : (t : ℕ) → content-lts.Need-same-length (content-calls t) (content-at t) content.Post content-Inv-loop content-μ-loop
+content-same-length t c = c .before .before .before .before .loop .inv .4
+
+content-returns-3 : (t : ℕ) → content-lts.Need-returns-3 (content-calls t) (content-at t) content.Post content-Inv-loop content-μ-loop
+content-returns-3 t c =
+    let s = c .before .before .before .before .before .before .before .before .before .before .before .before .args .s .now in
+    let at = c .before .before .before .before .before .before .before .before .before .before .before .before .args .at in
+    let d = c .before .before .before .before .before .before .before .before .before .before .before .before .args .depth in
+    let i = c .before .before .before .before .loop .i in
+    let k : hasAt (bytes "</") s i ≡ false = sym (c .before .before .before .closes .ensures) ∙ not-true _ (c .before .before .if3 .taken) in
+    (sym (c .before .before .before .before .loop .inv .2 ∙ children-other d s i k (λ h. c .if4 .taken (c .before .byte3 .ensures ∙ h))), c .before .before .before .before .loop .inv .3)
+
+content-add-element : (t : ℕ) → content-lts.Need-add-element (content-calls t) (content-at t) content.Post content-Inv-loop content-μ-loop
+content-add-element t c =
+    let s = c .before .before .before .before .before .before .before .before .before .before .before .before .args .s .now in
+    let at = c .before .before .before .before .before .before .before .before .before .before .before .before .args .at in
+    let d = c .before .before .before .before .before .before .before .before .before .before .before .before .args .depth in
+    let i = c .before .before .before .before .loop .i in
+    let x : byteAt s i ≡ 60 = sym (c .before .byte3 .ensures) ∙ c .if4 .left in
+    let l = stands 59 s i (eq-eqb _ _ x) in
+    omega arith
+
+content-element-requires : (t : ℕ) → content-lts.Need-element-requires (content-calls t) (content-at t) content.Post content-Inv-loop content-μ-loop
+content-element-requires t c κs =
+    let s = c .before .before .before .before .before .before .before .before .before .before .before .before .before .args .s .now in
+    let at = c .before .before .before .before .before .before .before .before .before .before .before .before .before .args .at in
+    let d = c .before .before .before .before .before .before .before .before .before .before .before .before .before .args .depth in
+    let i = c .before .before .before .before .before .loop .i in
+    let x : byteAt s i ≡ 60 = sym (c .before .before .byte3 .ensures) ∙ c .before .if4 .left in
+    let l = stands 59 s i (eq-eqb _ _ x) in
+    (omega arith, (omega arith, c .before .before .before .before .before .before .before .before .before .before .before .before .before .pre .1 .1, c .before .before .before .before .before .loop .inv .3))
+
+content-enum-known-q : (t : ℕ) → content-lts.Need-enum-known-q (content-calls t) (content-at t) content.Post content-Inv-loop content-μ-loop
+content-enum-known-q t c = search needs
+
+content-white-end-requires-2 : (t : ℕ) → content-lts.Need-white-end-requires-2 (content-calls t) (content-at t) content.Post content-Inv-loop content-μ-loop
+content-white-end-requires-2 t c κs =
+    let s = c .before .before .before .before .before .before .before .before .before .before .before .before .before .before .before .before .before .before .before .args .s .now in
+    let at = c .before .before .before .before .before .before .before .before .before .before .before .before .before .before .before .before .before .before .before .args .at in
+    let d = c .before .before .before .before .before .before .before .before .before .before .before .before .before .before .before .before .before .before .before .args .depth in
+    let i = c .before .before .before .before .before .before .before .before .before .before .before .loop .i in
+    let q = c .before .q .given .0 .0 in
+    let m : elementAt d s (i + 1) ≡ Past q = sym (c .before .before .before .before .before .element .ensures .0) ∙ c .before .q .given .1 in
+    let a = element-past d s (i + 1) q m in
+    a .within
+
+content-loop-less : (t : ℕ) → content-lts.Need-loop-less (content-calls t) (content-at t) content.Post content-Inv-loop content-μ-loop
+content-loop-less t c =
+    let s = c .before .before .before .before .before .before .before .before .before .before .before .before .before .before .before .before .before .before .before .before .args .s .now in
+    let at = c .before .before .before .before .before .before .before .before .before .before .before .before .before .before .before .before .before .before .before .before .args .at in
+    let d = c .before .before .before .before .before .before .before .before .before .before .before .before .before .before .before .before .before .before .before .before .args .depth in
+    let i = c .before .before .before .before .before .before .before .before .before .before .before .before .loop .i in
+    let q = c .before .before .q .given .0 .0 in
+    let m : elementAt d s (i + 1) ≡ Past q = sym (c .before .before .before .before .before .before .element .ensures .0) ∙ c .before .before .q .given .1 in
+    let a = element-past d s (i + 1) q m in
+    let u : c .white-end2 .result ≡ whiteAt s q = c .white-end2 .ensures in
+    let f = run-from isWhite s q in
+    let g = run-within isWhite s q (a .within) in
+    omega arith
+
+content-loop-again : (t : ℕ) → content-lts.Need-loop-again (content-calls t) (content-at t) content.Post content-Inv-loop content-μ-loop
+content-loop-again t c =
+    let s = c .before .before .before .before .before .before .before .before .before .before .before .before .before .before .before .before .before .before .before .before .args .s .now in
+    let at = c .before .before .before .before .before .before .before .before .before .before .before .before .before .before .before .before .before .before .before .before .args .at in
+    let d = c .before .before .before .before .before .before .before .before .before .before .before .before .before .before .before .before .before .before .before .before .args .depth in
+    let i = c .before .before .before .before .before .before .before .before .before .before .before .before .loop .i in
+    let k : hasAt (bytes "</") s i ≡ false = sym (c .before .before .before .before .before .before .before .before .before .before .before .closes .ensures) ∙ not-true _ (c .before .before .before .before .before .before .before .before .before .before .if3 .taken) in
+    let x : byteAt s i ≡ 60 = sym (c .before .before .before .before .before .before .before .before .before .byte3 .ensures) ∙ c .before .before .before .before .before .before .before .before .if4 .left in
+    let q = c .before .before .q .given .0 .0 in
+    let m : elementAt d s (i + 1) ≡ Past q = sym (c .before .before .before .before .before .before .element .ensures .0) ∙ c .before .before .q .given .1 in
+    let a = element-past d s (i + 1) q m in
+    let u : c .white-end2 .result ≡ whiteAt s q = c .white-end2 .ensures in
+    let f = run-from isWhite s q in
+    let g = run-within isWhite s q (a .within) in
+    (omega arith, omega arith, rw u (c .before .before .before .before .before .before .before .before .before .before .before .before .loop .inv .2 ∙ children-step d s i k x q m), c .before .before .before .before .before .before .element .ensures .1, omega (arith, c .before .before .before .before .before .past .given, c .before .before .before .before .before .before .before .before .before .before .before .before .loop .inv .4))
+
+content-enum-known-p : (t : ℕ) → content-lts.Need-enum-known-p (content-calls t) (content-at t) content.Post content-Inv-loop content-μ-loop
+content-enum-known-p t c = search needs
+
+content-same-length-2 : (t : ℕ) → content-lts.Need-same-length-2 (content-calls t) (content-at t) content.Post content-Inv-loop content-μ-loop
+content-same-length-2 t c = omega (arith, c .before .before .before .before .past .given, c .before .before .before .before .before .before .before .before .before .before .before .loop .inv .4)
+
+content-returns-4 : (t : ℕ) → content-lts.Need-returns-4 (content-calls t) (content-at t) content.Post content-Inv-loop content-μ-loop
+content-returns-4 t c =
+    let s = c .before .before .before .before .before .before .before .before .before .before .before .before .before .before .before .before .before .before .before .args .s .now in
+    let at = c .before .before .before .before .before .before .before .before .before .before .before .before .before .before .before .before .before .before .before .args .at in
+    let d = c .before .before .before .before .before .before .before .before .before .before .before .before .before .before .before .before .before .before .before .args .depth in
+    let i = c .before .before .before .before .before .before .before .before .before .before .before .loop .i in
+    let k : hasAt (bytes "</") s i ≡ false = sym (c .before .before .before .before .before .before .before .before .before .before .closes .ensures) ∙ not-true _ (c .before .before .before .before .before .before .before .before .before .if3 .taken) in
+    let x : byteAt s i ≡ 60 = sym (c .before .before .before .before .before .before .before .before .byte3 .ensures) ∙ c .before .before .before .before .before .before .before .if4 .left in
+    let p = c .before .p .given .0 .0 in
+    (sym (c .before .before .before .before .before .before .before .before .before .before .before .loop .inv .2 ∙ children-broken d s i k x p (sym (c .before .before .before .before .before .element .ensures .0) ∙ c .before .p .given .1)), c .before .before .before .before .before .element .ensures .1)
+
+content-same-length-3 : (t : ℕ) → content-lts.Need-same-length-3 (content-calls t) (content-at t) content.Post content-Inv-loop content-μ-loop
+content-same-length-3 t c = c .before .before .loop .inv .4
+
+content-returns-5 : (t : ℕ) → content-lts.Need-returns-5 (content-calls t) (content-at t) content.Post content-Inv-loop content-μ-loop
+content-returns-5 t c =
+    let s = c .before .before .before .before .before .before .before .before .before .before .args .s .now in
+    let at = c .before .before .before .before .before .before .before .before .before .before .args .at in
+    let d = c .before .before .before .before .before .before .before .before .before .before .args .depth in
+    let i = c .before .before .loop .i in
+    (sym (c .before .before .loop .inv .2 ∙ children-stop d s i (sym (c .before .closes .ensures) ∙ not-false _ (c .if3 .left))), c .before .before .loop .inv .3)
+
+element-returns : (t : ℕ) → element-lts.Need-returns (element-calls t) (element-at t) element.Post
+element-returns t c = (rw (c .if1 .taken) (sym (element-deep (c .before .before .before .args .s .now) (c .before .before .before .args .at))), c .before .before .before .pre .1 .2)
+
+element-name-end-requires : (t : ℕ) → element-lts.Need-name-end-requires (element-calls t) (element-at t) element.Post
+element-name-end-requires t c κs = c .before .before .before .pre .1 .0
+
+element-enum-known-name : (t : ℕ) → element-lts.Need-enum-known-name (element-calls t) (element-at t) element.Post
+element-enum-known-name t c = search needs
+
+element-enum-told : (t : ℕ) → element-lts.Need-enum-told (element-calls t) (element-at t) element.Post
+element-enum-told t c = search needs
+
+element-returns-2 : (t : ℕ) → element-lts.Need-returns-2 (element-calls t) (element-at t) element.Post
+element-returns-2 t c =
+    let s = c .before .before .before .before .before .before .args .s .now in
+    let at = c .before .before .before .before .before .before .args .at in
+    let d = c .before .before .before .before .before .before .args .depth in
+    let p = c .enum-told .given .0 .0 in
+    let e = c .enum-told .given .1 in
+    (e ∙ sym (element-no-name d s at (c .before .before .before .if1 .left) p (sym (c .before .before .name-end .ensures) ∙ e)), c .before .before .before .before .before .before .pre .1 .2)
+
+element-byte-requires : (t : ℕ) → element-lts.Need-byte-requires (element-calls t) (element-at t) element.Post
+element-byte-requires t c κs = search needs
+
+element-returns-3 : (t : ℕ) → element-lts.Need-returns-3 (element-calls t) (element-at t) element.Post
+element-returns-3 t c =
+    let s = c .before .before .before .before .before .before .before .before .before .args .s .now in
+    let at = c .before .before .before .before .before .before .before .before .before .args .at in
+    let d = c .before .before .before .before .before .before .before .before .before .args .depth in
+    let e = c .before .before .before .name .given .0 .0 in
+    let n : nameAt s at ≡ Past e = sym (c .before .before .before .before .before .name-end .ensures) ∙ c .before .before .before .name .given .1 in
+    (sym (element-no-end d s at (c .before .before .before .before .before .before .if1 .left) e n (λ h. c .if2 .taken (c .before .byte .ensures ∙ h))), c .before .before .before .before .before .before .before .before .before .pre .1 .2)
+
+element-add-content : (t : ℕ) → element-lts.Need-add-content (element-calls t) (element-at t) element.Post
+element-add-content t c =
+    let s = c .before .before .before .before .before .before .before .before .before .args .s .now in
+    let at = c .before .before .before .before .before .before .before .before .before .args .at in
+    let d = c .before .before .before .before .before .before .before .before .before .args .depth in
+    let e = c .before .before .before .name .given .0 .0 in
+    let n : nameAt s at ≡ Past e = sym (c .before .before .before .before .before .name-end .ensures) ∙ c .before .before .before .name .given .1 in
+    let y : byteAt s e ≡ 62 = sym (c .before .byte .ensures) ∙ c .if2 .left in
+    let i = stands 61 s e (eq-eqb _ _ y) in
+    let g = name-past s at e n in
+    omega arith
+
+element-sub-content : (t : ℕ) → element-lts.Need-sub-content (element-calls t) (element-at t) element.Post
+element-sub-content t c = search needs
+
+element-content-requires : (t : ℕ) → element-lts.Need-content-requires (element-calls t) (element-at t) element.Post
+element-content-requires t c κs =
+    let s = c .before .before .before .before .before .before .before .before .before .before .args .s .now in
+    let at = c .before .before .before .before .before .before .before .before .before .before .args .at in
+    let d = c .before .before .before .before .before .before .before .before .before .before .args .depth in
+    let e = c .before .before .before .before .name .given .0 .0 in
+    let n : nameAt s at ≡ Past e = sym (c .before .before .before .before .before .before .name-end .ensures) ∙ c .before .before .before .before .name .given .1 in
+    let y : byteAt s e ≡ 62 = sym (c .before .before .byte .ensures) ∙ c .before .if2 .left in
+    let i = stands 61 s e (eq-eqb _ _ y) in
+    let g = name-past s at e n in
+    (omega arith, (omega arith, omega arith, c .before .before .before .before .before .before .before .before .before .before .pre .1 .2))
+
+element-enum-known-inside : (t : ℕ) → element-lts.Need-enum-known-inside (element-calls t) (element-at t) element.Post
+element-enum-known-inside t c = search needs
+
+element-enum-told-2 : (t : ℕ) → element-lts.Need-enum-told-2 (element-calls t) (element-at t) element.Post
+element-enum-told-2 t c = search needs
+
+element-same-length : (t : ℕ) → element-lts.Need-same-length (element-calls t) (element-at t) element.Post
+element-same-length t c = omega (arith, c .before .before .before .past .given)
+
+element-returns-4 : (t : ℕ) → element-lts.Need-returns-4 (element-calls t) (element-at t) element.Post
+element-returns-4 t c =
+    let s = c .before .before .before .before .before .before .before .before .before .before .before .before .before .before .before .args .s .now in
+    let at = c .before .before .before .before .before .before .before .before .before .before .before .before .before .before .before .args .at in
+    let d = c .before .before .before .before .before .before .before .before .before .before .before .before .before .before .before .args .depth in
+    let e = c .before .before .before .before .before .before .before .before .before .name .given .0 .0 in
+    let n : nameAt s at ≡ Past e = sym (c .before .before .before .before .before .before .before .before .before .before .before .name-end .ensures) ∙ c .before .before .before .before .before .before .before .before .before .name .given .1 in
+    let y : byteAt s e ≡ 62 = sym (c .before .before .before .before .before .before .before .byte .ensures) ∙ c .before .before .before .before .before .before .if2 .left in
+    let p = c .enum-told2 .given .0 .0 in
+    let b = c .enum-told2 .given .1 in
+    (b ∙ sym (element-inside d s at (c .before .before .before .before .before .before .before .before .before .before .before .before .if1 .left) e n y p (sym (c .before .before .before .before .content .ensures .0) ∙ b)), c .before .before .before .before .content .ensures .1)
+
+element-end-tag-requires : (t : ℕ) → element-lts.Need-end-tag-requires (element-calls t) (element-at t) element.Post
+element-end-tag-requires t c κs =
+    let s = c .before .before .before .before .before .before .before .before .before .before .before .before .before .before .before .before .args .s .now in
+    let at = c .before .before .before .before .before .before .before .before .before .before .before .before .before .before .before .before .args .at in
+    let d = c .before .before .before .before .before .before .before .before .before .before .before .before .before .before .before .before .args .depth in
+    let e = c .before .before .before .before .before .before .before .before .before .before .name .given .0 .0 in
+    let n : nameAt s at ≡ Past e = sym (c .before .before .before .before .before .before .before .before .before .before .before .before .name-end .ensures) ∙ c .before .before .before .before .before .before .before .before .before .before .name .given .1 in
+    let y : byteAt s e ≡ 62 = sym (c .before .before .before .before .before .before .before .before .byte .ensures) ∙ c .before .before .before .before .before .before .before .if2 .left in
+    let p = c .before .inside .given .0 .0 in
+    let k : contentAt (d - 1) s (e + 1) ≡ Past p = sym (c .before .before .before .before .before .content .ensures .0) ∙ c .before .inside .given .1 in
+    let i = stands 61 s e (eq-eqb _ _ y) in
+    let g = name-past s at e n in
+    let f = content-at-past (d - 1) s (e + 1) p k in
+    (omega arith, omega arith, omega arith)
+
+element-enum-known-end : (t : ℕ) → element-lts.Need-enum-known-end (element-calls t) (element-at t) element.Post
+element-enum-known-end t c = search needs
+
+element-enum-told-3 : (t : ℕ) → element-lts.Need-enum-told-3 (element-calls t) (element-at t) element.Post
+element-enum-told-3 t c = search needs
+
+element-same-length-2 : (t : ℕ) → element-lts.Need-same-length-2 (element-calls t) (element-at t) element.Post
+element-same-length-2 t c = omega (arith, c .before .before .before .before .before .before .before .past .given)
+
+element-returns-5 : (t : ℕ) → element-lts.Need-returns-5 (element-calls t) (element-at t) element.Post
+element-returns-5 t c =
+    let s = c .before .before .before .before .before .before .before .before .before .before .before .before .before .before .before .before .before .before .before .args .s .now in
+    let at = c .before .before .before .before .before .before .before .before .before .before .before .before .before .before .before .before .before .before .before .args .at in
+    let d = c .before .before .before .before .before .before .before .before .before .before .before .before .before .before .before .before .before .before .before .args .depth in
+    let e = c .before .before .before .before .before .before .before .before .before .before .before .before .before .name .given .0 .0 in
+    let n : nameAt s at ≡ Past e = sym (c .before .before .before .before .before .before .before .before .before .before .before .before .before .before .before .name-end .ensures) ∙ c .before .before .before .before .before .before .before .before .before .before .before .before .before .name .given .1 in
+    let y : byteAt s e ≡ 62 = sym (c .before .before .before .before .before .before .before .before .before .before .before .byte .ensures) ∙ c .before .before .before .before .before .before .before .before .before .before .if2 .left in
+    let p = c .before .before .before .before .inside .given .0 .0 in
+    let k : contentAt (d - 1) s (e + 1) ≡ Past p = sym (c .before .before .before .before .before .before .before .before .content .ensures .0) ∙ c .before .before .before .before .inside .given .1 in
+    (c .before .before .end-tag .ensures ∙ sym (element-ends d s at (c .before .before .before .before .before .before .before .before .before .before .before .before .before .before .before .before .if1 .left) e n y p k), c .before .before .before .before .before .before .before .before .content .ensures .1)
+
+element-note-requires : (t : ℕ) → element-lts.Need-note-requires (element-calls t) (element-at t) element.Post
+element-note-requires t c κs = search needs
+
+element-same-length-3 : (t : ℕ) → element-lts.Need-same-length-3 (element-calls t) (element-at t) element.Post
+element-same-length-3 t c = omega (arith, c .before .before .before .before .before .before .before .before .before .before .before .before .past .given, c .before .past2 .given)
+
+element-returns-6 : (t : ℕ) → element-lts.Need-returns-6 (element-calls t) (element-at t) element.Post
+element-returns-6 t c =
+    let s = c .before .before .before .before .before .before .before .before .before .before .before .before .before .before .before .before .before .before .before .before .before .before .before .before .args .s .now in
+    let at = c .before .before .before .before .before .before .before .before .before .before .before .before .before .before .before .before .before .before .before .before .before .before .before .before .args .at in
+    let d = c .before .before .before .before .before .before .before .before .before .before .before .before .before .before .before .before .before .before .before .before .before .before .before .before .args .depth in
+    let e = c .before .before .before .before .before .before .before .before .before .before .before .before .before .before .before .before .before .before .name .given .0 .0 in
+    let n : nameAt s at ≡ Past e = sym (c .before .before .before .before .before .before .before .before .before .before .before .before .before .before .before .before .before .before .before .before .name-end .ensures) ∙ c .before .before .before .before .before .before .before .before .before .before .before .before .before .before .before .before .before .before .name .given .1 in
+    let y : byteAt s e ≡ 62 = sym (c .before .before .before .before .before .before .before .before .before .before .before .before .before .before .before .before .byte .ensures) ∙ c .before .before .before .before .before .before .before .before .before .before .before .before .before .before .before .if2 .left in
+    let p = c .before .before .before .before .before .before .before .before .before .inside .given .0 .0 in
+    let k : contentAt (d - 1) s (e + 1) ≡ Past p = sym (c .before .before .before .before .before .before .before .before .before .before .before .before .before .content .ensures .0) ∙ c .before .before .before .before .before .before .before .before .before .inside .given .1 in
+    let q = c .before .before .before .before .before .end .given .0 .0 in
+    let z : elementAt d s at ≡ Past q = element-ends d s at (c .before .before .before .before .before .before .before .before .before .before .before .before .before .before .before .before .before .before .before .before .before .if1 .left) e n y p k ∙ (sym (c .before .before .before .before .before .before .before .end-tag .ensures) ∙ c .before .before .before .before .before .end .given .1) in
+    (sym z, rw (c .before .before .note .ensures) (noted-more s _ d at q (c .before .before .before .before .before .before .before .before .before .before .before .before .before .content .ensures .1) (c .before .before .before .before .before .before .before .before .before .before .before .before .before .before .before .before .before .before .before .before .before .before .before .before .pre .1 .1) z))
+
+pub +content+element-spec : {M : Type 1} → statement M
++content+element-spec = close μ-content μ-element (λ t. content-lts.spec (content-calls t)
+    (content-at t)
+    content.Post
+    content-Inv-loop
+    content-μ-loop
+    (content-white-end-requires t)
+    (content-byte-requires t)
+    (content-text-requires t)
+    (content-returns t)
+    (content-add-byte t)
+    (content-byte-requires-2 t)
+    (content-text-requires-2 t)
+    (content-returns-2 t)
+    (content-loop-holds t)
+    (content-closes-requires t)
+    (content-byte-requires-3 t)
+    (content-same-length t)
+    (content-returns-3 t)
+    (content-add-element t)
+    (content-element-requires t)
+    (content-enum-known-q t)
+    (content-white-end-requires-2 t)
+    (content-loop-less t)
+    (content-loop-again t)
+    (content-enum-known-p t)
+    (content-same-length-2 t)
+    (content-returns-4 t)
+    (content-same-length-3 t)
+    (content-returns-5 t))
+    λ t. element-lts.spec (element-calls t)
+    (element-at t)
+    element.Post
+    (element-returns t)
+    (element-name-end-requires t)
+    (element-enum-known-name t)
+    (element-enum-told t)
+    (element-returns-2 t)
+    (element-byte-requires t)
+    (element-returns-3 t)
+    (element-add-content t)
+    (element-sub-content t)
+    (element-content-requires t)
+    (element-enum-known-inside t)
+    (element-enum-told-2 t)
+    (element-same-length t)
+    (element-returns-4 t)
+    (element-end-tag-requires t)
+    (element-enum-known-end t)
+    (element-enum-told-3 t)
+    (element-same-length-2 t)
+    (element-returns-5 t)
+    (element-note-requires t)
+    (element-same-length-3 t)
+    (element-returns-6 t)

@@ -1,0 +1,31 @@
+use mathlib.Core.Path.{sym}
+use Rattle.markup.proofs.Noted.{note-fits, note-large, note-out}
+use borrow.Author.Needs.{needs}
+use Rattle.markup.proofs.note.Statement.{statement}
+use Rattle.markup.proofs.note.Tie as tie
+
+cast-past : tie.Need-cast-past
+cast-past c = search needs
+
+mul-past : tie.Need-mul-past
+mul-past c = search needs
+
+slice-write-past : tie.Need-slice-write-past
+slice-write-past c = search needs
+
+same-length : tie.Need-same-length
+same-length c = search needs
+
+returns : tie.Need-returns
+returns c = sym (note-fits _ _ _ (c .if2 .taken))
+
+returns-2 : tie.Need-returns-2
+returns-2 c = sym (note-large _ _ _ (c .if2 .left))
+
+returns-3 : tie.Need-returns-3
+returns-3 c = sym (note-out _ _ _ (c .if1 .left))
+
+pub note-spec : {M : Type 1} → statement M
+note-spec =
+    tie.close
+    (tie.spec cast-past mul-past slice-write-past same-length returns returns-2 returns-3)

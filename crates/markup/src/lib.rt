@@ -1,0 +1,126 @@
+// The markup of a flow: element and content readers, which call each other, and the whole flow. What is read is noted, so that later passes
+// look a child's end up instead of walking it again.
+use scan::Walk;
+ghost use mathlib.Core.Path.{_≡_};
+ghost use Prim.Native.Nat.{ℕ, _+_, _-_, _≤_, _<_};
+ghost use lib.ListN.{length, getD};
+ghost use Rattle.markup.specs.Markup.{elementAt, contentAt, markupOf};
+ghost use Rattle.markup.specs.Noted.{Noted, noteIn};
+
+// Notes q at a place, where there is room for it and q fits.
+fn note(past: &mut [u16], at: usize, q: usize)
+    ensures { λ _. ⌜ now (past .exit) ≡ noteIn (now (past .entry)) at q ⌝ }
+{
+    if at < past.len() {
+        if q <= 65535 {
+            past[at] = q as u16;
+        }
+    }
+}
+
+// What is noted at a place, 0 where nothing is.
+pub fn note_at(past: &[u16], at: usize) -> usize
+    ensures { λ r. ⌜ r ≡ getD (now (past .entry)) at 0 ⌝ }
+{
+    if at < past.len() {
+        past[at] as usize
+    } else {
+        0
+    }
+}
+
+// An element, after its `<`. Where it stands, the position past it is noted at the place after its `<`.
+pub fn element(s: &[u8], at: usize, depth: usize, past: &mut [u16]) -> Walk
+    requires { ⌜ (at ≤ length (now s)) × (depth ≤ 12) × Noted (now s) (now past) ⌝ }
+    ensures { λ r. ⌜ (r ≡ elementAt depth (now (s .entry)) at) × Noted (now (s .entry)) (now (past .exit)) ⌝ }
+{
+    if depth == 0 {
+        return Walk::Broken(at);
+    }
+    let name = tokens::name_end(s, at);
+    let Walk::Past(e) = name else {
+        return name;
+    };
+    if scan::byte(s, e) != 62 {
+        return Walk::Broken(e);
+    }
+    let inside = content(s, e + 1, depth - 1, past);
+    let Walk::Past(p) = inside else {
+        return inside;
+    };
+    let end = tokens::end_tag(s, at, e, p);
+    let Walk::Past(q) = end else {
+        return end;
+    };
+    note(past, at, q);
+    Walk::Past(q)
+}
+
+// What an element holds, up to the `<` of its end tag.
+pub fn content(s: &[u8], at: usize, depth: usize, past: &mut [u16]) -> Walk
+    requires { ⌜ (at ≤ length (now s)) × (depth ≤ 12) × Noted (now s) (now past) ⌝ }
+    ensures { λ r. ⌜ (r ≡ contentAt depth (now (s .entry)) at) × Noted (now (s .entry)) (now (past .exit)) ⌝ }
+{
+    let w = scan::white_end(s, at);
+    if scan::byte(s, w) != 60 {
+        return tokens::text(s, at);
+    }
+    if scan::byte(s, w + 1) == 47 {
+        return tokens::text(s, at);
+    }
+    let mut i = w;
+    while !tokens::closes(s, i) {
+        if scan::byte(s, i) != 60 {
+            return Walk::Broken(i);
+        }
+        match element(s, i + 1, depth, past) {
+            Walk::Past(q) => {
+                i = scan::white_end(s, q);
+            }
+            Walk::Broken(p) => {
+                return Walk::Broken(p);
+            }
+        }
+    }
+    Walk::Past(i)
+}
+
+// Whether the markup of a whole flow stands: the position of the root's `<`, or where it breaks. The notes are for later passes.
+pub fn markup_noted(s: &[u8], past: &mut [u16]) -> Walk
+    requires { ⌜ Noted (now s) (now past) ⌝ }
+    ensures { λ r. ⌜ (r ≡ markupOf (now (s .entry))) × Noted (now (s .entry)) (now (past .exit)) ⌝ }
+{
+    let a = tokens::optional(s, 0, b"\xef\xbb\xbf");
+    let d = tokens::optional(s, a, b"<?xml version=\"1.0\" encoding=\"UTF-8\"?>");
+    let w = scan::white_end(s, d);
+    if scan::byte(s, w) != 60 {
+        return Walk::Broken(w);
+    }
+    let root = element(s, w + 1, 12, past);
+    let Walk::Past(q) = root else {
+        return root;
+    };
+    let end = scan::white_end(s, q);
+    if end == s.len() {
+        Walk::Past(w)
+    } else {
+        Walk::Broken(end)
+    }
+}
+
+// The same with nothing noted: any bytes of any length.
+pub fn markup_of(s: &[u8]) -> Walk
+    ensures { λ r. ⌜ r ≡ markupOf (now (s .entry)) ⌝ }
+{
+    let mut none = [0u16; 1];
+    markup_noted(s, &mut none)
+}
+
+// What an element holds, read with no notes at hand.
+pub fn content_alone(s: &[u8], at: usize) -> Walk
+    requires { ⌜ at ≤ length (now s) ⌝ }
+    ensures { λ r. ⌜ r ≡ contentAt 12 (now (s .entry)) at ⌝ }
+{
+    let mut none = [0u16; 1];
+    content(s, at, 12, &mut none)
+}

@@ -1,0 +1,156 @@
+// The markup's smallest parts: a name, the five references, text, an end tag, bytes that may stand or not.
+use scan::Walk;
+ghost use mathlib.Core.Path.{_≡_};
+ghost use Prim.Native.Nat.{ℕ, _+_, _-_, _≤_, _<_};
+ghost use lib.ListN.{length};
+ghost use Rattle.scan.specs.Bytes.{bytes, hasAt};
+ghost use Rattle.tokens.specs.Tokens.{nameAt, refAt, pieceAt, isPlain, textAt, endTagAt, optionalAt};
+
+// A name at a position.
+pub fn name_end(s: &[u8], at: usize) -> Walk
+    requires { ⌜ at ≤ length (now s) ⌝ }
+    ensures { λ r. ⌜ r ≡ nameAt (now (s .entry)) at ⌝ }
+{
+    if !scan::is_letter(scan::byte(s, at)) {
+        return Walk::Broken(at);
+    }
+    let e = scan::name_run(s, at);
+    if e - at <= 48 {
+        Walk::Past(e)
+    } else {
+        Walk::Broken(at)
+    }
+}
+
+// Whether an end tag begins here.
+pub fn closes(s: &[u8], at: usize) -> bool
+    requires { ⌜ at ≤ length (now s) ⌝ }
+    ensures { λ r. ⌜ r ≡ hasAt (bytes "</") (now (s .entry)) at ⌝ }
+{
+    scan::has(s, at, b"</")
+}
+
+// One of the five references.
+fn reference(s: &[u8], at: usize) -> Walk
+    requires { ⌜ at ≤ length (now s) ⌝ }
+    ensures { λ r. ⌜ r ≡ refAt (now (s .entry)) at ⌝ }
+{
+    if scan::has(s, at, b"&amp;") {
+        return Walk::Past(at + 5);
+    }
+    if scan::has(s, at, b"&lt;") {
+        return Walk::Past(at + 4);
+    }
+    if scan::has(s, at, b"&gt;") {
+        return Walk::Past(at + 4);
+    }
+    if scan::has(s, at, b"&quot;") {
+        return Walk::Past(at + 6);
+    }
+    if scan::has(s, at, b"&apos;") {
+        return Walk::Past(at + 6);
+    }
+    Walk::Broken(at)
+}
+
+// One piece of a text: a reference or a character.
+fn piece(s: &[u8], at: usize) -> Walk
+    requires { ⌜ at ≤ length (now s) ⌝ }
+    ensures { λ r. ⌜ r ≡ pieceAt (now (s .entry)) at ⌝ }
+{
+    if scan::byte(s, at) == 38 {
+        return reference(s, at);
+    }
+    if scan::has(s, at, b"]]>") {
+        return Walk::Broken(at);
+    }
+    scan::character(s, at)
+}
+
+// A byte that is a piece of a text by itself, wherever it stands.
+fn is_plain(b: u8) -> bool
+    ensures { λ r. ⌜ r ≡ isPlain b ⌝ }
+{
+    if b < 32 {
+        return false;
+    }
+    if 127 < b {
+        return false;
+    }
+    if b == 38 {
+        return false;
+    }
+    b != 93
+}
+
+// Past the plain bytes and up to what is not plain.
+fn plain_end(s: &[u8], at: usize) -> usize
+    requires { ⌜ at ≤ length (now s) ⌝ }
+    ensures { λ r. ⌜ (at ≤ r) × (r ≤ length (now (s .entry))) × (textAt (now (s .entry)) at ≡ textAt (now (s .entry)) r) ⌝ }
+{
+    let mut i = at;
+    while i < s.len() {
+        if s[i] == 60 {
+            return i;
+        }
+        if !is_plain(s[i]) {
+            return i;
+        }
+        i += 1;
+    }
+    i
+}
+
+// A text, up to the `<` where it ends.
+pub fn text(s: &[u8], at: usize) -> Walk
+    requires { ⌜ at ≤ length (now s) ⌝ }
+    ensures { λ r. ⌜ r ≡ textAt (now (s .entry)) at ⌝ }
+{
+    let mut i = plain_end(s, at);
+    while scan::byte(s, i) != 60 {
+        match piece(s, i) {
+            Walk::Past(q) => {
+                i = plain_end(s, q);
+            }
+            Walk::Broken(p) => {
+                return Walk::Broken(p);
+            }
+        }
+    }
+    Walk::Past(i)
+}
+
+// The end tag, at p, of the name that stands from a up to e.
+pub fn end_tag(s: &[u8], a: usize, e: usize, p: usize) -> Walk
+    requires { ⌜ (a ≤ e) × (e ≤ length (now s)) × (p ≤ length (now s)) ⌝ }
+    ensures { λ r. ⌜ r ≡ endTagAt (now (s .entry)) a e p ⌝ }
+{
+    if !closes(s, p) {
+        return Walk::Broken(p);
+    }
+    let b = p + 2;
+    let n = e - a;
+    if !scan::has(s, b, &s[a..e]) {
+        return Walk::Broken(p);
+    }
+    if s.len() - b <= n {
+        return Walk::Broken(p);
+    }
+    if s[b + n] == 62 {
+        Walk::Past(b + n + 1)
+    } else {
+        Walk::Broken(p)
+    }
+}
+
+// Past the bytes x where they stand here, else here.
+pub fn optional(s: &[u8], at: usize, x: &[u8]) -> usize
+    requires { ⌜ at ≤ length (now s) ⌝ }
+    ensures { λ r. ⌜ r ≡ optionalAt (now (x .entry)) (now (s .entry)) at ⌝ }
+{
+    if scan::has(s, at, x) {
+        at + x.len()
+    } else {
+        at
+    }
+}
