@@ -1,0 +1,118 @@
+-- Laws of entries, an entry at a time.
+use mathlib.Core.Path.{_≡_, refl, sym, ap, _∙_}
+use mathlib.Core.List.{List, [], _∷_}
+use mathlib.Core.Bool.{Bool, true, false, cond, _&&_}
+use Prim.Native.Nat.{ℕ, zero, suc, _+_, _-_, _*_, _≤_, _<_}
+use native.Mathlib.Nat.{mul-suc}
+use native.Mathlib.Omega.{arith}
+use lib.ListN.{length, getD, take, drop}
+use lib.Dec.{leb, eqb}
+use borrow.Author.Tests.{leb-true, le-leb, lt-leb}
+use Rattle.scan.specs.Bytes.{between, part, all, isAlnum, textIs}
+use Rattle.scan.proofs.Laws.{both}
+use Rattle.ranges.specs.Ranges.{zeros, isNothing}
+use Rattle.ranges.specs.declared.Found.{Found}
+use Rattle.ranges.specs.declared.Found.the-variants.{At, Nothing}
+use Rattle.entries.specs.Entry.{codeLength, codeAt, slotsOf, formOk, formsOk, codesFrom, findCode, distinctCodes}
+
+-- room for one entry more
+pub times : (size k m : ℕ) → k ≡ suc m → size * k ≡ size + size * m
+times size k m e = ap (λ (x : ℕ). size * x) e ∙ mul-suc size m ∙ omega arith
+
+-- FORM: what the tests of a form say
+pub record Form (t : List ℕ) (at : ℕ) : Type 0 where
+  pub some : 1 ≤ codeLength t at
+  pub short : codeLength t at ≤ 16
+  pub alnum : all isAlnum (codeAt t at) ≡ true
+  pub padded : zeros t (at + 1 + codeLength t at) (at + 18) ≡ true
+  pub one-slot : 1 ≤ slotsOf t at
+  pub most-slots : slotsOf t at ≤ 512
+
+pub form : (t : List ℕ) (at : ℕ) → formOk t at ≡ true → Form t at
+unfolding formOk
+form t at e =
+    let a = both (between 1 16 (codeLength t at)) (all isAlnum (codeAt t at) && (zeros t (at + 1 + codeLength t at) (at + 18) && between 1 512 (slotsOf t at))) e in
+    let b = both (all isAlnum (codeAt t at)) (zeros t (at + 1 + codeLength t at) (at + 18) && between 1 512 (slotsOf t at)) (a .1) in
+    let d = both (zeros t (at + 1 + codeLength t at) (at + 18)) (between 1 512 (slotsOf t at)) (b .1) in
+    let l = both (leb 1 (codeLength t at)) (leb (codeLength t at) 16) (a .0) in
+    let s = both (leb 1 (slotsOf t at)) (leb (slotsOf t at) 512) (d .1) in
+    record {
+      some = leb-true 1 (codeLength t at) (l .0);
+      short = leb-true (codeLength t at) 16 (l .1);
+      alnum = b .0;
+      padded = d .0;
+      one-slot = leb-true 1 (slotsOf t at) (s .0);
+      most-slots = leb-true (slotsOf t at) 512 (s .1);
+    }
+
+-- formOk, a way out of the code at a time: n is the length read
+module _ (t : List ℕ) (at n : ℕ) (e : n ≡ getD t at 0) where
+  pub form-empty : n < 1 → formOk t at ≡ false
+  unfolding formOk
+  form-empty h = rw (← e, lt-leb 1 n h)
+
+  pub form-long : 16 < n → formOk t at ≡ false
+  unfolding formOk
+  form-long h = rw (← e, le-leb 1 n (omega arith), lt-leb n 16 h)
+
+  module _ (lo : 1 ≤ n) (hi : n ≤ 16) where
+    pub form-code : all isAlnum (part t (at + 1) (at + 1 + n)) ≡ false → formOk t at ≡ false
+    unfolding formOk codeAt
+    form-code h = rw (← e, le-leb 1 n lo, le-leb n 16 hi, h)
+
+    module _ (a : all isAlnum (part t (at + 1) (at + 1 + n)) ≡ true) where
+      pub form-pad : zeros t (at + 1 + n) (at + 18) ≡ false → formOk t at ≡ false
+      unfolding formOk codeAt
+      form-pad h = rw (← e, le-leb 1 n lo, le-leb n 16 hi, a, h)
+
+      module _ (z : zeros t (at + 1 + n) (at + 18) ≡ true) (s : ℕ) (f : s ≡ slotsOf t at) where
+        pub form-none : s < 1 → formOk t at ≡ false
+        unfolding formOk codeAt
+        form-none h = rw (← e, ← f, le-leb 1 n lo, le-leb n 16 hi, a, z, lt-leb 1 s h)
+
+        pub form-slots : 1 ≤ s → formOk t at ≡ leb s 512
+        unfolding formOk codeAt
+        form-slots h = rw (← e, ← f, le-leb 1 n lo, le-leb n 16 hi, a, z, le-leb 1 s h)
+
+-- FORMS, CODES: the first of k = m + 1
+module _ (size : ℕ) (t : List ℕ) (at k m : ℕ) (e : k ≡ suc m) where
+  pub forms-not : formOk t at ≡ false → formsOk size t at k ≡ false
+  unfolding formsOk
+  forms-not h = rw (e, h)
+
+  pub forms-on : formOk t at ≡ true → formsOk size t at k ≡ formsOk size t (at + size) m
+  unfolding formsOk
+  forms-on h = rw (e, h)
+
+  pub forms-split : formsOk size t at k ≡ true → (formOk t at ≡ true) × (formsOk size t (at + size) m ≡ true)
+  unfolding formsOk
+  forms-split h = both (formOk t at) (formsOk size t (at + size) m) (rw e at h)
+
+  pub find-hit : (i : ℕ) (c : List ℕ) → textIs (codeAt t at) c ≡ true → findCode (codesFrom size t at k) i c ≡ At i
+  unfolding findCode codesFrom
+  find-hit i c h = rw (e, h)
+
+  pub find-on : (i : ℕ) (c : List ℕ) → textIs (codeAt t at) c ≡ false → findCode (codesFrom size t at k) i c ≡ findCode (codesFrom size t (at + size) m) (i + 1) c
+  unfolding findCode codesFrom
+  find-on i c h = rw (e, h)
+
+  pub distinct-not : isNothing (findCode (codesFrom size t (at + size) m) 0 (codeAt t at)) ≡ false → distinctCodes (codesFrom size t at k) ≡ false
+  unfolding distinctCodes codesFrom
+  distinct-not h = rw (e, h)
+
+  pub distinct-on : isNothing (findCode (codesFrom size t (at + size) m) 0 (codeAt t at)) ≡ true → distinctCodes (codesFrom size t at k) ≡ distinctCodes (codesFrom size t (at + size) m)
+  unfolding distinctCodes codesFrom
+  distinct-on h = rw (e, h)
+
+module _ (size : ℕ) (t : List ℕ) (at k : ℕ) (h : k ≤ 0) where
+  pub forms-done : formsOk size t at k ≡ true
+  unfolding formsOk
+  forms-done = let e : k ≡ 0 = omega arith in rw e
+
+  pub find-done : (i : ℕ) (c : List ℕ) → findCode (codesFrom size t at k) i c ≡ Nothing
+  unfolding findCode codesFrom
+  find-done i c = let e : k ≡ 0 = omega arith in rw e
+
+  pub distinct-done : distinctCodes (codesFrom size t at k) ≡ true
+  unfolding distinctCodes codesFrom
+  distinct-done = let e : k ≡ 0 = omega arith in rw e

@@ -1,0 +1,60 @@
+-- A body's entry (document 01, "The table"), and bodies told apart by their codes. A request's 20 bytes per body are an entry's bytes 0 to 19.
+use Prim.Native.Nat.{ℕ, zero, suc, _+_, _*_, _-_}
+use mathlib.Core.Bool.{Bool, true, false, _&&_, cond}
+use mathlib.Core.List.{List, [], _∷_, _++_}
+use lib.ListN.{length, getD}
+use Rattle.scan.specs.Bytes.{between, part, all, isAlnum, textIs}
+use Rattle.words.specs.Numbers.{be2, be4}
+use Rattle.ranges.specs.Ranges.{zeros, isNothing}
+use Rattle.ranges.specs.declared.Found.{Found}
+use Rattle.ranges.specs.declared.Found.the-variants.{At, Nothing}
+
+-- "One entry per body, 32 bytes"
+abbrev pub entrySize : ℕ
+entrySize = 32
+
+-- "20 bytes per body (an entry's bytes 0 to 19)"
+abbrev pub requestSize : ℕ
+requestSize = 20
+
+-- "0 code length"
+abbrev pub codeLength : List ℕ → ℕ → ℕ
+codeLength t at = getD t at 0
+
+-- "1-16 code"
+unfoldable pub codeAt : List ℕ → ℕ → List ℕ
+codeAt t at = part t (at + 1) (at + 1 + codeLength t at)
+
+-- "18-19 number of slots"
+unfoldable pub slotsOf : List ℕ → ℕ → ℕ
+slotsOf t at = be2 t (at + 18)
+
+-- "20-23 place of its first slot"
+unfoldable pub placeOf : List ℕ → ℕ → ℕ
+placeOf t at = be4 t (at + 20)
+
+-- bytes 0 to 19: a code of 1 to 16 letters and digits, zeros after it up to byte 17, 1 to 512 slots
+unfoldable pub formOk : List ℕ → ℕ → Bool
+formOk t at =
+    between 1 16 (codeLength t at) && (all isAlnum (codeAt t at)
+    && (zeros t (at + 1 + codeLength t at) (at + 18) && between 1 512 (slotsOf t at)))
+
+-- the n forms from `at` on, each `size` after the one before, are right
+unfoldable pub formsOk : ℕ → List ℕ → ℕ → ℕ → Bool
+formsOk size t at zero = true
+formsOk size t at (suc n) = formOk t at && formsOk size t (at + size) n
+
+-- the codes of the n bodies whose entries begin at `at`, each `size` after the one before
+unfoldable pub codesFrom : ℕ → List ℕ → ℕ → ℕ → List (List ℕ)
+codesFrom size t at zero = []
+codesFrom size t at (suc n) = codeAt t at ∷ codesFrom size t (at + size) n
+
+-- the first of the codes that is this one, byte by byte and of the same length; i is the first code's index
+unfoldable pub findCode : List (List ℕ) → ℕ → List ℕ → Found
+findCode [] i c = Nothing
+findCode (x ∷ xs) i c = cond (textIs x c) (At i) (findCode xs (i + 1) c)
+
+-- "Codes are distinct"
+unfoldable pub distinctCodes : List (List ℕ) → Bool
+distinctCodes [] = true
+distinctCodes (x ∷ xs) = isNothing (findCode xs 0 x) && distinctCodes xs
