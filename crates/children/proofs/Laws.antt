@@ -1,0 +1,198 @@
+-- Laws of the children and of the named ones among them.
+use mathlib.Core.Path.{_≡_, refl, sym, ap, _∙_}
+use mathlib.Core.List.{List, [], _∷_}
+use mathlib.Core.Bool.{Bool, true, false, cond}
+use Prim.Native.Nat.{ℕ, zero, suc, _+_, _-_, _≤_, _<_}
+use native.Mathlib.Omega.{arith}
+use lib.ListN.{length, List·getD-eq-default}
+use lib.Dec.{eqb}
+use borrow.Author.Tests.{eq-eqb, ne-eqb}
+use Rattle.scan.specs.declared.Walk.{Walk}
+use Rattle.scan.specs.declared.Walk.the-variants.{Past, Broken}
+use Rattle.scan.specs.Bytes.{byteAt, part, isWhite}
+use Rattle.scan.proofs.Laws.{run-from, run-within}
+use Rattle.tokens.specs.Tokens.{whiteAt, nameAt, endTagAt}
+use Rattle.tokens.proofs.Laws.{name-past, end-past}
+use Rattle.markup.specs.Markup.{contentAt}
+use Rattle.markup.proofs.Laws.{content-at-past}
+use Rattle.children.specs.declared.Child.{Child}
+use Rattle.children.specs.declared.Parent.{Parent}
+use Rattle.children.specs.declared.Step.{Step}
+use Rattle.children.specs.declared.Step.the-variants.{One, End}
+use Rattle.children.specs.declared.Spot.{Spot}
+use Rattle.children.specs.declared.Spot.the-variants.{At, Passed}
+use Rattle.children.specs.declared.Holds.{Holds}
+use Rattle.children.specs.declared.Kept.{Kept}
+use Rattle.children.specs.declared.Next.the-variants.{Named, Done}
+use Rattle.children.specs.Child.{childAt, onward, thenFrom, childrenBy, childrenFrom, nameIn, textIn}
+use Rattle.children.specs.Table.{table, spotIn}
+use Rattle.children.specs.Kept.{keep, keptFrom, nextOf}
+
+-- a child that begins at i or later lies in the flow: its <, its name, its content, its end, in this order
+pub record Lies (s : List ℕ) (i : ℕ) (c : Child) : Type 0 where
+  pub from : i ≤ c .lt
+  pub name : c .lt + 1 < c .gt
+  pub inner : c .gt + 1 ≤ c .to
+  pub ends : c .to < c .after
+  pub within : c .after ≤ length s
+
+never : {c : Child} {A : Type 0} → End ≡ One c → A
+never e = let z : _≡_ {A = ℕ} 0 1 = cc in absurd (omega arith)
+
+cond-one : (b : Bool) (x : Step) {c : Child} → cond b x End ≡ One c → (b ≡ true) × (x ≡ One c)
+cond-one true x e = (refl, e)
+cond-one false x e = never e
+
+onward-one : (w : Walk) (k : ℕ → Step) {c : Child} → onward w k ≡ One c → (p : ℕ) × (w ≡ Past p) × (k p ≡ One c)
+onward-one (Past p) k e = (p, refl, e)
+onward-one (Broken p) k e = never e
+
+-- childAt's steps
+abbrev closed : List ℕ → ℕ → ℕ → ℕ → ℕ → Step
+closed s i e p q = One (record { lt = i; gt = e; to = p; after = whiteAt s q })
+
+abbrev filled : List ℕ → ℕ → ℕ → ℕ → Step
+filled s i e p = onward (endTagAt s (i + 1) e p) (closed s i e p)
+
+abbrev opened : List ℕ → ℕ → ℕ → Step
+opened s i e = cond (eqb (byteAt s e) 62) (onward (contentAt 12 s (e + 1)) (filled s i e)) End
+
+pub child-lies : (s : List ℕ) (i : ℕ) (c : Child) → childAt s i ≡ One c → (c .lt ≡ i) × Lies s i c
+unfolding childAt
+child-lies s i c h =
+    let a = cond-one (eqb (byteAt s i) 60) (onward (nameAt s (i + 1)) (opened s i)) h in
+    let n = onward-one (nameAt s (i + 1)) (opened s i) (a .1) in
+    let e = n .0 in
+    let b = cond-one (eqb (byteAt s e) 62) (onward (contentAt 12 s (e + 1)) (filled s i e)) (n .2) in
+    let k = onward-one (contentAt 12 s (e + 1)) (filled s i e) (b .1) in
+    let l = onward-one (endTagAt s (i + 1) e (k .0)) (closed s i e (k .0)) (k .2) in
+    last e (k .0) (l .0) (n .1) (k .1) (l .1) (l .2)
+  where
+    last : (n p q : ℕ) → nameAt s (i + 1) ≡ Past n → contentAt 12 s (n + 1) ≡ Past p → endTagAt s (i + 1) n p ≡ Past q → closed s i n p q ≡ One c → (c .lt ≡ i) × Lies s i c
+    last n p q en ec ee h =
+        let g = name-past s (i + 1) n en in
+        let k = content-at-past 12 s (n + 1) p ec in
+        let l = end-past s (i + 1) n p q ee in
+        let w = run-from isWhite s q in
+        let v = run-within isWhite s q (l .within) in
+        let z : record { lt = i; gt = n; to = p; after = whiteAt s q } ≡ c = cc in
+        rw (← z) (refl, record { from = omega arith; name = g .on; inner = k .0; ends = omega arith; within = v })
+
+-- the ways out of child_at
+module _ (s : List ℕ) (i : ℕ) where
+  pub child-none : (byteAt s i ≡ 60 → ⊥) → childAt s i ≡ End
+  unfolding childAt
+  child-none e = rw (ne-eqb _ _ e)
+
+  module _ (l : byteAt s i ≡ 60) where
+    pub child-no-name : (p : ℕ) → nameAt s (i + 1) ≡ Broken p → childAt s i ≡ End
+    unfolding childAt
+    child-no-name p n = rw (eq-eqb _ _ l, n)
+
+    module _ (e : ℕ) (n : nameAt s (i + 1) ≡ Past e) where
+      pub child-no-gt : (byteAt s e ≡ 62 → ⊥) → childAt s i ≡ End
+      unfolding childAt
+      child-no-gt g = rw (eq-eqb _ _ l, n, ne-eqb _ _ g)
+
+      module _ (g : byteAt s e ≡ 62) where
+        pub child-no-content : (p : ℕ) → contentAt 12 s (e + 1) ≡ Broken p → childAt s i ≡ End
+        unfolding childAt
+        child-no-content p k = rw (eq-eqb _ _ l, n, eq-eqb _ _ g, k)
+
+        module _ (p : ℕ) (k : contentAt 12 s (e + 1) ≡ Past p) where
+          pub child-no-end : (q : ℕ) → endTagAt s (i + 1) e p ≡ Broken q → childAt s i ≡ End
+          unfolding childAt
+          child-no-end q h = rw (eq-eqb _ _ l, n, eq-eqb _ _ g, k, h)
+
+          pub child-one : (q : ℕ) → endTagAt s (i + 1) e p ≡ Past q → childAt s i ≡ One (record { lt = i; gt = e; to = p; after = whiteAt s q })
+          unfolding childAt
+          child-one q h = rw (eq-eqb _ _ l, n, eq-eqb _ _ g, k, h)
+
+-- past the end of the flow stands no child
+pub child-beyond : (s : List ℕ) (i : ℕ) → length s ≤ i → childAt s i ≡ End
+child-beyond s i h = let y : byteAt s i ≡ 0 = List·getD-eq-default s 0 h in child-none s i (λ e. omega arith)
+
+-- its own words
+module _ (s : List ℕ) (i : ℕ) where
+  pub words-none : childAt s i ≡ End → (nameIn s (childAt s i) ≡ []) × (textIn s (childAt s i) ≡ [])
+  unfolding nameIn textIn
+  words-none e = rw e (refl, refl)
+
+  pub words-one : (c : Child) → childAt s i ≡ One c → (nameIn s (childAt s i) ≡ part s (c .lt + 1) (c .gt)) × (textIn s (childAt s i) ≡ part s (c .gt + 1) (c .to))
+  unfolding nameIn textIn
+  words-one c e = rw e (refl, refl)
+
+-- CHILDREN
+-- two limits that are large enough give the same children
+enough : (s : List ℕ) (n m i : ℕ) → length s - i < n → length s - i < m → childrenBy n s i ≡ childrenBy m s i
+unfolding childrenBy
+enough s zero m i h k = absurd (omega arith)
+enough s (suc n) zero i h k = absurd (omega arith)
+enough s (suc n) (suc m) i h k = go (childAt s i) refl (enough s n m)
+  where
+    go : (w : Step) → childAt s i ≡ w → ((j : ℕ) → length s - j < n → length s - j < m → childrenBy n s j ≡ childrenBy m s j) → thenFrom w (childrenBy n s) ≡ thenFrom w (childrenBy m s)
+    go (One c) e ih = let l = child-lies s i c e .1 in ap (λ cs. c ∷ cs) (ih (c .after) (omega arith) (omega arith))
+    go End e ih = refl
+
+module _ (s : List ℕ) (i : ℕ) where
+  pub children-end : childAt s i ≡ End → childrenFrom s i ≡ []
+  unfolding childrenFrom childrenBy
+  children-end e = rw e
+
+  pub children-one : (c : Child) → childAt s i ≡ One c → childrenFrom s i ≡ c ∷ childrenFrom s (c .after)
+  unfolding childrenFrom childrenBy
+  children-one c e = let l = child-lies s i c e .1 in rw e (ap (λ cs. c ∷ cs) (enough s (length s) (suc (length s)) (c .after) (omega arith) (omega arith)))
+
+-- NAMED CHILDREN
+module _ (p : Parent) (s : List ℕ) (i : ℕ) where
+  pub kept-end : childAt s i ≡ End → keptFrom p s i ≡ []
+  unfolding keptFrom keep
+  kept-end e = rw (children-end s i e)
+
+  pub kept-passed : (c : Child) → childAt s i ≡ One c → spotIn (table p) 0 s (c .lt + 1) (c .gt) ≡ Passed → keptFrom p s i ≡ keptFrom p s (c .after)
+  unfolding keptFrom keep
+  kept-passed c e f = rw (children-one s i c e, f)
+
+  pub kept-at : (c : Child) (n : ℕ) (h : Holds) → childAt s i ≡ One c → spotIn (table p) 0 s (c .lt + 1) (c .gt) ≡ At n h → keptFrom p s i ≡ record { child = c; row = n; holds = h } ∷ keptFrom p s (c .after)
+  unfolding keptFrom keep
+  kept-at c n h e f = rw (children-one s i c e, f)
+
+-- the first named child, and the others: they are those from its end on
+pub record Next-at (p : Parent) (s : List ℕ) (i : ℕ) (k : Kept) : Type 0 where
+  pub rest : keptFrom p s i ≡ k ∷ keptFrom p s (k .child .after)
+  pub lies : Lies s i (k .child)
+
+no-next : {k : Kept} {A : Type 0} → Done ≡ Named k → A
+no-next e = let z : _≡_ {A = ℕ} 0 1 = cc in absurd (omega arith)
+
+next-by : (n : ℕ) (p : Parent) (s : List ℕ) (i : ℕ) (k : Kept) → length s - i < n → nextOf (keptFrom p s i) ≡ Named k → Next-at p s i k
+next-by zero p s i k h e = absurd (omega arith)
+next-by (suc n) p s i k h e = go (childAt s i) refl (next-by n p s)
+  where
+    go : (w : Step) → childAt s i ≡ w → ((j : ℕ) (k : Kept) → length s - j < n → nextOf (keptFrom p s j) ≡ Named k → Next-at p s j k) → Next-at p s i k
+    go End f ih = no-next (ap nextOf (sym (kept-end p s i f)) ∙ e)
+    go (One c) f ih = at (spotIn (table p) 0 s (c .lt + 1) (c .gt)) refl
+      where
+        at : (w : Spot) → spotIn (table p) 0 s (c .lt + 1) (c .gt) ≡ w → Next-at p s i k
+        at Passed g =
+            let l = child-lies s i c f .1 in
+            let m = kept-passed p s i c f g in
+            let r = ih (c .after) k (omega arith) (ap nextOf (sym m) ∙ e) in
+            let y = r .lies in
+            record { rest = m ∙ r .rest; lies = record { from = omega arith; name = y .name; inner = y .inner; ends = y .ends; within = y .within } }
+        at (At x y) g =
+            let l = child-lies s i c f .1 in
+            let m = kept-at p s i c x y f g in
+            let z : Named (record { child = c; row = x; holds = y }) ≡ Named k = ap nextOf (sym m) ∙ e in
+            let u : record { child = c; row = x; holds = y } ≡ k = cc in
+            rw (← u) (record { rest = m; lies = l })
+
+pub next-at : (p : Parent) (s : List ℕ) (i : ℕ) (k : Kept) → nextOf (keptFrom p s i) ≡ Named k → Next-at p s i k
+next-at p s i k e = next-by (suc (length s - i)) p s i k (omega arith) e
+
+pub next-done : (p : Parent) (s : List ℕ) (i : ℕ) → nextOf (keptFrom p s i) ≡ Done → keptFrom p s i ≡ []
+next-done p s i e = go (keptFrom p s i) e
+  where
+    go : (ks : List Kept) → nextOf ks ≡ Done → ks ≡ []
+    go [] e = refl
+    go (k ∷ ks) e = no-next (sym e)

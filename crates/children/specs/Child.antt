@@ -1,0 +1,53 @@
+-- The children of an element, of a flow whose markup stands. (Where it doesn't, the list ends at the first thing that is no element.)
+use Prim.Native.Nat.{ℕ, zero, suc, _+_}
+use mathlib.Core.List.{List, [], _∷_}
+use mathlib.Core.Bool.{cond}
+use lib.ListN.{length}
+use lib.Dec.{eqb}
+use Rattle.scan.specs.declared.Walk.{Walk}
+use Rattle.scan.specs.declared.Walk.the-variants.{Past, Broken}
+use Rattle.scan.specs.Bytes.{byte, byteAt, part}
+use Rattle.tokens.specs.Tokens.{whiteAt, nameAt, endTagAt}
+use Rattle.markup.specs.Markup.{contentAt}
+use Rattle.children.specs.declared.Child.{Child}
+use Rattle.children.specs.declared.Step.{Step}
+use Rattle.children.specs.declared.Step.the-variants.{One, End}
+
+-- go on where a reader stops; where it breaks there is no child
+abbrev pub onward : Walk → (ℕ → Step) → Step
+onward (Past p) k = k p
+onward (Broken p) k = End
+
+-- the element whose < stands at i
+unfoldable pub childAt : List ℕ → ℕ → Step
+childAt s i =
+    cond (eqb (byteAt s i) (byte "<"))
+    (onward (nameAt s (i + 1)) (λ e.
+    cond (eqb (byteAt s e) (byte ">"))
+    (onward (contentAt 12 s (e + 1)) (λ p.
+    onward (endTagAt s (i + 1) e p) (λ q. One (record { lt = i; gt = e; to = p; after = whiteAt s q }))))
+    End))
+    End
+
+-- a child, and what comes after it
+abbrev pub thenFrom : Step → (ℕ → List Child) → List Child
+thenFrom (One c) rest = c ∷ rest (c .after)
+thenFrom End rest = []
+
+-- one child after the other, at most n
+unfoldable pub childrenBy : ℕ → List ℕ → ℕ → List Child
+childrenBy zero s i = []
+childrenBy (suc n) s i = thenFrom (childAt s i) (childrenBy n s)
+
+-- the children from i on. (Each is longer than a byte, so no limit is reached)
+unfoldable pub childrenFrom : List ℕ → ℕ → List Child
+childrenFrom s i = childrenBy (suc (length s)) s i
+
+-- A FIELD'S OWN WORDS: name and text of the element whose < stands at a place, as parts of the flow; empty where none does
+unfoldable pub nameIn : List ℕ → Step → List ℕ
+nameIn s (One c) = part s (c .lt + 1) (c .gt)
+nameIn s End = []
+
+unfoldable pub textIn : List ℕ → Step → List ℕ
+textIn s (One c) = part s (c .gt + 1) (c .to)
+textIn s End = []

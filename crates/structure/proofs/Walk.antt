@@ -1,0 +1,220 @@
+-- The walk over a level's named children: after some of them, what is left to say of the others.
+use mathlib.Core.Path.{_≡_, refl, sym, ap, _∙_}
+use mathlib.Core.List.{List, [], _∷_}
+use mathlib.Core.Bool.{Bool, true, false, cond, _&&_, and-true, and-false, and-assoc}
+use Prim.Native.Nat.{ℕ, zero, suc, _+_, _-_, _≤_, _<_}
+use native.Mathlib.Nat.{add-zero}
+use native.Mathlib.Numerals.{add-one}
+use native.Mathlib.Omega.{arith}
+use lib.ListN.{length, drop, drop-of-length-le}
+use lib.Dec.{eqb, leb}
+use borrow.Author.Tests.{eq-eqb, ne-eqb, le-leb, lt-leb}
+use Rattle.scan.specs.Bytes.{run}
+use Rattle.tokens.specs.Tokens.{whiteAt}
+use Rattle.children.specs.declared.Child.{Child}
+use Rattle.children.specs.declared.Parent.{Parent}
+use Rattle.children.specs.declared.Parent.the-variants.{FlussoOrdinativi, Mandato, Reversale, InformazioniBeneficiario, InformazioniVersante, Beneficiario, Versante}
+use Rattle.children.specs.declared.Step.the-variants.{One, End}
+use Rattle.children.specs.declared.Kept.{Kept}
+use Rattle.children.specs.Child.{childAt}
+use Rattle.children.specs.Table.{table}
+use Rattle.children.specs.Kept.{keptFrom}
+use Rattle.children.proofs.Laws.{children-end, children-one}
+use Rattle.structure.specs.Structure.{isNil, all, Range, ranges, takes, allows, rowsOf, isRow, inOrder, textOnly, keptHolds, fitBy, fitsAt}
+use Rattle.structure.specs.Walk.{upTo, filledBy, filledFrom, countedOf}
+
+-- ROWS up to the last, a way out of the code at a time
+pub allows-beyond : (last most row n : ℕ) → last < row → allows (upTo last most) row n ≡ false
+allows-beyond zero most zero n h = absurd (omega arith)
+allows-beyond zero most (suc row) n h = refl
+allows-beyond (suc last) most zero n h = absurd (omega arith)
+allows-beyond (suc last) most (suc row) n h = allows-beyond last most row n (omega arith)
+
+pub allows-none : (last most row n : ℕ) → n < 1 → allows (upTo last most) row n ≡ false
+allows-none zero most zero n h = rw (lt-leb 1 n h)
+allows-none zero most (suc row) n h = refl
+allows-none (suc last) most zero n h = rw (lt-leb 1 n h)
+allows-none (suc last) most (suc row) n h = allows-none last most row n h
+
+pub allows-before : (last most row n : ℕ) → 1 ≤ n → row < last → allows (upTo last most) row n ≡ leb n 1
+allows-before zero most row n k h = absurd (omega arith)
+allows-before (suc last) most zero n k h = rw (le-leb 1 n k)
+allows-before (suc last) most (suc row) n k h = allows-before last most row n k (omega arith)
+
+pub allows-last : (last most row n : ℕ) → 1 ≤ n → row ≡ last → allows (upTo last most) row n ≡ leb n most
+allows-last zero most zero n k h = rw (le-leb 1 n k)
+allows-last zero most (suc row) n k h = absurd (omega arith)
+allows-last (suc last) most zero n k h = absurd (omega arith)
+allows-last (suc last) most (suc row) n k h = allows-last last most row n k (omega arith)
+
+pub some-row : (p : Parent) → 0 < length (ranges (table p))
+some-row FlussoOrdinativi = omega arith
+some-row Mandato = omega arith
+some-row Reversale = omega arith
+some-row InformazioniBeneficiario = omega arith
+some-row InformazioniVersante = omega arith
+some-row Beneficiario = omega arith
+some-row Versante = omega arith
+
+-- filledFrom, a row at a time
+module _ (rs : List Range) (i m to : ℕ) where
+  pub filled-end : to ≤ i → filledFrom rs i m to ≡ true
+  unfolding filledFrom filledBy
+  filled-end h = let z : to - i ≡ 0 = omega arith in rw z
+
+  module _ (h : i < to) where
+    pub filled-not : allows rs i m ≡ false → filledFrom rs i m to ≡ false
+    unfolding filledFrom filledBy
+    filled-not e = let z : to - i ≡ suc (to - (i + 1)) = omega arith in rw (z, e)
+
+    pub filled-more : allows rs i m ≡ true → filledFrom rs i m to ≡ filledFrom rs (i + 1) 0 to
+    unfolding filledFrom filledBy
+    filled-more e = let z : to - i ≡ suc (to - (i + 1)) = omega arith in rw (z, e, add-one)
+
+-- ORDER AND NUMBER, while the children are walked: n elements of row j, the first of rs, are counted already
+unfoldable pub inOrderFrom : List Range → ℕ → ℕ → List ℕ → Bool
+inOrderFrom [] j n ks = isNil ks && eqb n 0
+inOrderFrom (r ∷ rs) j n ks = takes r (n + run (isRow j) ks) && inOrder rs (suc j) (drop (run (isRow j) ks) ks)
+
+order-start : (rs : List Range) (j : ℕ) (ks : List ℕ) → inOrder rs j ks ≡ inOrderFrom rs j 0 ks
+unfolding inOrderFrom inOrder
+order-start [] j ks = sym (and-true (isNil ks))
+order-start (r ∷ rs) j ks = let z : 0 + run (isRow j) ks ≡ run (isRow j) ks = omega arith in rw z
+
+-- one more element of the row
+order-same : (rs : List Range) (j n : ℕ) (ks : List ℕ) → inOrderFrom rs j n (j ∷ ks) ≡ inOrderFrom rs j (n + 1) ks
+unfolding inOrderFrom inOrder run
+order-same [] j n ks = rw (ne-eqb (n + 1) 0 (λ h. omega arith)) (sym (and-false (isNil ks)))
+order-same (r ∷ rs) j n ks = let z : n + suc (run (isRow j) ks) ≡ n + 1 + run (isRow j) ks = omega arith in rw (eq-eqb j j refl, z)
+
+run-other : (j k : ℕ) (ks : List ℕ) → (k ≡ j → ⊥) → run (isRow j) (k ∷ ks) ≡ 0
+unfolding run
+run-other j k ks e = rw (ne-eqb k j e)
+
+run-nil : (j : ℕ) → run (isRow j) [] ≡ 0
+unfolding run
+run-nil j = refl
+
+-- no more element of the row: it takes the n counted, and the next row begins
+order-leave : (rs : List Range) (row j n : ℕ) (ks : List ℕ) → run (isRow j) ks ≡ 0 → (length rs ≤ row → isNil ks ≡ false) → inOrderFrom (drop row rs) j n ks ≡ (allows rs row n && inOrderFrom (drop (suc row) rs) (suc j) 0 ks)
+unfolding inOrderFrom
+order-leave [] zero j n ks e f = rw (f (omega arith))
+order-leave [] (suc row) j n ks e f = rw (f (omega arith))
+order-leave (r ∷ rs) zero j n ks e f = rw (e, add-zero) (ap (λ b. takes r n && b) (order-start rs (suc j) ks))
+order-leave (r ∷ rs) (suc row) j n ks e f = order-leave rs row j n ks e (λ h. f (omega arith))
+
+-- an element of an earlier row
+back : (rs : List Range) (j k : ℕ) (ks : List ℕ) → k < j → inOrder rs j (k ∷ ks) ≡ false
+unfolding inOrder
+back [] j k ks h = refl
+back (r ∷ rs) j k ks h = rw (run-other j k ks (λ e. omega arith), back rs (suc j) k ks (omega arith)) (and-false (takes r 0))
+
+order-back : (rs : List Range) (j n k : ℕ) (ks : List ℕ) → k < j → inOrderFrom rs j n (k ∷ ks) ≡ false
+unfolding inOrderFrom
+order-back [] j n k ks h = refl
+order-back (r ∷ rs) j n k ks h = rw (run-other j k ks (λ e. omega arith), back rs (suc j) k ks (omega arith)) (and-false (takes r (n + 0)))
+
+counted-new : (row n to : ℕ) → (to ≡ row → ⊥) → countedOf row n to ≡ 1
+unfolding countedOf
+counted-new row n to e = rw (ne-eqb to row e)
+
+counted-first : (row to : ℕ) → countedOf row 0 to ≡ 1
+unfolding countedOf
+counted-first row to = go (eqb to row)
+  where
+    go : (b : Bool) → cond b (0 + 1) 1 ≡ 1
+    go true = refl
+    go false = refl
+
+counted-same : (row n : ℕ) → countedOf row n row ≡ n + 1
+unfolding countedOf
+counted-same row n = rw (eq-eqb row row refl)
+
+-- the count stays within the bytes walked
+pub counted-within : (row n to m j : ℕ) → m ≡ countedOf row n to → n < j → m ≤ j
+unfolding countedOf
+counted-within row n to m j e h = rw e (go (eqb to row))
+  where
+    go : (b : Bool) → cond b (n + 1) 1 ≤ j
+    go true = omega arith
+    go false = omega arith
+
+-- an element of this row or a later one: the rows before its own are filled
+step-by : (d : ℕ) (rs : List Range) (row n to : ℕ) (ks : List ℕ) → to ≡ row + d → inOrderFrom (drop row rs) row n (to ∷ ks) ≡ (filledBy d rs row n && inOrderFrom (drop to rs) to (countedOf row n to) ks)
+unfolding filledBy
+step-by zero rs row n to ks h = let z : to ≡ row = omega arith in rw (z, counted-same) (order-same (drop row rs) row n ks)
+step-by (suc d) rs row n to ks h =
+    let f : to ≡ row → ⊥ = λ e. omega arith in
+    let ih = step-by d rs (suc row) 0 to ks (omega arith) in
+    order-leave rs row row n (to ∷ ks) (run-other row to ks f) (λ x. refl)
+    ∙ rw (ih, counted-new row n to f, counted-first) (sym (and-assoc (allows rs row n) (filledBy d rs (suc row) 0) (inOrderFrom (drop to rs) to 1 ks)))
+
+order-step : (rs : List Range) (row n to : ℕ) (ks : List ℕ) → row ≤ to → inOrderFrom (drop row rs) row n (to ∷ ks) ≡ (filledFrom rs row n to && inOrderFrom (drop to rs) to (countedOf row n to) ks)
+unfolding filledFrom
+order-step rs row n to ks h = step-by (to - row) rs row n to ks (omega arith)
+
+-- no more element: the rows that are left are filled
+end-by : (d : ℕ) (rs : List Range) (row n : ℕ) → length rs ≡ row + d → (d ≡ 0 → n ≡ 0) → inOrderFrom (drop row rs) row n [] ≡ filledBy d rs row n
+unfolding filledBy inOrderFrom
+end-by zero rs row n h f = rw (drop-of-length-le rs {i = row} (omega arith), f refl)
+end-by (suc d) rs row n h f =
+    order-leave rs row row n [] (run-nil row) (λ x. absurd (omega arith)) ∙ ap (λ b. allows rs row n && b) (end-by d rs (suc row) 0 (omega arith) (λ x. refl))
+
+order-end : (rs : List Range) (row n : ℕ) → row < length rs → inOrderFrom (drop row rs) row n [] ≡ filledFrom rs row n (length rs)
+unfolding filledFrom
+order-end rs row n h = end-by (length rs - row) rs row n (omega arith) (λ e. absurd (omega arith))
+
+-- THE WALK: what is left to say of the children ks after those that are walked
+unfoldable pub goesOn : List Range → (Kept → Bool) → ℕ → ℕ → List Kept → Bool
+goesOn rs f row n ks = inOrderFrom (drop row rs) row n (rowsOf ks) && all f ks
+
+-- a way out of the code at a time
+module _ (rs : List Range) (f : Kept → Bool) (row n : ℕ) (ks : List Kept) where
+  pub goes-end : ks ≡ [] → row < length rs → goesOn rs f row n ks ≡ filledFrom rs row n (length rs)
+  unfolding goesOn rowsOf all
+  goes-end e h = rw (e, order-end rs row n h) (and-true (filledFrom rs row n (length rs)))
+
+  module _ (k : Kept) (t : List Kept) (e : ks ≡ k ∷ t) where
+    pub goes-back : k .row < row → goesOn rs f row n ks ≡ false
+    unfolding goesOn rowsOf
+    goes-back h = rw (e, order-back (drop row rs) row n (k .row) (rowsOf t) h)
+
+    pub goes-other : f k ≡ false → goesOn rs f row n ks ≡ false
+    unfolding goesOn all
+    goes-other x = rw (e, x) (and-false (inOrderFrom (drop row rs) row n (rowsOf (k ∷ t))))
+
+    module _ (h : row ≤ k .row) where
+      pub goes-short : filledFrom rs row n (k .row) ≡ false → goesOn rs f row n ks ≡ false
+      unfolding goesOn rowsOf
+      goes-short g = rw (e, order-step rs row n (k .row) (rowsOf t) h, g)
+
+      pub goes-on : filledFrom rs row n (k .row) ≡ true → (m : ℕ) → m ≡ countedOf row n (k .row) → f k ≡ true → goesOn rs f row n ks ≡ goesOn rs f (k .row) m t
+      unfolding goesOn rowsOf all
+      goes-on g m c x = rw (e, order-step rs row n (k .row) (rowsOf t) h, g, x, c)
+
+-- ONE LEVEL
+-- what the level below says of a parent's content
+abbrev pub deeper : ℕ → List ℕ → Parent → ℕ → Bool
+deeper d s = λ q a. fitsAt (d - 1) q s a
+
+pub fits-none : (p : Parent) (s : List ℕ) (at : ℕ) → fitsAt 0 p s at ≡ false
+unfolding fitsAt
+fits-none p s at = refl
+
+pub fits-level : (d : ℕ) (p : Parent) (s : List ℕ) (at : ℕ) → (d ≡ 0 → ⊥) → fitsAt d p s at ≡ goesOn (ranges (table p)) (keptHolds (deeper d s) s) 0 0 (keptFrom p s (whiteAt s at))
+unfolding fitsAt fitBy goesOn
+fits-level zero p s at f = absurd (f refl)
+fits-level (suc d) p s at f =
+    let z : d ≡ suc d - 1 = omega arith in
+    ap (λ (x : ℕ). inOrder (ranges (table p)) 0 (rowsOf (keptFrom p s (whiteAt s at))) && all (keptHolds (λ q a. fitsAt x q s a) s) (keptFrom p s (whiteAt s at))) z
+    ∙ rw (order-start (ranges (table p)) 0 (rowsOf (keptFrom p s (whiteAt s at))))
+
+-- TEXT
+module _ (s : List ℕ) (at : ℕ) where
+  pub text-none : childAt s (whiteAt s at) ≡ End → textOnly s at ≡ true
+  unfolding textOnly
+  text-none e = rw (children-end s (whiteAt s at) e)
+
+  pub text-some : (c : Child) → childAt s (whiteAt s at) ≡ One c → textOnly s at ≡ false
+  unfolding textOnly
+  text-some c e = rw (children-one s (whiteAt s at) c e)

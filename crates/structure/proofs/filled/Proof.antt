@@ -1,0 +1,70 @@
+use mathlib.Core.Path.{_≡_, refl, sym, _∙_}
+use Prim.Native.Nat.{_-_}
+use native.Mathlib.Omega.{arith}
+use borrow.Author.Needs.{needs}
+use borrow.Author.Tests.{not-true, not-false}
+use Rattle.children.specs.Table.{table}
+use Rattle.structure.specs.Structure.{ranges}
+use Rattle.structure.specs.Walk.{filledFrom}
+use Rattle.structure.proofs.Walk.{filled-end, filled-not, filled-more}
+use Rattle.structure.proofs.filled.Statement.{statement}
+use Rattle.structure.proofs.filled.Tie as tie
+
+abbrev Inv-loop : tie.InvT-loop
+Inv-loop parent row n to i₀ m₀ i m = filledFrom (ranges (table parent)) row n to ≡ filledFrom (ranges (table parent)) i m to
+
+abbrev μ-loop : tie.MeasureT-loop
+μ-loop parent row n to i₀ m₀ i m = to - i
+
+loop-holds : tie.Need-loop-holds Inv-loop μ-loop
+loop-holds c = refl
+
+allowed-requires : tie.Need-allowed-requires Inv-loop μ-loop
+allowed-requires c κs = search needs
+
+returns : tie.Need-returns Inv-loop μ-loop
+returns c =
+    let rs = ranges (table (c .before .before .before .before .args .parent)) in
+    let i = c .before .before .before .loop .i in
+    let m = c .before .before .before .loop .m in
+    let to = c .before .before .before .before .args .to in
+    let inv = c .before .before .before .loop .inv in
+    sym (inv ∙ filled-not rs i m to (c .before .before .loop-test .taken) (sym (c .before .allowed .ensures) ∙ not-true _ (c .if1 .taken)))
+
+add-i : tie.Need-add-i Inv-loop μ-loop
+add-i c = omega arith
+
+loop-less : tie.Need-loop-less Inv-loop μ-loop
+loop-less c = omega arith
+
+loop-again : tie.Need-loop-again Inv-loop μ-loop
+loop-again c =
+    let rs = ranges (table (c .before .before .before .before .args .parent)) in
+    let i = c .before .before .before .loop .i in
+    let m = c .before .before .before .loop .m in
+    let to = c .before .before .before .before .args .to in
+    let inv = c .before .before .before .loop .inv in
+    inv ∙ filled-more rs i m to (c .before .before .loop-test .taken) (sym (c .before .allowed .ensures) ∙ not-false _ (c .if1 .left))
+
+returns-2 : tie.Need-returns-2 Inv-loop μ-loop
+returns-2 c =
+    let rs = ranges (table (c .before .before .args .parent)) in
+    let i = c .before .loop .i in
+    let m = c .before .loop .m in
+    let to = c .before .before .args .to in
+    let inv = c .before .loop .inv in
+    sym (inv ∙ filled-end rs i m to (c .loop-test .left))
+
+pub filled-spec : {M : Type 1} → statement M
+filled-spec =
+    tie.close
+    (tie.spec
+    Inv-loop
+    μ-loop
+    loop-holds
+    allowed-requires
+    returns
+    add-i
+    loop-less
+    loop-again
+    returns-2)

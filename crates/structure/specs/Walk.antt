@@ -1,0 +1,24 @@
+-- How the walk over a level's named children counts: names for the contracts of the code's inner functions. What the walk answers is said in Structure.
+use Prim.Native.Nat.{ℕ, zero, suc, _+_, _-_}
+use mathlib.Core.List.{List, [], _∷_}
+use mathlib.Core.Bool.{Bool, true, cond, _&&_}
+use lib.Dec.{eqb}
+use Rattle.structure.specs.Structure.{Range, allows}
+
+-- the rows of a table: one element in each of the first, 1 to `most` in row `last`
+abbrev pub upTo : ℕ → ℕ → List Range
+upTo zero most = record { least = 1; most = most } ∷ []
+upTo (suc last) most = record { least = 1; most = 1 } ∷ upTo last most
+
+-- d rows from `row` on, n elements of the first and none of the others counted, take what they have
+unfoldable pub filledBy : ℕ → List Range → ℕ → ℕ → Bool
+filledBy zero rs row n = true
+filledBy (suc d) rs row n = allows rs row n && filledBy d rs (suc row) 0
+
+-- the same of the rows from `row` up to `to`
+unfoldable pub filledFrom : List Range → ℕ → ℕ → ℕ → Bool
+filledFrom rs row n to = filledBy (to - row) rs row n
+
+-- how many elements of row `to` are counted with one more, where n of `row` were
+unfoldable pub countedOf : ℕ → ℕ → ℕ → ℕ
+countedOf row n to = cond (eqb to row) (n + 1) 1

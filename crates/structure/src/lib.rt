@@ -1,0 +1,136 @@
+// The structure of a flow: at each level one walk over the named children, their order and number and what each holds.
+use children::Holds;
+use children::Next;
+use children::Parent;
+use children::Step;
+ghost use mathlib.Core.Path.{_≡_};
+ghost use Prim.Native.Nat.{_+_, _≤_, _<_};
+ghost use lib.ListN.{length};
+ghost use Rattle.markup.specs.Noted.{Noted};
+ghost use Rattle.children.specs.Table.{table};
+ghost use Rattle.structure.specs.Structure.{ranges, allows, textOnly, fitsAt};
+ghost use Rattle.structure.specs.Walk.{upTo, filledFrom, countedOf};
+
+// Whether n elements may stand in a row, where one stands in each row before the last and 1 to `most` in that.
+fn row_allows(row: usize, n: usize, last: usize, most: usize) -> bool
+    ensures { λ r. ⌜ r ≡ allows (upTo last most) row n ⌝ }
+{
+    if last < row {
+        return false;
+    }
+    if n < 1 {
+        return false;
+    }
+    if row < last {
+        return n <= 1;
+    }
+    n <= most
+}
+
+// Whether n elements may stand in a row of the parent.
+fn allowed(parent: Parent, row: usize, n: usize) -> bool
+    ensures { λ r. ⌜ r ≡ allows (ranges (table parent)) row n ⌝ }
+{
+    match parent {
+        Parent::FlussoOrdinativi => row_allows(row, n, 5, 64),
+        Parent::Mandato => row_allows(row, n, 4, 8),
+        Parent::Reversale => row_allows(row, n, 4, 8),
+        Parent::InformazioniBeneficiario => row_allows(row, n, 2, 1),
+        Parent::InformazioniVersante => row_allows(row, n, 2, 1),
+        Parent::Beneficiario => row_allows(row, n, 0, 1),
+        Parent::Versante => row_allows(row, n, 0, 1),
+    }
+}
+
+fn rows(parent: Parent) -> usize
+    ensures { λ r. ⌜ r ≡ length (ranges (table parent)) ⌝ }
+{
+    match parent {
+        Parent::FlussoOrdinativi => 6,
+        Parent::Mandato => 5,
+        Parent::Reversale => 5,
+        Parent::InformazioniBeneficiario => 3,
+        Parent::InformazioniVersante => 3,
+        Parent::Beneficiario => 1,
+        Parent::Versante => 1,
+    }
+}
+
+// Whether the rows from `row`, with n elements of it so far, up to `to` have what they take.
+fn filled(parent: Parent, row: usize, n: usize, to: usize) -> bool
+    ensures { λ r. ⌜ r ≡ filledFrom (ranges (table parent)) row n to ⌝ }
+{
+    let mut i = row;
+    let mut m = n;
+    while i < to {
+        if !allowed(parent, i, m) {
+            return false;
+        }
+        i += 1;
+        m = 0;
+    }
+    true
+}
+
+// How many elements of row `to` there are with one more, after n of `row`.
+fn counted(row: usize, n: usize, to: usize) -> usize
+    requires { ⌜ n < 18446744073709551615 ⌝ }
+    ensures { λ r. ⌜ r ≡ countedOf row n to ⌝ }
+{
+    if to == row { n + 1 } else { 1 }
+}
+
+// Whether content holds no element.
+fn text_only(s: &[u8], at: usize, past: &[u16]) -> bool
+    requires { ⌜ (at ≤ length (now s)) × Noted (now s) (now past) ⌝ }
+    ensures { λ r. ⌜ r ≡ textOnly (now (s .entry)) at ⌝ }
+{
+    match children::child_at(s, scan::white_end(s, at), past) {
+        Step::One(_) => false,
+        Step::End => true,
+    }
+}
+
+// Whether the content at a place has the structure of the parent, of at most d levels. Of the children walked, n stand in `row` and none after it.
+pub fn fits(s: &[u8], at: usize, parent: Parent, d: usize, past: &[u16]) -> bool
+    requires { ⌜ (at ≤ length (now s)) × Noted (now s) (now past) ⌝ }
+    ensures { λ r. ⌜ r ≡ fitsAt d parent (now (s .entry)) at ⌝ }
+{
+    if d == 0 {
+        return false;
+    }
+    let mut i = scan::white_end(s, at);
+    let mut row: usize = 0;
+    let mut n: usize = 0;
+    loop {
+        let Next::Named(k) = children::next_named(s, i, parent, past) else {
+            return filled(parent, row, n, rows(parent));
+        };
+        let c = k.child;
+        let h = k.holds;
+        let to = k.row;
+        let from = c.gt + 1;
+        if to < row {
+            return false;
+        }
+        if !filled(parent, row, n, to) {
+            return false;
+        }
+        n = counted(row, n, to);
+        row = to;
+        match h {
+            Holds::Text(_) => {
+                if !text_only(s, from, past) {
+                    return false;
+                }
+                i = c.after;
+            }
+            Holds::Rows(q) => {
+                if !fits(s, from, q, d - 1, past) {
+                    return false;
+                }
+                i = c.after;
+            }
+        }
+    }
+}
