@@ -1,5 +1,5 @@
 -- Real dates (document 01, "The fields", data: a real Gregorian date, years 2000 to 2099).
-use Prim.Native.Nat.{ℕ, _+_, _%_}
+use Prim.Native.Nat.{ℕ, _%_}
 use mathlib.Core.Bool.{Bool, cond, not, _&&_, _||_}
 use lib.Dec.{leb, eqb}
 use Rattle.scan.specs.Bytes.{between}

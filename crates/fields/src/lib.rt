@@ -1,7 +1,7 @@
 // The eleven forms of fields: a field's text in, its value or a refusal out. Codes stay bytes: nothing here turns one into a number.
 use calendar::Date;
 ghost use mathlib.Core.Path.{_≡_};
-ghost use Prim.Native.Nat.{ℕ, _+_, _≤_, _<_};
+ghost use Prim.Native.Nat.{_≤_};
 ghost use lib.ListN.{length, drop};
 ghost use Rattle.scan.specs.Bytes.{all};
 ghost use Rattle.fields.specs.Fields.{judged, isNumber, isDay, isOperation, within, digits, isIdentifying, isOf, codiceAbi, identificativo, codiceEnte, esercizio, tipoOperazione, numero, onDate, dayOf, dataOf, clock, isOn, dataOra, zeroInFront, importo, progressivo, refTail, replacedLength, anagrafica, fieldStands, operationNumber};
