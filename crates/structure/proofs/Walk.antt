@@ -8,7 +8,7 @@ use native.Mathlib.Numerals.{add-one}
 use native.Mathlib.Omega.{arith}
 use lib.ListN.{length, drop, drop-of-length-le}
 use lib.Dec.{eqb, leb}
-use borrow.Author.Tests.{eq-eqb, ne-eqb, le-leb, lt-leb}
+use borrow.Author.Tests.{eq-eqb, ne-eqb, le-leb, lt-leb, leb-true, leb-false}
 use Rattle.scan.specs.Bytes.{run}
 use Rattle.tokens.specs.Tokens.{whiteAt}
 use Rattle.children.specs.declared.Child.{Child}
@@ -58,18 +58,22 @@ some-row Versante = omega arith
 
 -- filledFrom, a row at a time
 module _ (rs : List Range) (i m to : ℕ) where
-  pub filled-end : to ≤ i → filledFrom rs i m to ≡ true
+  pub filled-back : to < i → filledFrom rs i m to ≡ false
+  unfolding filledFrom
+  filled-back h = rw (lt-leb i to h)
+
+  pub filled-end : i ≤ to → to ≤ i → filledFrom rs i m to ≡ true
   unfolding filledFrom filledBy
-  filled-end h = let z : to - i ≡ 0 = omega arith in rw z
+  filled-end h k = let z : to - i ≡ 0 = omega arith in rw (le-leb i to h, z)
 
   module _ (h : i < to) where
     pub filled-not : allows rs i m ≡ false → filledFrom rs i m to ≡ false
     unfolding filledFrom filledBy
-    filled-not e = let z : to - i ≡ suc (to - (i + 1)) = omega arith in rw (z, e)
+    filled-not e = let z : to - i ≡ suc (to - (i + 1)) = omega arith in rw (z, e) (and-false (leb i to))
 
     pub filled-more : allows rs i m ≡ true → filledFrom rs i m to ≡ filledFrom rs (i + 1) 0 to
     unfolding filledFrom filledBy
-    filled-more e = let z : to - i ≡ suc (to - (i + 1)) = omega arith in rw (z, e, add-one)
+    filled-more e = let z : to - i ≡ suc (to - (i + 1)) = omega arith in rw (z, e, le-leb i to (omega arith), le-leb (i + 1) to (omega arith), add-one)
 
 -- ORDER AND NUMBER, while the children are walked: n elements of row j, the first of rs, are counted already
 unfoldable pub inOrderFrom : List Range → ℕ → ℕ → List ℕ → Bool
@@ -149,9 +153,13 @@ step-by (suc d) rs row n to ks h =
     order-leave rs row row n (to ∷ ks) (run-other row to ks f) (λ x. refl)
     ∙ rw (ih, counted-new row n to f, counted-first) (sym (and-assoc (allows rs row n) (filledBy d rs (suc row) 0) (inOrderFrom (drop to rs) to 1 ks)))
 
-order-step : (rs : List Range) (row n to : ℕ) (ks : List ℕ) → row ≤ to → inOrderFrom (drop row rs) row n (to ∷ ks) ≡ (filledFrom rs row n to && inOrderFrom (drop to rs) to (countedOf row n to) ks)
+order-step : (rs : List Range) (row n to : ℕ) (ks : List ℕ) → inOrderFrom (drop row rs) row n (to ∷ ks) ≡ (filledFrom rs row n to && inOrderFrom (drop to rs) to (countedOf row n to) ks)
 unfolding filledFrom
-order-step rs row n to ks h = step-by (to - row) rs row n to ks (omega arith)
+order-step rs row n to ks = go (leb row to) refl
+  where
+    go : (b : Bool) → leb row to ≡ b → inOrderFrom (drop row rs) row n (to ∷ ks) ≡ ((b && filledBy (to - row) rs row n) && inOrderFrom (drop to rs) to (countedOf row n to) ks)
+    go true e = let h = leb-true row to e in step-by (to - row) rs row n to ks (omega arith)
+    go false e = let h = leb-false row to e in order-back (drop row rs) row n to ks (omega arith)
 
 -- no more element: the rows that are left are filled
 end-by : (d : ℕ) (rs : List Range) (row n : ℕ) → length rs ≡ row + d → (d ≡ 0 → n ≡ 0) → inOrderFrom (drop row rs) row n [] ≡ filledBy d rs row n
@@ -162,7 +170,7 @@ end-by (suc d) rs row n h f =
 
 order-end : (rs : List Range) (row n : ℕ) → row < length rs → inOrderFrom (drop row rs) row n [] ≡ filledFrom rs row n (length rs)
 unfolding filledFrom
-order-end rs row n h = end-by (length rs - row) rs row n (omega arith) (λ e. absurd (omega arith))
+order-end rs row n h = rw (le-leb row (length rs) (omega arith)) (end-by (length rs - row) rs row n (omega arith) (λ e. absurd (omega arith)))
 
 -- THE WALK: what is left to say of the children ks after those that are walked
 unfoldable pub goesOn : List Range → (Kept → Bool) → ℕ → ℕ → List Kept → Bool
@@ -175,22 +183,17 @@ module _ (rs : List Range) (f : Kept → Bool) (row n : ℕ) (ks : List Kept) wh
   goes-end e h = rw (e, order-end rs row n h) (and-true (filledFrom rs row n (length rs)))
 
   module _ (k : Kept) (t : List Kept) (e : ks ≡ k ∷ t) where
-    pub goes-back : k .row < row → goesOn rs f row n ks ≡ false
+    pub goes-short : filledFrom rs row n (k .row) ≡ false → goesOn rs f row n ks ≡ false
     unfolding goesOn rowsOf
-    goes-back h = rw (e, order-back (drop row rs) row n (k .row) (rowsOf t) h)
+    goes-short g = rw (e, order-step rs row n (k .row) (rowsOf t), g)
 
     pub goes-other : f k ≡ false → goesOn rs f row n ks ≡ false
     unfolding goesOn all
     goes-other x = rw (e, x) (and-false (inOrderFrom (drop row rs) row n (rowsOf (k ∷ t))))
 
-    module _ (h : row ≤ k .row) where
-      pub goes-short : filledFrom rs row n (k .row) ≡ false → goesOn rs f row n ks ≡ false
-      unfolding goesOn rowsOf
-      goes-short g = rw (e, order-step rs row n (k .row) (rowsOf t) h, g)
-
-      pub goes-on : filledFrom rs row n (k .row) ≡ true → (m : ℕ) → m ≡ countedOf row n (k .row) → f k ≡ true → goesOn rs f row n ks ≡ goesOn rs f (k .row) m t
-      unfolding goesOn rowsOf all
-      goes-on g m c x = rw (e, order-step rs row n (k .row) (rowsOf t) h, g, x, c)
+    pub goes-on : filledFrom rs row n (k .row) ≡ true → (m : ℕ) → m ≡ countedOf row n (k .row) → f k ≡ true → goesOn rs f row n ks ≡ goesOn rs f (k .row) m t
+    unfolding goesOn rowsOf all
+    goes-on g m c x = rw (e, order-step rs row n (k .row) (rowsOf t), g, x, c)
 
 -- ONE LEVEL
 -- what the level below says of a parent's content

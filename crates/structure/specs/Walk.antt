@@ -2,7 +2,7 @@
 use Prim.Native.Nat.{ℕ, zero, suc, _+_, _-_}
 use mathlib.Core.List.{List, [], _∷_}
 use mathlib.Core.Bool.{Bool, true, cond, _&&_}
-use lib.Dec.{eqb}
+use lib.Dec.{eqb, leb}
 use Rattle.structure.specs.Structure.{Range, allows}
 
 -- the rows of a table: one element in each of the first, 1 to `most` in row `last`
@@ -15,9 +15,9 @@ unfoldable pub filledBy : ℕ → List Range → ℕ → ℕ → Bool
 filledBy zero rs row n = true
 filledBy (suc d) rs row n = allows rs row n && filledBy d rs (suc row) 0
 
--- the same of the rows from `row` up to `to`
+-- the same of the rows from `row` up to `to`, which is no earlier row
 unfoldable pub filledFrom : List Range → ℕ → ℕ → ℕ → Bool
-filledFrom rs row n to = filledBy (to - row) rs row n
+filledFrom rs row n to = leb row to && filledBy (to - row) rs row n
 
 -- how many elements of row `to` are counted with one more, where n of `row` were
 unfoldable pub countedOf : ℕ → ℕ → ℕ → ℕ

@@ -56,10 +56,13 @@ fn rows(parent: Parent) -> usize
     }
 }
 
-// Whether the rows from `row`, with n elements of it so far, up to `to` have what they take.
+// Whether `to` is no earlier row than `row`, and the rows from that, with n elements so far, up to `to` have what they take.
 fn filled(parent: Parent, row: usize, n: usize, to: usize) -> bool
     ensures { λ r. ⌜ r ≡ filledFrom (ranges (table parent)) row n to ⌝ }
 {
+    if to < row {
+        return false;
+    }
     let mut i = row;
     let mut m = n;
     while i < to {
@@ -110,9 +113,6 @@ pub fn fits(s: &[u8], at: usize, parent: Parent, d: usize, past: &[u16]) -> bool
         let h = k.holds;
         let to = k.row;
         let from = c.gt + 1;
-        if to < row {
-            return false;
-        }
         if !filled(parent, row, n, to) {
             return false;
         }

@@ -14,7 +14,7 @@ use Rattle.children.proofs.Laws.{next-at, next-done}
 use Rattle.structure.specs.Structure.{ranges, keptHolds, fitsAt}
 use Rattle.structure.specs.Walk.{filledFrom}
 use Rattle.structure.proofs.Laws.{kept-row, holds-text, holds-rows}
-use Rattle.structure.proofs.Walk.{counted-within, some-row, deeper, fits-none, fits-level, goesOn, goes-end, goes-back, goes-short, goes-other, goes-on}
+use Rattle.structure.proofs.Walk.{counted-within, some-row, deeper, fits-none, fits-level, goesOn, goes-end, goes-short, goes-other, goes-on}
 use Prim.Native.Nat.{ℕ, _<_}
 use borrow.Fn.Kinds.{In}
 use borrow.Fn.PlainCycle.{Measures, is, falls, and}
@@ -102,63 +102,114 @@ fits-add-from t c =
     let l = a .lies in
     omega arith
 
-fits-returns-3 : (t : ℕ) → fits-lts.Need-returns-3 (fits-calls t) (fits-at t) fits.Post fits-Inv-loop fits-μ-loop
-fits-returns-3 t c =
-    let s = c .before .before .before .before .before .before .before .before .before .before .before .before .args .s .now in
-    let p = c .before .before .before .before .before .before .before .before .before .before .before .before .args .parent in
-    let i = c .before .before .before .before .before .before .before .loop .i in
-    let k = c .before .before .before .before .k .given .0 .0 in
-    let e : nextOf (keptFrom p s i) ≡ Named k = sym (c .before .before .before .before .before .before .next-named .ensures) ∙ c .before .before .before .before .k .given .1 in
-    let a = next-at p s i k e in
-    let l = a .lies in
-    let d = c .before .before .before .before .before .before .before .before .before .before .before .before .args .d in
-    let row = c .before .before .before .before .before .before .before .loop .row in
-    let n = c .before .before .before .before .before .before .before .loop .n in
-    let inv = c .before .before .before .before .before .before .before .loop .inv .3 in
-    let rs = ranges (table p) in
-    let f = keptHolds (deeper d s) s in
-    let ks = keptFrom p s i in
-    let u = keptFrom p s (k .child .after) in
-    sym (inv ∙ goes-back rs f row n ks k u (a .rest) (c .if2 .taken))
-
 fits-filled-requires-2 : (t : ℕ) → fits-lts.Need-filled-requires-2 (fits-calls t) (fits-at t) fits.Post fits-Inv-loop fits-μ-loop
 fits-filled-requires-2 t c κs = search needs
 
-fits-returns-4 : (t : ℕ) → fits-lts.Need-returns-4 (fits-calls t) (fits-at t) fits.Post fits-Inv-loop fits-μ-loop
-fits-returns-4 t c =
-    let s = c .before .before .before .before .before .before .before .before .before .before .before .before .before .before .args .s .now in
-    let p = c .before .before .before .before .before .before .before .before .before .before .before .before .before .before .args .parent in
-    let i = c .before .before .before .before .before .before .before .before .before .loop .i in
-    let k = c .before .before .before .before .before .before .k .given .0 .0 in
-    let e : nextOf (keptFrom p s i) ≡ Named k = sym (c .before .before .before .before .before .before .before .before .next-named .ensures) ∙ c .before .before .before .before .before .before .k .given .1 in
+fits-returns-3 : (t : ℕ) → fits-lts.Need-returns-3 (fits-calls t) (fits-at t) fits.Post fits-Inv-loop fits-μ-loop
+fits-returns-3 t c =
+    let s = c .before .before .before .before .before .before .before .before .before .before .before .before .before .args .s .now in
+    let p = c .before .before .before .before .before .before .before .before .before .before .before .before .before .args .parent in
+    let i = c .before .before .before .before .before .before .before .before .loop .i in
+    let k = c .before .before .before .before .before .k .given .0 .0 in
+    let e : nextOf (keptFrom p s i) ≡ Named k = sym (c .before .before .before .before .before .before .before .next-named .ensures) ∙ c .before .before .before .before .before .k .given .1 in
     let a = next-at p s i k e in
     let l = a .lies in
-    let d = c .before .before .before .before .before .before .before .before .before .before .before .before .before .before .args .d in
-    let row = c .before .before .before .before .before .before .before .before .before .loop .row in
-    let n = c .before .before .before .before .before .before .before .before .before .loop .n in
-    let inv = c .before .before .before .before .before .before .before .before .before .loop .inv .3 in
+    let d = c .before .before .before .before .before .before .before .before .before .before .before .before .before .args .d in
+    let row = c .before .before .before .before .before .before .before .before .loop .row in
+    let n = c .before .before .before .before .before .before .before .before .loop .n in
+    let inv = c .before .before .before .before .before .before .before .before .loop .inv .3 in
     let rs = ranges (table p) in
     let f = keptHolds (deeper d s) s in
     let ks = keptFrom p s i in
     let u = keptFrom p s (k .child .after) in
-    sym (inv ∙ goes-short rs f row n ks k u (a .rest) (c .before .before .if2 .left) (sym (c .before .filled2 .ensures) ∙ not-true _ (c .if3 .taken)))
+    sym (inv ∙ goes-short rs f row n ks k u (a .rest) (sym (c .before .filled2 .ensures) ∙ not-true _ (c .if2 .taken)))
 
 fits-counted-requires : (t : ℕ) → fits-lts.Need-counted-requires (fits-calls t) (fits-at t) fits.Post fits-Inv-loop fits-μ-loop
 fits-counted-requires t c κs =
-    let s = c .before .before .before .before .before .before .before .before .before .before .before .before .before .before .args .s .now in
-    let p = c .before .before .before .before .before .before .before .before .before .before .before .before .before .before .args .parent in
-    let i = c .before .before .before .before .before .before .before .before .before .loop .i in
-    let k = c .before .before .before .before .before .before .k .given .0 .0 in
-    let e : nextOf (keptFrom p s i) ≡ Named k = sym (c .before .before .before .before .before .before .before .before .next-named .ensures) ∙ c .before .before .before .before .before .before .k .given .1 in
+    let s = c .before .before .before .before .before .before .before .before .before .before .before .before .before .args .s .now in
+    let p = c .before .before .before .before .before .before .before .before .before .before .before .before .before .args .parent in
+    let i = c .before .before .before .before .before .before .before .before .loop .i in
+    let k = c .before .before .before .before .before .k .given .0 .0 in
+    let e : nextOf (keptFrom p s i) ≡ Named k = sym (c .before .before .before .before .before .before .before .next-named .ensures) ∙ c .before .before .before .before .before .k .given .1 in
     let a = next-at p s i k e in
     let l = a .lies in
-    omega (arith, c .before .before .before .before .before .before .before .before .before .loop .inv .1)
+    omega (arith, c .before .before .before .before .before .before .before .before .loop .inv .1)
 
 fits-enum-told-2 : (t : ℕ) → fits-lts.Need-enum-told-2 (fits-calls t) (fits-at t) fits.Post fits-Inv-loop fits-μ-loop
 fits-enum-told-2 t c = search needs
 
 fits-text-only-requires : (t : ℕ) → fits-lts.Need-text-only-requires (fits-calls t) (fits-at t) fits.Post fits-Inv-loop fits-μ-loop
 fits-text-only-requires t c κs =
+    let s = c .before .before .before .before .before .before .before .before .before .before .before .before .before .before .before .before .args .s .now in
+    let p = c .before .before .before .before .before .before .before .before .before .before .before .before .before .before .before .before .args .parent in
+    let i = c .before .before .before .before .before .before .before .before .before .before .before .loop .i in
+    let k = c .before .before .before .before .before .before .before .before .k .given .0 .0 in
+    let e : nextOf (keptFrom p s i) ≡ Named k = sym (c .before .before .before .before .before .before .before .before .before .before .next-named .ensures) ∙ c .before .before .before .before .before .before .before .before .k .given .1 in
+    let a = next-at p s i k e in
+    let l = a .lies in
+    (omega arith, c .before .before .before .before .before .before .before .before .before .before .before .before .before .before .before .before .pre .1 .1)
+
+fits-returns-4 : (t : ℕ) → fits-lts.Need-returns-4 (fits-calls t) (fits-at t) fits.Post fits-Inv-loop fits-μ-loop
+fits-returns-4 t c =
+    let s = c .before .before .before .before .before .before .before .before .before .before .before .before .before .before .before .before .before .before .args .s .now in
+    let p = c .before .before .before .before .before .before .before .before .before .before .before .before .before .before .before .before .before .before .args .parent in
+    let i = c .before .before .before .before .before .before .before .before .before .before .before .before .before .loop .i in
+    let k = c .before .before .before .before .before .before .before .before .before .before .k .given .0 .0 in
+    let e : nextOf (keptFrom p s i) ≡ Named k = sym (c .before .before .before .before .before .before .before .before .before .before .before .before .next-named .ensures) ∙ c .before .before .before .before .before .before .before .before .before .before .k .given .1 in
+    let a = next-at p s i k e in
+    let l = a .lies in
+    let d = c .before .before .before .before .before .before .before .before .before .before .before .before .before .before .before .before .before .before .args .d in
+    let row = c .before .before .before .before .before .before .before .before .before .before .before .before .before .loop .row in
+    let n = c .before .before .before .before .before .before .before .before .before .before .before .before .before .loop .n in
+    let inv = c .before .before .before .before .before .before .before .before .before .before .before .before .before .loop .inv .3 in
+    let rs = ranges (table p) in
+    let f = keptHolds (deeper d s) s in
+    let ks = keptFrom p s i in
+    let u = keptFrom p s (k .child .after) in
+    let o = holds-text (deeper d s) s k (c .before .before .enum-told2 .given .0 .0) (c .before .before .enum-told2 .given .1) in
+    sym (inv ∙ goes-other rs f row n ks k u (a .rest) (o ∙ (sym (c .before .text-only .ensures) ∙ not-true _ (c .if3 .taken))))
+
+fits-loop-less : (t : ℕ) → fits-lts.Need-loop-less (fits-calls t) (fits-at t) fits.Post fits-Inv-loop fits-μ-loop
+fits-loop-less t c =
+    let s = c .before .before .before .before .before .before .before .before .before .before .before .before .before .before .before .before .before .before .args .s .now in
+    let p = c .before .before .before .before .before .before .before .before .before .before .before .before .before .before .before .before .before .before .args .parent in
+    let i = c .before .before .before .before .before .before .before .before .before .before .before .before .before .loop .i in
+    let k = c .before .before .before .before .before .before .before .before .before .before .k .given .0 .0 in
+    let e : nextOf (keptFrom p s i) ≡ Named k = sym (c .before .before .before .before .before .before .before .before .before .before .before .before .next-named .ensures) ∙ c .before .before .before .before .before .before .before .before .before .before .k .given .1 in
+    let a = next-at p s i k e in
+    let l = a .lies in
+    omega arith
+
+fits-loop-again : (t : ℕ) → fits-lts.Need-loop-again (fits-calls t) (fits-at t) fits.Post fits-Inv-loop fits-μ-loop
+fits-loop-again t c =
+    let s = c .before .before .before .before .before .before .before .before .before .before .before .before .before .before .before .before .before .before .args .s .now in
+    let p = c .before .before .before .before .before .before .before .before .before .before .before .before .before .before .before .before .before .before .args .parent in
+    let i = c .before .before .before .before .before .before .before .before .before .before .before .before .before .loop .i in
+    let k = c .before .before .before .before .before .before .before .before .before .before .k .given .0 .0 in
+    let e : nextOf (keptFrom p s i) ≡ Named k = sym (c .before .before .before .before .before .before .before .before .before .before .before .before .next-named .ensures) ∙ c .before .before .before .before .before .before .before .before .before .before .k .given .1 in
+    let a = next-at p s i k e in
+    let l = a .lies in
+    let d = c .before .before .before .before .before .before .before .before .before .before .before .before .before .before .before .before .before .before .args .d in
+    let row = c .before .before .before .before .before .before .before .before .before .before .before .before .before .loop .row in
+    let n = c .before .before .before .before .before .before .before .before .before .before .before .before .before .loop .n in
+    let inv = c .before .before .before .before .before .before .before .before .before .before .before .before .before .loop .inv .3 in
+    let rs = ranges (table p) in
+    let f = keptHolds (deeper d s) s in
+    let ks = keptFrom p s i in
+    let u = keptFrom p s (k .child .after) in
+    let o = holds-text (deeper d s) s k (c .before .before .enum-told2 .given .0 .0) (c .before .before .enum-told2 .given .1) in
+    let g : filledFrom rs row n (k .row) ≡ true = sym (c .before .before .before .before .before .before .filled2 .ensures) ∙ not-false _ (c .before .before .before .before .before .if2 .left) in
+    let x : f k ≡ true = o ∙ (sym (c .before .text-only .ensures) ∙ not-false _ (c .if3 .left)) in
+    (l .within, counted-within row n (k .row) (c .before .before .before .before .counted .result) (k .child .after) (c .before .before .before .before .counted .ensures) (omega (arith, c .before .before .before .before .before .before .before .before .before .before .before .before .before .loop .inv .1)), kept-row p s i k u (a .rest), inv ∙ goes-on rs f row n ks k u (a .rest) g (c .before .before .before .before .counted .result) (c .before .before .before .before .counted .ensures) x)
+
+fits-enum-known-h : (t : ℕ) → fits-lts.Need-enum-known-h (fits-calls t) (fits-at t) fits.Post fits-Inv-loop fits-μ-loop
+fits-enum-known-h t c = search needs
+
+fits-sub-fits : (t : ℕ) → fits-lts.Need-sub-fits (fits-calls t) (fits-at t) fits.Post fits-Inv-loop fits-μ-loop
+fits-sub-fits t c = omega (arith, c .before .before .before .before .before .before .before .before .before .before .before .before .before .before .if1 .left)
+
+fits-fits-requires : (t : ℕ) → fits-lts.Need-fits-requires (fits-calls t) (fits-at t) fits.Post fits-Inv-loop fits-μ-loop
+fits-fits-requires t c κs =
     let s = c .before .before .before .before .before .before .before .before .before .before .before .before .before .before .before .before .before .args .s .now in
     let p = c .before .before .before .before .before .before .before .before .before .before .before .before .before .before .before .before .before .args .parent in
     let i = c .before .before .before .before .before .before .before .before .before .before .before .before .loop .i in
@@ -166,7 +217,7 @@ fits-text-only-requires t c κs =
     let e : nextOf (keptFrom p s i) ≡ Named k = sym (c .before .before .before .before .before .before .before .before .before .before .before .next-named .ensures) ∙ c .before .before .before .before .before .before .before .before .before .k .given .1 in
     let a = next-at p s i k e in
     let l = a .lies in
-    (omega arith, c .before .before .before .before .before .before .before .before .before .before .before .before .before .before .before .before .before .pre .1 .1)
+    (omega (arith, c .before .before .before .before .before .before .before .before .before .before .before .before .before .before .if1 .left), (omega arith, c .before .before .before .before .before .before .before .before .before .before .before .before .before .before .before .before .before .pre .1 .1))
 
 fits-returns-5 : (t : ℕ) → fits-lts.Need-returns-5 (fits-calls t) (fits-at t) fits.Post fits-Inv-loop fits-μ-loop
 fits-returns-5 t c =
@@ -185,11 +236,11 @@ fits-returns-5 t c =
     let f = keptHolds (deeper d s) s in
     let ks = keptFrom p s i in
     let u = keptFrom p s (k .child .after) in
-    let o = holds-text (deeper d s) s k (c .before .before .enum-told2 .given .0 .0) (c .before .before .enum-told2 .given .1) in
-    sym (inv ∙ goes-other rs f row n ks k u (a .rest) (o ∙ (sym (c .before .text-only .ensures) ∙ not-true _ (c .if4 .taken))))
+    let o = holds-rows (deeper d s) s k (c .before .before .before .h .given .0 .0) (c .before .before .before .h .given .1) in
+    sym (inv ∙ goes-other rs f row n ks k u (a .rest) (o ∙ (sym (c .before .fits2 .ensures) ∙ not-true _ (c .if4 .taken))))
 
-fits-loop-less : (t : ℕ) → fits-lts.Need-loop-less (fits-calls t) (fits-at t) fits.Post fits-Inv-loop fits-μ-loop
-fits-loop-less t c =
+fits-loop-less-2 : (t : ℕ) → fits-lts.Need-loop-less-2 (fits-calls t) (fits-at t) fits.Post fits-Inv-loop fits-μ-loop
+fits-loop-less-2 t c =
     let s = c .before .before .before .before .before .before .before .before .before .before .before .before .before .before .before .before .before .before .before .args .s .now in
     let p = c .before .before .before .before .before .before .before .before .before .before .before .before .before .before .before .before .before .before .before .args .parent in
     let i = c .before .before .before .before .before .before .before .before .before .before .before .before .before .before .loop .i in
@@ -199,8 +250,8 @@ fits-loop-less t c =
     let l = a .lies in
     omega arith
 
-fits-loop-again : (t : ℕ) → fits-lts.Need-loop-again (fits-calls t) (fits-at t) fits.Post fits-Inv-loop fits-μ-loop
-fits-loop-again t c =
+fits-loop-again-2 : (t : ℕ) → fits-lts.Need-loop-again-2 (fits-calls t) (fits-at t) fits.Post fits-Inv-loop fits-μ-loop
+fits-loop-again-2 t c =
     let s = c .before .before .before .before .before .before .before .before .before .before .before .before .before .before .before .before .before .before .before .args .s .now in
     let p = c .before .before .before .before .before .before .before .before .before .before .before .before .before .before .before .before .before .before .before .args .parent in
     let i = c .before .before .before .before .before .before .before .before .before .before .before .before .before .before .loop .i in
@@ -216,80 +267,10 @@ fits-loop-again t c =
     let f = keptHolds (deeper d s) s in
     let ks = keptFrom p s i in
     let u = keptFrom p s (k .child .after) in
-    let o = holds-text (deeper d s) s k (c .before .before .enum-told2 .given .0 .0) (c .before .before .enum-told2 .given .1) in
-    let g : filledFrom rs row n (k .row) ≡ true = sym (c .before .before .before .before .before .before .filled2 .ensures) ∙ not-false _ (c .before .before .before .before .before .if3 .left) in
-    let x : f k ≡ true = o ∙ (sym (c .before .text-only .ensures) ∙ not-false _ (c .if4 .left)) in
-    (l .within, counted-within row n (k .row) (c .before .before .before .before .counted .result) (k .child .after) (c .before .before .before .before .counted .ensures) (omega (arith, c .before .before .before .before .before .before .before .before .before .before .before .before .before .before .loop .inv .1)), kept-row p s i k u (a .rest), inv ∙ goes-on rs f row n ks k u (a .rest) (c .before .before .before .before .before .before .before .if2 .left) g (c .before .before .before .before .counted .result) (c .before .before .before .before .counted .ensures) x)
-
-fits-enum-known-h : (t : ℕ) → fits-lts.Need-enum-known-h (fits-calls t) (fits-at t) fits.Post fits-Inv-loop fits-μ-loop
-fits-enum-known-h t c = search needs
-
-fits-sub-fits : (t : ℕ) → fits-lts.Need-sub-fits (fits-calls t) (fits-at t) fits.Post fits-Inv-loop fits-μ-loop
-fits-sub-fits t c = omega (arith, c .before .before .before .before .before .before .before .before .before .before .before .before .before .before .before .if1 .left)
-
-fits-fits-requires : (t : ℕ) → fits-lts.Need-fits-requires (fits-calls t) (fits-at t) fits.Post fits-Inv-loop fits-μ-loop
-fits-fits-requires t c κs =
-    let s = c .before .before .before .before .before .before .before .before .before .before .before .before .before .before .before .before .before .before .args .s .now in
-    let p = c .before .before .before .before .before .before .before .before .before .before .before .before .before .before .before .before .before .before .args .parent in
-    let i = c .before .before .before .before .before .before .before .before .before .before .before .before .before .loop .i in
-    let k = c .before .before .before .before .before .before .before .before .before .before .k .given .0 .0 in
-    let e : nextOf (keptFrom p s i) ≡ Named k = sym (c .before .before .before .before .before .before .before .before .before .before .before .before .next-named .ensures) ∙ c .before .before .before .before .before .before .before .before .before .before .k .given .1 in
-    let a = next-at p s i k e in
-    let l = a .lies in
-    (omega (arith, c .before .before .before .before .before .before .before .before .before .before .before .before .before .before .before .if1 .left), (omega arith, c .before .before .before .before .before .before .before .before .before .before .before .before .before .before .before .before .before .before .pre .1 .1))
-
-fits-returns-6 : (t : ℕ) → fits-lts.Need-returns-6 (fits-calls t) (fits-at t) fits.Post fits-Inv-loop fits-μ-loop
-fits-returns-6 t c =
-    let s = c .before .before .before .before .before .before .before .before .before .before .before .before .before .before .before .before .before .before .before .before .args .s .now in
-    let p = c .before .before .before .before .before .before .before .before .before .before .before .before .before .before .before .before .before .before .before .before .args .parent in
-    let i = c .before .before .before .before .before .before .before .before .before .before .before .before .before .before .before .loop .i in
-    let k = c .before .before .before .before .before .before .before .before .before .before .before .before .k .given .0 .0 in
-    let e : nextOf (keptFrom p s i) ≡ Named k = sym (c .before .before .before .before .before .before .before .before .before .before .before .before .before .before .next-named .ensures) ∙ c .before .before .before .before .before .before .before .before .before .before .before .before .k .given .1 in
-    let a = next-at p s i k e in
-    let l = a .lies in
-    let d = c .before .before .before .before .before .before .before .before .before .before .before .before .before .before .before .before .before .before .before .before .args .d in
-    let row = c .before .before .before .before .before .before .before .before .before .before .before .before .before .before .before .loop .row in
-    let n = c .before .before .before .before .before .before .before .before .before .before .before .before .before .before .before .loop .n in
-    let inv = c .before .before .before .before .before .before .before .before .before .before .before .before .before .before .before .loop .inv .3 in
-    let rs = ranges (table p) in
-    let f = keptHolds (deeper d s) s in
-    let ks = keptFrom p s i in
-    let u = keptFrom p s (k .child .after) in
     let o = holds-rows (deeper d s) s k (c .before .before .before .h .given .0 .0) (c .before .before .before .h .given .1) in
-    sym (inv ∙ goes-other rs f row n ks k u (a .rest) (o ∙ (sym (c .before .fits2 .ensures) ∙ not-true _ (c .if5 .taken))))
-
-fits-loop-less-2 : (t : ℕ) → fits-lts.Need-loop-less-2 (fits-calls t) (fits-at t) fits.Post fits-Inv-loop fits-μ-loop
-fits-loop-less-2 t c =
-    let s = c .before .before .before .before .before .before .before .before .before .before .before .before .before .before .before .before .before .before .before .before .args .s .now in
-    let p = c .before .before .before .before .before .before .before .before .before .before .before .before .before .before .before .before .before .before .before .before .args .parent in
-    let i = c .before .before .before .before .before .before .before .before .before .before .before .before .before .before .before .loop .i in
-    let k = c .before .before .before .before .before .before .before .before .before .before .before .before .k .given .0 .0 in
-    let e : nextOf (keptFrom p s i) ≡ Named k = sym (c .before .before .before .before .before .before .before .before .before .before .before .before .before .before .next-named .ensures) ∙ c .before .before .before .before .before .before .before .before .before .before .before .before .k .given .1 in
-    let a = next-at p s i k e in
-    let l = a .lies in
-    omega arith
-
-fits-loop-again-2 : (t : ℕ) → fits-lts.Need-loop-again-2 (fits-calls t) (fits-at t) fits.Post fits-Inv-loop fits-μ-loop
-fits-loop-again-2 t c =
-    let s = c .before .before .before .before .before .before .before .before .before .before .before .before .before .before .before .before .before .before .before .before .args .s .now in
-    let p = c .before .before .before .before .before .before .before .before .before .before .before .before .before .before .before .before .before .before .before .before .args .parent in
-    let i = c .before .before .before .before .before .before .before .before .before .before .before .before .before .before .before .loop .i in
-    let k = c .before .before .before .before .before .before .before .before .before .before .before .before .k .given .0 .0 in
-    let e : nextOf (keptFrom p s i) ≡ Named k = sym (c .before .before .before .before .before .before .before .before .before .before .before .before .before .before .next-named .ensures) ∙ c .before .before .before .before .before .before .before .before .before .before .before .before .k .given .1 in
-    let a = next-at p s i k e in
-    let l = a .lies in
-    let d = c .before .before .before .before .before .before .before .before .before .before .before .before .before .before .before .before .before .before .before .before .args .d in
-    let row = c .before .before .before .before .before .before .before .before .before .before .before .before .before .before .before .loop .row in
-    let n = c .before .before .before .before .before .before .before .before .before .before .before .before .before .before .before .loop .n in
-    let inv = c .before .before .before .before .before .before .before .before .before .before .before .before .before .before .before .loop .inv .3 in
-    let rs = ranges (table p) in
-    let f = keptHolds (deeper d s) s in
-    let ks = keptFrom p s i in
-    let u = keptFrom p s (k .child .after) in
-    let o = holds-rows (deeper d s) s k (c .before .before .before .h .given .0 .0) (c .before .before .before .h .given .1) in
-    let g : filledFrom rs row n (k .row) ≡ true = sym (c .before .before .before .before .before .before .before .filled2 .ensures) ∙ not-false _ (c .before .before .before .before .before .before .if3 .left) in
-    let x : f k ≡ true = o ∙ (sym (c .before .fits2 .ensures) ∙ not-false _ (c .if5 .left)) in
-    (l .within, counted-within row n (k .row) (c .before .before .before .before .before .counted .result) (k .child .after) (c .before .before .before .before .before .counted .ensures) (omega (arith, c .before .before .before .before .before .before .before .before .before .before .before .before .before .before .before .loop .inv .1)), kept-row p s i k u (a .rest), inv ∙ goes-on rs f row n ks k u (a .rest) (c .before .before .before .before .before .before .before .before .if2 .left) g (c .before .before .before .before .before .counted .result) (c .before .before .before .before .before .counted .ensures) x)
+    let g : filledFrom rs row n (k .row) ≡ true = sym (c .before .before .before .before .before .before .before .filled2 .ensures) ∙ not-false _ (c .before .before .before .before .before .before .if2 .left) in
+    let x : f k ≡ true = o ∙ (sym (c .before .fits2 .ensures) ∙ not-false _ (c .if4 .left)) in
+    (l .within, counted-within row n (k .row) (c .before .before .before .before .before .counted .result) (k .child .after) (c .before .before .before .before .before .counted .ensures) (omega (arith, c .before .before .before .before .before .before .before .before .before .before .before .before .before .before .loop .inv .1)), kept-row p s i k u (a .rest), inv ∙ goes-on rs f row n ks k u (a .rest) g (c .before .before .before .before .before .counted .result) (c .before .before .before .before .before .counted .ensures) x)
 
 pub +fits-spec : {M : Type 1} → statement M
 +fits-spec = close μ-fits λ t. fits-lts.spec (fits-calls t)
@@ -307,18 +288,17 @@ pub +fits-spec : {M : Type 1} → statement M
     (fits-filled-requires t)
     (fits-returns-2 t)
     (fits-add-from t)
-    (fits-returns-3 t)
     (fits-filled-requires-2 t)
-    (fits-returns-4 t)
+    (fits-returns-3 t)
     (fits-counted-requires t)
     (fits-enum-told-2 t)
     (fits-text-only-requires t)
-    (fits-returns-5 t)
+    (fits-returns-4 t)
     (fits-loop-less t)
     (fits-loop-again t)
     (fits-enum-known-h t)
     (fits-sub-fits t)
     (fits-fits-requires t)
-    (fits-returns-6 t)
+    (fits-returns-5 t)
     (fits-loop-less-2 t)
     (fits-loop-again-2 t)

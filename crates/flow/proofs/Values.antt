@@ -1,0 +1,357 @@
+-- The values of a flow that stands: its header and its orders are within the bounds of their forms.
+use mathlib.Core.Path.{_≡_, refl, sym, ap, _∙_}
+use mathlib.Core.Logic.{_⊎_, ⊎-elim}
+use mathlib.Core.List.{List, [], _∷_, _++_}
+use mathlib.Core.Bool.{Bool, true, false, _&&_}
+use Prim.Native.Nat.{ℕ, zero, suc, _+_, _-_, _≤_, _<_}
+use native.Mathlib.Omega.{arith}
+use lib.ListN.{length, getD, take, drop, replicate, length-append, length-replicate, length-take, List·getD-eq-default}
+use lib.Seq.{getD-take}
+use lib.Dec.{leb}
+use borrow.Author.Tests.{eqb-true, leb-true, leb-false}
+use Rattle.scan.specs.Bytes.{isWhite}
+use Rattle.scan.proofs.Laws.{run-within}
+use Rattle.tokens.specs.Tokens.{whiteAt}
+use Rattle.calendar.specs.Calendar.{isDate}
+use Rattle.fields.specs.declared.Form.{Form}
+use Rattle.fields.specs.declared.Form.the-variants.{CodiceAbi, Identificativo, DataOra, CodiceEnte, Esercizio, TipoOperazione, Numero, Data, Importo, Progressivo}
+use Rattle.fields.specs.declared.Judged.{Judged}
+use Rattle.fields.specs.declared.Judged.the-variants.{Stands, Breaks}
+use Rattle.fields.specs.declared.Number.{Number}
+use Rattle.fields.specs.declared.Number.the-variants.{Value, NoNumber}
+use Rattle.fields.specs.declared.Day.{Day}
+use Rattle.fields.specs.declared.Day.the-variants.{On, NoDay}
+use Rattle.fields.specs.Fields.{judged, isNumber, isDay, codiceAbi, codiceEnte, esercizio, numero, dataOf, importo, fieldStands}
+use Rattle.fields.proofs.Laws.{esercizio-range, numero-range, importo-range, data-real}
+use Rattle.children.specs.declared.Parent.{Parent}
+use Rattle.children.specs.declared.Parent.the-variants.{FlussoOrdinativi, Mandato, Reversale, InformazioniBeneficiario, InformazioniVersante}
+use Rattle.children.specs.declared.Holds.{Holds}
+use Rattle.children.specs.declared.Holds.the-variants.{Text, Rows}
+use Rattle.children.specs.declared.Kept.{Kept}
+use Rattle.children.specs.declared.Next.{Next}
+use Rattle.children.specs.declared.Next.the-variants.{Named, Done}
+use Rattle.children.specs.Table.{table}
+use Rattle.children.specs.Kept.{keptFrom, nextOf}
+use Rattle.children.proofs.Laws.{next-at, next-done}
+use Rattle.structure.specs.Structure.{Range, ranges, all, keptHolds, fitsAt}
+use Rattle.structure.proofs.Laws.{HeldIn, fits-parts, all-next, order-last}
+use Rattle.readings.specs.declared.Bad.{Bad}
+use Rattle.readings.specs.declared.Bad.the-variants.{Place, Nowhere}
+use Rattle.readings.specs.Readings.{textOf, fieldsIn, fieldsBy, fieldsAt, badOr, firstBad}
+use Rattle.readings.proofs.Laws.{orBad, bad-append}
+use Rattle.order.specs.declared.Line.{Line}
+use Rattle.order.specs.declared.Order.{Order}
+use Rattle.orders.specs.Shape.{orderRows, lineRows, Shaped, Filled}
+use Rattle.orders.specs.Orders.{inRow, textIn, valueOf, dateOf, lineOf, linesOf, noLine, eight, linesIn, kindOf, orderBy, orderOf, ordersOf, Header, headerIn, ordersIn}
+use Rattle.orders.proofs.Laws.{one, held-at, row-at, ofRow, in-row-all, found, found-some, shaped-inside, Standing, order-at, orders-end, standing, lines-length}
+use Rattle.flow.specs.Flow.{headerOf, flowOrders}
+use Rattle.flow.proofs.Laws.{Stood}
+
+abbrev pub maxCents : ℕ
+maxCents = 99999999999
+
+-- AN ORDER AND A HEADER WITHIN BOUNDS
+pub record OrderOk (o : Order) : Type 0 where
+  pub kind : (1 ≤ o .kind) × (o .kind ≤ 2)
+  pub number : (1 ≤ o .number) × (o .number ≤ 9999999)
+  pub date : isDate (o .date) ≡ true
+  pub total : o .total ≤ maxCents
+  pub count : (1 ≤ o .lines .count) × (o .lines .count ≤ 8)
+  pub size : length (o .lines .each) ≡ 8
+  pub amounts : (j : ℕ) → getD (o .lines .each) j noLine .amount ≤ maxCents
+  pub beyond : (j : ℕ) → o .lines .count ≤ j → getD (o .lines .each) j noLine ≡ noLine
+
+pub record HeaderOk (h : Header) : Type 0 where
+  pub abi : codiceAbi (h .abi) ≡ true
+  pub ente : codiceEnte (h .ente) ≡ true
+  pub esercizio : (2000 ≤ h .esercizio) × (h .esercizio ≤ 2099)
+
+-- FIELDS THAT STAND have a value
+judged-true : (b : Bool) → judged b ≡ Stands → b ≡ true
+judged-true true e = refl
+judged-true false e = let z : _≡_ {A = ℕ} 0 1 = cc in absurd (omega arith)
+
+number-there : (n : Number) → isNumber n ≡ Stands → n ≡ Value (valueOf n)
+number-there (Value v) e = refl
+number-there NoNumber e = let z : _≡_ {A = ℕ} 0 1 = cc in absurd (omega arith)
+
+day-there : (d : Day) → isDay d ≡ Stands → d ≡ On (dateOf d)
+day-there (On d) e = refl
+day-there NoDay e = let z : _≡_ {A = ℕ} 0 1 = cc in absurd (omega arith)
+
+abbrev isNowhere : Bad → Bool
+isNowhere (Place p) = false
+isNowhere Nowhere = true
+
+-- no field of a named child breaks
+abbrev standsIn : ℕ → List ℕ → Kept → Bool
+standsIn d s k = isNowhere (firstBad (fieldsIn (λ q a. fieldsAt d q s a) s k (k .holds)))
+
+each-stands : (d : ℕ) (s : List ℕ) (ks : List Kept) → firstBad (fieldsBy (λ q a. fieldsAt d q s a) s ks) ≡ Nowhere → all (standsIn d s) ks ≡ true
+unfolding fieldsBy all
+each-stands d s [] e = refl
+each-stands d s (k ∷ ks) e = go (firstBad (fieldsIn (λ q a. fieldsAt d q s a) s k (k .holds))) (sym (bad-append (fieldsIn (λ q a. fieldsAt d q s a) s k (k .holds)) (fieldsBy (λ q a. fieldsAt d q s a) s ks)) ∙ e) (each-stands d s ks)
+  where
+    go : (b : Bad) → orBad b (firstBad (fieldsBy (λ q a. fieldsAt d q s a) s ks)) ≡ Nowhere → (firstBad (fieldsBy (λ q a. fieldsAt d q s a) s ks) ≡ Nowhere → all (standsIn d s) ks ≡ true) → (isNowhere b && all (standsIn d s) ks) ≡ true
+    go (Place p) e ih = let z : _≡_ {A = ℕ} 0 1 = cc in absurd (omega arith)
+    go Nowhere e ih = ih e
+
+nowhere : (b : Bad) → isNowhere b ≡ true → b ≡ Nowhere
+nowhere (Place p) e = let z : _≡_ {A = ℕ} 0 1 = cc in absurd (omega arith)
+nowhere Nowhere e = refl
+
+-- a field's own
+text-stands : (d : ℕ) (s : List ℕ) (k : Kept) (f : Form) → k .holds ≡ Text f → standsIn d s k ≡ true → fieldStands f (textOf s k) ≡ Stands
+unfolding firstBad
+text-stands d s k f h e = go (fieldStands f (textOf s k)) (rw h at e)
+  where
+    go : (j : Judged) → isNowhere (badOr (k .child .lt) Nowhere j) ≡ true → j ≡ Stands
+    go Stands e = refl
+    go Breaks e = let z : _≡_ {A = ℕ} 0 1 = cc in absurd (omega arith)
+
+-- ROWS IN ORDER whose fields stand
+record Well (rs : List Range) (d : ℕ) (p : Parent) (s : List ℕ) (n i : ℕ) : Type 0 where
+  filled : Filled rs d p s n i
+  fields : all (standsIn d s) (keptFrom p s i) ≡ true
+
+-- the field of a row that takes one
+record Field-at (f : Form) (rs : List Range) (d : ℕ) (p : Parent) (s : List ℕ) (n i j : ℕ) : Type 0 where
+  stands : fieldStands f (textIn n s (keptFrom p s i)) ≡ Stands
+  on : Well rs d p s (suc n) j
+  later : (m : ℕ) → n < m → inRow m (keptFrom p s i) ≡ inRow m (keptFrom p s j)
+  texts : (m : ℕ) → n < m → textIn m s (keptFrom p s i) ≡ textIn m s (keptFrom p s j)
+
+-- what the table says of a row: elements of one name, that hold a text
+abbrev IsText : Parent → ℕ → Form → Type 0
+IsText p n f = (h : Holds) → HeldIn (table p) n h → h ≡ Text f
+
+only : {g : Holds} (h : Holds) → (g ≡ h) ⊎ ⊥ → h ≡ g
+only h w = ⊎-elim sym (λ e. absurd e) w
+
+field-at : {rs : List Range} (d : ℕ) (p : Parent) (s : List ℕ) (n i : ℕ) (f : Form) → IsText p n f → Well (one ∷ rs) d p s n i → (j : ℕ) × Field-at f rs d p s n i j
+field-at {rs} d p s n i f t w = go (nextOf (keptFrom p s i)) refl
+  where
+    go : (x : Next) → nextOf (keptFrom p s i) ≡ x → (j : ℕ) × Field-at f rs d p s n i j
+    go Done e = absurd (found-some d p s n i (w .filled) e)
+    go (Named k) e =
+        let o = found d p s n i (w .filled) k e in
+        let a = all-next p s i k e (standsIn d s) (w .fields) in
+        let r = o .row in
+        let h = t (k .holds) (rw r at (held-at p s i k e)) in
+        (k .child .after, record { stands = rw (o .text) (text-stands d s k f h (a .0)); on = record { filled = o .on; fields = a .1 }; later = o .later; texts = o .texts })
+
+-- the rows of what a named child holds
+well-inside : (rs : List Range) (d : ℕ) (s : List ℕ) (k : Kept) (p : Parent) → k .holds ≡ Rows p → Shaped rs (suc d) s k → standsIn (suc d) s k ≡ true → Well rs d p s 0 (whiteAt s (k .child .gt + 1))
+unfolding fieldsAt
+well-inside rs d s k p h w e =
+    let i = whiteAt s (k .child .gt + 1) in
+    record { filled = shaped-inside rs d s k p h w .filled; fields = each-stands d s (keptFrom p s i) (nowhere (firstBad (fieldsBy (λ q a. fieldsAt d q s a) s (keptFrom p s i))) (rw h at e)) }
+
+-- LINES
+abbrev LineOk : Line → Type 0
+LineOk l = l .amount ≤ maxCents
+
+cents-ok : (t : List ℕ) → isNumber (importo t) ≡ Stands → valueOf (importo t) ≤ maxCents
+cents-ok t e = omega (arith, importo-range t (number-there (importo t) e))
+
+-- the parents that are lines: what their rows hold
+record LineTable (q : Parent) : Type 0 where
+  first : IsText q 0 Progressivo
+  second : IsText q 1 Importo
+
+line-ok : (s : List ℕ) (k : Kept) (q : Parent) → LineTable q → k .holds ≡ Rows q → Shaped lineRows 2 s k → standsIn 2 s k ≡ true → LineOk (lineOf s k)
+unfolding lineOf fieldStands
+line-ok s k q t h w e =
+    let i = whiteAt s (k .child .gt + 1) in
+    let a = field-at 1 q s 0 i Progressivo (t .first) (well-inside lineRows 1 s k q h w e) in
+    let b = field-at 1 q s 1 (a .0) Importo (t .second) (a .1 .on) in
+    rw (shaped-inside lineRows 1 s k q h w .named, a .1 .texts 1 (omega arith)) (cents-ok (textIn 1 s (keptFrom q s (a .0))) (b .1 .stands))
+
+-- the parents that are orders: what their rows hold, the last of them lines of the parent q
+record OrderTable (p q : Parent) : Type 0 where
+  rows : ranges (table p) ≡ orderRows
+  first : IsText p 0 TipoOperazione
+  second : IsText p 1 Numero
+  third : IsText p 2 Data
+  fourth : IsText p 3 Importo
+  lines : (h : Holds) → HeldIn (table p) 4 h → h ≡ Rows q
+  line : LineTable q
+  same : ranges (table q) ≡ lineRows
+
+mandato : OrderTable Mandato InformazioniBeneficiario
+mandato = record { rows = refl; first = only; second = only; third = only; fourth = only; lines = only; line = record { first = only; second = only }; same = refl }
+
+reversale : OrderTable Reversale InformazioniVersante
+reversale = record { rows = refl; first = only; second = only; third = only; fourth = only; lines = only; line = record { first = only; second = only }; same = refl }
+
+-- each line of an order, wherever it is asked for
+lines-ok : (n : ℕ) (p q : Parent) (s : List ℕ) (i : ℕ) → length s - i < n → OrderTable p q
+    → all (ofRow 4) (keptFrom p s i) ≡ true → all (keptHolds (λ r a. fitsAt 2 r s a) s) (keptFrom p s i) ≡ true → all (standsIn 2 s) (keptFrom p s i) ≡ true
+    → (j : ℕ) → LineOk (getD (linesOf s (keptFrom p s i)) j noLine)
+unfolding linesOf
+lines-ok zero p q s i h t r f e j = absurd (omega arith)
+lines-ok (suc n) p q s i h t r f e j = go (nextOf (keptFrom p s i)) refl (lines-ok n p q s)
+  where
+    pick : (k : Kept) (ks : List Kept) (j : ℕ) → LineOk (lineOf s k) → ((m : ℕ) → LineOk (getD (linesOf s ks) m noLine)) → LineOk (getD (lineOf s k ∷ linesOf s ks) j noLine)
+    pick k ks zero a b = a
+    pick k ks (suc j) a b = b j
+
+    go : (x : Next) → nextOf (keptFrom p s i) ≡ x
+        → ((u : ℕ) → length s - u < n → OrderTable p q → all (ofRow 4) (keptFrom p s u) ≡ true → all (keptHolds (λ r a. fitsAt 2 r s a) s) (keptFrom p s u) ≡ true → all (standsIn 2 s) (keptFrom p s u) ≡ true → (m : ℕ) → LineOk (getD (linesOf s (keptFrom p s u)) m noLine))
+        → LineOk (getD (linesOf s (keptFrom p s i)) j noLine)
+    go Done x ih = rw (next-done p s i x) (omega arith)
+    go (Named k) x ih =
+        let l = next-at p s i k x .lies in
+        let a = all-next p s i k x (ofRow 4) r in
+        let b = all-next p s i k x (keptHolds (λ r a. fitsAt 2 r s a) s) f in
+        let c = all-next p s i k x (standsIn 2 s) e in
+        let z : k .row ≡ 4 = eqb-true (k .row) 4 (a .0) in
+        let y : k .holds ≡ Rows q = t .lines (k .holds) (rw z at (held-at p s i k x)) in
+        let w : Shaped lineRows 2 s k = record { within = omega arith; rows = rw y (t .same); holds = b .0 } in
+        rw (next-at p s i k x .rest) (pick k (keptFrom p s (k .child .after)) j (line-ok s k q (t .line) y w (c .0)) (ih (k .child .after) (omega arith) t (a .1) (b .1) (c .1)))
+
+-- eight places: those of the lines, then no line
+padded : (ls : List Line) (m j : ℕ) → getD (ls ++ replicate m noLine) j noLine ≡ getD ls j noLine
+padded [] zero j = refl
+padded [] (suc m) zero = refl
+padded [] (suc m) (suc j) = padded [] m j
+padded (l ∷ ls) m zero = refl
+padded (l ∷ ls) m (suc j) = padded ls m j
+
+eight-at : (ls : List Line) (j : ℕ) → length ls ≤ 8 → getD (eight ls) j noLine ≡ getD ls j noLine
+unfolding eight
+eight-at ls j h = go (leb 8 j) refl
+  where
+    go : (b : Bool) → leb 8 j ≡ b → getD (take 8 (ls ++ replicate 8 noLine)) j noLine ≡ getD ls j noLine
+    go true e =
+        let k = leb-true 8 j e in
+        let u = length-take 8 (ls ++ replicate 8 noLine) in
+        List·getD-eq-default (take 8 (ls ++ replicate 8 noLine)) noLine (omega arith) ∙ sym (List·getD-eq-default ls noLine (omega arith))
+    go false e = let k = leb-false 8 j e in getD-take 8 (ls ++ replicate 8 noLine) j noLine (omega arith) ∙ padded ls 8 j
+
+eight-size : (ls : List Line) → length (eight ls) ≡ 8
+unfolding eight
+eight-size ls = omega (arith, length-take 8 (ls ++ replicate 8 noLine), length-append ls (replicate 8 noLine), length-replicate 8 noLine)
+
+-- AN ORDER, its four fields read one after the other
+module _ (s : List ℕ) (p q : Parent) (t : OrderTable p q) (i j1 j2 j3 j4 : ℕ) where
+  order-by : Field-at TipoOperazione (drop 1 orderRows) 2 p s 0 i j1 → Field-at Numero (drop 2 orderRows) 2 p s 1 j1 j2
+      → Field-at Data (drop 3 orderRows) 2 p s 2 j2 j3 → Field-at Importo (drop 4 orderRows) 2 p s 3 j3 j4
+      → (kind : ℕ) → (1 ≤ kind) × (kind ≤ 2) → OrderOk (orderBy kind s (keptFrom p s i))
+  unfolding linesIn fieldStands
+  order-by a b c d kind v =
+      let ks = keptFrom p s i in
+      let js = keptFrom p s j4 in
+      let f = d .on in
+      let o = order-last (record { least = 1; most = 8 }) 4 js (f .filled .rows) in
+      let z : inRow 4 ks ≡ js = a .later 4 (omega arith) ∙ b .later 4 (omega arith) ∙ c .later 4 (omega arith) ∙ d .later 4 (omega arith) ∙ in-row-all 4 js (o .rows) in
+      let y : length (linesOf s (inRow 4 ks)) ≤ 8 = rw z (omega (arith, lines-length s js, o .most)) in
+      let x : (j : ℕ) → getD (eight (linesOf s (inRow 4 ks))) j noLine ≡ getD (linesOf s (inRow 4 ks)) j noLine = λ j. eight-at (linesOf s (inRow 4 ks)) j y in
+      let l : (j : ℕ) → LineOk (getD (linesOf s js) j noLine) = lines-ok (suc (length s - j4)) p q s j4 (omega arith) t (o .rows) (f .filled .each) (f .fields) in
+      record {
+        kind = v;
+        number = rw (a .texts 1 (omega arith)) (numero-range (textIn 1 s (keptFrom p s j1)) (number-there (numero (textIn 1 s (keptFrom p s j1))) (b .stands)));
+        date = rw (a .texts 2 (omega arith), b .texts 2 (omega arith)) (data-real (textIn 2 s (keptFrom p s j2)) (day-there (dataOf (textIn 2 s (keptFrom p s j2))) (c .stands)));
+        total = rw (a .texts 3 (omega arith), b .texts 3 (omega arith), c .texts 3 (omega arith)) (cents-ok (textIn 3 s (keptFrom p s j3)) (d .stands));
+        count = rw z (o .least, o .most);
+        size = eight-size (linesOf s (inRow 4 ks));
+        amounts = λ j. rw (x j, z) (l j);
+        beyond = λ j m. x j ∙ List·getD-eq-default (linesOf s (inRow 4 ks)) noLine (omega (arith, m, lines-length s (inRow 4 ks)));
+      }
+
+order-ok : (s : List ℕ) (k : Kept) (p q : Parent) → OrderTable p q → k .holds ≡ Rows p → (1 ≤ kindOf (Rows p)) × (kindOf (Rows p) ≤ 2) → Shaped orderRows 3 s k → standsIn 3 s k ≡ true → OrderOk (orderOf s k)
+unfolding orderOf
+order-ok s k p q t h v w e =
+    let i = whiteAt s (k .child .gt + 1) in
+    let a = field-at 2 p s 0 i TipoOperazione (t .first) (well-inside orderRows 2 s k p h w e) in
+    let b = field-at 2 p s 1 (a .0) Numero (t .second) (a .1 .on) in
+    let c = field-at 2 p s 2 (b .0) Data (t .third) (b .1 .on) in
+    let d = field-at 2 p s 3 (c .0) Importo (t .fourth) (c .1 .on) in
+    rw (shaped-inside orderRows 2 s k p h w .named, h) (order-by s p q t i (a .0) (b .0) (c .0) (d .0) (a .1) (b .1) (c .1) (d .1) (kindOf (Rows p)) v)
+
+-- ORDERS, as the walk goes
+pub record Sound (s : List ℕ) (i : ℕ) : Type 0 where
+  pub standing : Standing s i
+  pub fields : all (standsIn 3 s) (keptFrom FlussoOrdinativi s i) ≡ true
+
+pub sound : (s : List ℕ) (at : ℕ) → Stood s at → Sound s (whiteAt s at)
+unfolding fieldsAt
+sound s at h = record { standing = standing s at (h .fits); fields = each-stands 3 s (keptFrom FlussoOrdinativi s (whiteAt s at)) (h .fields) }
+
+pub sound-next : (s : List ℕ) (i : ℕ) (k : Kept) → Sound s i → nextOf (inRow 5 (keptFrom FlussoOrdinativi s i)) ≡ Named k → OrderOk (orderOf s k) × Sound s (k .child .after)
+sound-next s i k h e =
+    let a = order-at s i k (h .standing) e in
+    let r = row-at 5 FlussoOrdinativi s i k e in
+    let b = r .every (standsIn 3 s) (h .fields) in (
+      ⊎-elim
+          (λ m. order-ok s k Mandato InformazioniBeneficiario mandato (sym m) (omega arith) (a .shaped) (b .0))
+          (⊎-elim (λ m. order-ok s k Reversale InformazioniVersante reversale (sym m) (omega arith) (a .shaped) (b .0)) (λ m. absurd m))
+          (r .held),
+      record { standing = a .on; fields = b .1 },
+    )
+
+-- all of them
+abbrev pub Each : (Order → Type 0) → List Order → Type 0
+Each f [] = Unit
+Each f (o ∷ os) = f o × Each f os
+
+each-ok : (n : ℕ) (s : List ℕ) (i : ℕ) → length s - i < n → Sound s i → Each OrderOk (ordersIn s (keptFrom FlussoOrdinativi s i))
+each-ok zero s i h w = absurd (omega arith)
+each-ok (suc n) s i h w = go (nextOf (inRow 5 (keptFrom FlussoOrdinativi s i))) refl (each-ok n s)
+  where
+    go : (x : Next) → nextOf (inRow 5 (keptFrom FlussoOrdinativi s i)) ≡ x → ((j : ℕ) → length s - j < n → Sound s j → Each OrderOk (ordersIn s (keptFrom FlussoOrdinativi s j))) → Each OrderOk (ordersIn s (keptFrom FlussoOrdinativi s i))
+    go Done e ih = rw (orders-end s i e) tt
+    go (Named k) e ih =
+        let a = order-at s i k (w .standing) e in
+        let l = a .lies in
+        let b = sound-next s i k w e in
+        rw (a .rest) (b .0, ih (k .child .after) (omega arith) (b .1))
+
+pub orders-ok : (s : List ℕ) (at : ℕ) → Stood s at → Each OrderOk (flowOrders s at)
+orders-ok s at h = each-ok (suc (length s - whiteAt s at)) s (whiteAt s at) (omega arith) (sound s at h)
+
+orders-length : (s : List ℕ) (ks : List Kept) → length (ordersOf s ks) ≡ length ks
+unfolding ordersOf
+orders-length s [] = refl
+orders-length s (k ∷ ks) = ap suc (orders-length s ks)
+
+-- THE HEADER, and how many orders there are
+abbrev flowRows : List Range
+flowRows = ranges (table FlussoOrdinativi)
+
+abbrev Header-at : Form → List Range → List ℕ → ℕ → ℕ → ℕ → Type 0
+Header-at f rs s n i j = Field-at f rs 3 FlussoOrdinativi s n i j
+
+module _ (s : List ℕ) (i j1 j2 j3 j4 j5 : ℕ) (a : Header-at CodiceAbi (drop 1 flowRows) s 0 i j1) (b : Header-at Identificativo (drop 2 flowRows) s 1 j1 j2)
+    (c : Header-at DataOra (drop 3 flowRows) s 2 j2 j3) (d : Header-at CodiceEnte (drop 4 flowRows) s 3 j3 j4) (e : Header-at Esercizio (drop 5 flowRows) s 4 j4 j5) where
+  header-by : HeaderOk (headerIn s (keptFrom FlussoOrdinativi s i))
+  unfolding fieldStands
+  header-by =
+      let p = FlussoOrdinativi in
+      record {
+        abi = judged-true (codiceAbi (textIn 0 s (keptFrom p s i))) (a .stands);
+        ente = rw (a .texts 3 (omega arith), b .texts 3 (omega arith), c .texts 3 (omega arith)) (judged-true (codiceEnte (textIn 3 s (keptFrom p s j3))) (d .stands));
+        esercizio = rw (a .texts 4 (omega arith), b .texts 4 (omega arith), c .texts 4 (omega arith), d .texts 4 (omega arith)) (esercizio-range (textIn 4 s (keptFrom p s j4)) (number-there (esercizio (textIn 4 s (keptFrom p s j4))) (e .stands)));
+      }
+
+  number-by : (1 ≤ length (ordersIn s (keptFrom FlussoOrdinativi s i))) × (length (ordersIn s (keptFrom FlussoOrdinativi s i)) ≤ 64)
+  number-by =
+      let ks = keptFrom FlussoOrdinativi s i in
+      let js = keptFrom FlussoOrdinativi s j5 in
+      let o = order-last (record { least = 1; most = 64 }) 5 js (e .on .filled .rows) in
+      let z : inRow 5 ks ≡ js = a .later 5 (omega arith) ∙ b .later 5 (omega arith) ∙ c .later 5 (omega arith) ∙ d .later 5 (omega arith) ∙ e .later 5 (omega arith) ∙ in-row-all 5 js (o .rows) in
+      let m : length (ordersIn s ks) ≡ length js = orders-length s (inRow 5 ks) ∙ ap length z in
+      (omega (arith, o .least), omega (arith, o .most))
+
+pub header-ok : (s : List ℕ) (at : ℕ) → Stood s at → HeaderOk (headerOf s at) × ((1 ≤ length (flowOrders s at)) × (length (flowOrders s at) ≤ 64))
+header-ok s at h =
+    let i = whiteAt s at in
+    let p = FlussoOrdinativi in
+    let f = fits-parts 3 p s at (h .fits) in
+    let g : Well flowRows 3 p s 0 i = record { filled = record { within = run-within isWhite s at (h .within); rows = f .0; each = f .1 }; fields = sound s at h .fields } in
+    let a = field-at 3 p s 0 i CodiceAbi only g in
+    let b = field-at 3 p s 1 (a .0) Identificativo only (a .1 .on) in
+    let c = field-at 3 p s 2 (b .0) DataOra only (b .1 .on) in
+    let d = field-at 3 p s 3 (c .0) CodiceEnte only (c .1 .on) in
+    let e = field-at 3 p s 4 (d .0) Esercizio only (d .1 .on) in
+    (header-by s i (a .0) (b .0) (c .0) (d .0) (e .0) (a .1) (b .1) (c .1) (d .1) (e .1), number-by s i (a .0) (b .0) (c .0) (d .0) (e .0) (a .1) (b .1) (c .1) (d .1) (e .1))

@@ -1,0 +1,320 @@
+-- Laws of the named children by rows, of lines and of orders.
+use mathlib.Core.Path.{_≡_, refl, sym, ap, _∙_}
+use mathlib.Core.Logic.{⊎-elim}
+use mathlib.Core.List.{List, [], _∷_}
+use mathlib.Core.Bool.{Bool, true, false}
+use Prim.Native.Nat.{ℕ, zero, suc, _+_, _-_, _≤_, _<_}
+use native.Mathlib.Numerals.{add-one}
+use native.Mathlib.Omega.{arith}
+use lib.ListN.{length, drop, set, length-set}
+use lib.Seq.{sets}
+use lib.Dec.{eqb}
+use borrow.Author.Tests.{eq-eqb, ne-eqb, eqb-true, eqb-false}
+use Rattle.scan.specs.Bytes.{part, isWhite}
+use Rattle.scan.proofs.Laws.{both, run-within}
+use Rattle.tokens.specs.Tokens.{whiteAt}
+use Rattle.fields.specs.declared.Form.{Form}
+use Rattle.fields.specs.Fields.{tipoOperazione, numero, dataOf, importo, progressivo}
+use Rattle.children.specs.declared.Parent.{Parent}
+use Rattle.children.specs.declared.Parent.the-variants.{FlussoOrdinativi, Mandato, Reversale, InformazioniBeneficiario, InformazioniVersante, Beneficiario, Versante}
+use Rattle.children.specs.declared.Holds.{Holds}
+use Rattle.children.specs.declared.Holds.the-variants.{Text, Rows}
+use Rattle.children.specs.declared.Kept.{Kept}
+use Rattle.children.specs.declared.Next.{Next}
+use Rattle.children.specs.declared.Next.the-variants.{Named, Done}
+use Rattle.children.specs.Table.{table}
+use Rattle.children.specs.Kept.{keptFrom, nextOf}
+use Rattle.children.proofs.Laws.{Lies, next-at, next-done}
+use Rattle.structure.specs.Structure.{Range, ranges, all, keptHolds, fitsAt}
+use Rattle.structure.proofs.Laws.{HeldIn, fits-parts, once-done, once-next, all-next, order-last, kept-held}
+use Rattle.order.specs.declared.Line.{Line}
+use Rattle.order.specs.declared.Order.{Order}
+use Rattle.orders.specs.Shape.{rangesOf, orderRows, lineRows, Shaped, Filled}
+use Rattle.orders.specs.Orders.{inRow, textIn, inside, operationOf, valueOf, dateOf, lineBy, lineOf, linesOf, noLine, eight, linesIn, kindOf, orderBy, orderOf, ordersOf, ordersIn}
+
+no-next : {k : Kept} {A : Type 0} → Done ≡ Named k → A
+no-next e = let z : _≡_ {A = ℕ} 0 1 = cc in absurd (omega arith)
+
+-- the root's row 5 holds orders, and an order's row 4 lines
+held-order : (h : Holds) → HeldIn (table FlussoOrdinativi) 5 h → rangesOf h ≡ orderRows
+held-order h w = sym (⊎-elim (λ e. ap rangesOf e) (⊎-elim (λ e. ap rangesOf e) (λ e. absurd e)) w)
+
+held-line : (p : Parent) (h : Holds) → ranges (table p) ≡ orderRows → HeldIn (table p) 4 h → rangesOf h ≡ lineRows
+held-line FlussoOrdinativi h e w = let z : _≡_ {A = ℕ} 6 5 = ap length e in absurd (omega arith)
+held-line Mandato h e w = sym (⊎-elim (λ e. ap rangesOf e) (λ e. absurd e) w)
+held-line Reversale h e w = sym (⊎-elim (λ e. ap rangesOf e) (λ e. absurd e) w)
+held-line InformazioniBeneficiario h e w = absurd w
+held-line InformazioniVersante h e w = absurd w
+held-line Beneficiario h e w = absurd w
+held-line Versante h e w = absurd w
+
+pub held-at : (p : Parent) (s : List ℕ) (i : ℕ) (k : Kept) → nextOf (keptFrom p s i) ≡ Named k → HeldIn (table p) (k .row) (k .holds)
+held-at p s i k e = kept-held p s i k (keptFrom p s (k .child .after)) (next-at p s i k e .rest)
+
+-- BY ROWS, as the walk over the named children goes
+module _ (n : ℕ) (p : Parent) (s : List ℕ) (i : ℕ) where
+  pub row-done : nextOf (keptFrom p s i) ≡ Done → inRow n (keptFrom p s i) ≡ []
+  unfolding inRow
+  row-done e = rw (next-done p s i e)
+
+  module _ (k : Kept) (e : nextOf (keptFrom p s i) ≡ Named k) where
+    pub row-other : (k .row ≡ n → ⊥) → inRow n (keptFrom p s i) ≡ inRow n (keptFrom p s (k .child .after))
+    unfolding inRow
+    row-other f = rw (next-at p s i k e .rest, ne-eqb _ _ f)
+
+    pub row-one : k .row ≡ n → inRow n (keptFrom p s i) ≡ k ∷ inRow n (keptFrom p s (k .child .after))
+    unfolding inRow
+    row-one f = rw (next-at p s i k e .rest, eq-eqb _ _ f)
+
+-- the first named child of row n from i on, and what comes after it
+pub record Row-at (n : ℕ) (p : Parent) (s : List ℕ) (i : ℕ) (k : Kept) : Type 0 where
+  pub rest : inRow n (keptFrom p s i) ≡ k ∷ inRow n (keptFrom p s (k .child .after))
+  pub lies : Lies s i (k .child)
+  pub held : HeldIn (table p) n (k .holds)
+  pub every : (f : Kept → Bool) → all f (keptFrom p s i) ≡ true → (f k ≡ true) × (all f (keptFrom p s (k .child .after)) ≡ true)
+
+row-by : (m n : ℕ) (p : Parent) (s : List ℕ) (i : ℕ) (k : Kept) → length s - i < m → nextOf (inRow n (keptFrom p s i)) ≡ Named k → Row-at n p s i k
+row-by zero n p s i k h e = absurd (omega arith)
+row-by (suc m) n p s i k h e = go (nextOf (keptFrom p s i)) refl (row-by m n p s)
+  where
+    go : (w : Next) → nextOf (keptFrom p s i) ≡ w → ((j : ℕ) (k : Kept) → length s - j < m → nextOf (inRow n (keptFrom p s j)) ≡ Named k → Row-at n p s j k) → Row-at n p s i k
+    go Done f ih = no-next (ap nextOf (sym (row-done n p s i f)) ∙ e)
+    go (Named c) f ih = at (eqb (c .row) n) refl
+      where
+        at : (b : Bool) → eqb (c .row) n ≡ b → Row-at n p s i k
+        at true g =
+            let r = eqb-true (c .row) n g in
+            let m = row-one n p s i c f r in
+            let z : Named c ≡ Named k = ap nextOf (sym m) ∙ e in
+            let u : c ≡ k = cc in
+            rw (← u) (record { rest = m; lies = next-at p s i c f .lies; held = rw r at (held-at p s i c f); every = all-next p s i c f })
+        at false g =
+            let l = next-at p s i c f .lies in
+            let m = row-other n p s i c f (eqb-false (c .row) n g) in
+            let r = ih (c .child .after) k (omega arith) (ap nextOf (sym m) ∙ e) in
+            let y = r .lies in
+            record { rest = m ∙ r .rest; lies = record { from = omega arith; name = y .name; inner = y .inner; ends = y .ends; within = y .within }; held = r .held; every = λ g a. r .every g (all-next p s i c f g a .1) }
+
+pub row-at : (n : ℕ) (p : Parent) (s : List ℕ) (i : ℕ) (k : Kept) → nextOf (inRow n (keptFrom p s i)) ≡ Named k → Row-at n p s i k
+row-at n p s i k e = row-by (suc (length s - i)) n p s i k (omega arith) e
+
+pub row-end : (ks : List Kept) → nextOf ks ≡ Done → ks ≡ []
+row-end [] e = refl
+row-end (k ∷ ks) e = no-next (sym e)
+
+-- where all stand in one row
+abbrev pub ofRow : ℕ → Kept → Bool
+ofRow n k = eqb (k .row) n
+
+pub in-row-all : (n : ℕ) (ks : List Kept) → all (ofRow n) ks ≡ true → inRow n ks ≡ ks
+unfolding inRow all
+in-row-all n [] e = refl
+in-row-all n (k ∷ ks) e = let b = both (ofRow n k) (all (ofRow n) ks) e in rw (b .0) (ap (λ t. k ∷ t) (in-row-all n ks (b .1)))
+
+-- FIELDS ONE AFTER THE OTHER
+abbrev pub one : Range
+one = record { least = 1; most = 1 }
+
+-- the first named child is the row's one; its text; the later rows come after it
+pub record Found (rs : List Range) (d : ℕ) (p : Parent) (s : List ℕ) (n i : ℕ) (k : Kept) : Type 0 where
+  pub lies : Lies s i (k .child)
+  pub row : k .row ≡ n
+  pub on : Filled rs d p s (suc n) (k .child .after)
+  pub text : textIn n s (keptFrom p s i) ≡ part s (k .child .gt + 1) (k .child .to)
+  pub later : (m : ℕ) → n < m → inRow m (keptFrom p s i) ≡ inRow m (keptFrom p s (k .child .after))
+  pub texts : (m : ℕ) → n < m → textIn m s (keptFrom p s i) ≡ textIn m s (keptFrom p s (k .child .after))
+
+module _ {rs : List Range} (d : ℕ) (p : Parent) (s : List ℕ) (n i : ℕ) (f : Filled (one ∷ rs) d p s n i) where
+  pub found-some : nextOf (keptFrom p s i) ≡ Done → ⊥
+  found-some e = once-done p s i rs n (f .rows) e
+
+  pub found : (k : Kept) → nextOf (keptFrom p s i) ≡ Named k → Found rs d p s n i k
+  unfolding textIn
+  found k e =
+      let a = next-at p s i k e in
+      let o = once-next p s i k e rs n (f .rows) in
+      let w = all-next p s i k e (keptHolds (λ q b. fitsAt d q s b) s) (f .each) in
+      let z = o .0 in
+      let l : (m : ℕ) → n < m → inRow m (keptFrom p s i) ≡ inRow m (keptFrom p s (k .child .after)) = λ m h. row-other m p s i k e (λ y. omega arith) in
+      record {
+        lies = a .lies;
+        row = z;
+        on = record { within = a .lies .within; rows = o .1; each = w .1 };
+        text = rw (row-one n p s i k e z);
+        later = l;
+        texts = λ m h. rw (l m h);
+      }
+
+-- a named child's own named children
+pub record Inside (rs : List Range) (d : ℕ) (s : List ℕ) (k : Kept) (p : Parent) : Type 0 where
+  pub rows : ranges (table p) ≡ rs
+  pub filled : Filled rs d p s 0 (whiteAt s (k .child .gt + 1))
+  pub named : inside s k ≡ keptFrom p s (whiteAt s (k .child .gt + 1))
+
+pub shaped-some : (r : Range) (rs : List Range) (d : ℕ) (s : List ℕ) (k : Kept) (f : Form) → k .holds ≡ Text f → Shaped (r ∷ rs) d s k → ⊥
+shaped-some r rs d s k f e h = let z : [] ≡ r ∷ rs = rw e at (h .rows) in let y : _≡_ {A = ℕ} 0 1 = cc in omega arith
+
+pub shaped-inside : (rs : List Range) (d : ℕ) (s : List ℕ) (k : Kept) (p : Parent) → k .holds ≡ Rows p → Shaped rs (suc d) s k → Inside rs d s k p
+unfolding inside
+shaped-inside rs d s k p e h =
+    let r : ranges (table p) ≡ rs = rw e at (h .rows) in
+    let b = fits-parts d p s (k .child .gt + 1) (rw e at (h .holds)) in
+    let w = h .within in
+    record {
+      rows = r;
+      filled = record { within = run-within isWhite s (k .child .gt + 1) (omega arith); rows = rw r at (b .0); each = b .1 };
+      named = rw e;
+    }
+
+-- LINES, while they are walked: so many are in place, those from i on are to come
+pub record Lining (p : Parent) (s : List ℕ) (from : ℕ) (each : List Line) (count i : ℕ) : Type 0 where
+  pub within : i ≤ length s
+  pub rows : all (ofRow 4) (keptFrom p s i) ≡ true
+  pub holds : all (keptHolds (λ q a. fitsAt 2 q s a) s) (keptFrom p s i) ≡ true
+  pub number : length (inRow 4 (keptFrom p s from)) ≡ count + length (keptFrom p s i)
+  pub most : length (inRow 4 (keptFrom p s from)) ≤ 8
+  pub size : length each ≡ 8
+  pub filled : eight (linesOf s (inRow 4 (keptFrom p s from))) ≡ sets each count (linesOf s (keptFrom p s i))
+
+pub lines-length : (s : List ℕ) (ks : List Kept) → length (linesOf s ks) ≡ length ks
+unfolding linesOf
+lines-length s [] = refl
+lines-length s (k ∷ ks) = ap suc (lines-length s ks)
+
+abbrev pub noLines : List Line
+noLines = noLine ∷ noLine ∷ noLine ∷ noLine ∷ noLine ∷ noLine ∷ noLine ∷ noLine ∷ []
+
+eight-sets : (ls : List Line) → length ls ≤ 8 → eight ls ≡ sets noLines 0 ls
+unfolding eight
+eight-sets [] h = refl
+eight-sets (a ∷ []) h = refl
+eight-sets (a ∷ b ∷ []) h = refl
+eight-sets (a ∷ b ∷ c ∷ []) h = refl
+eight-sets (a ∷ b ∷ c ∷ d ∷ []) h = refl
+eight-sets (a ∷ b ∷ c ∷ d ∷ e ∷ []) h = refl
+eight-sets (a ∷ b ∷ c ∷ d ∷ e ∷ f ∷ []) h = refl
+eight-sets (a ∷ b ∷ c ∷ d ∷ e ∷ f ∷ g ∷ []) h = refl
+eight-sets (a ∷ b ∷ c ∷ d ∷ e ∷ f ∷ g ∷ i ∷ []) h = refl
+eight-sets (a ∷ b ∷ c ∷ d ∷ e ∷ f ∷ g ∷ i ∷ j ∷ t) h = absurd (omega arith)
+
+module _ (p : Parent) (s : List ℕ) (from : ℕ) where
+  pub lining-start : Filled (drop 4 orderRows) 2 p s 4 from → Lining p s from noLines 0 from
+  lining-start f =
+      let ks = keptFrom p s from in
+      let l = order-last (record { least = 1; most = 8 }) 4 ks (f .rows) in
+      let e = in-row-all 4 ks (l .rows) in
+      let m = l .most in
+      let v = lines-length s ks in
+      record {
+        within = f .within;
+        rows = l .rows;
+        holds = f .each;
+        number = rw e (omega arith);
+        most = rw e m;
+        size = refl;
+        filled = rw e (eight-sets (linesOf s ks) (omega arith));
+      }
+
+  module _ (each : List Line) (count i : ℕ) (f : Lining p s from each count i) where
+    pub lining-empty : keptFrom p s i ≡ [] → (record { count = count; each = each } ≡ linesIn s (keptFrom p s from)) × (count ≤ 8)
+    unfolding linesIn linesOf
+    lining-empty e =
+        let n : length (inRow 4 (keptFrom p s from)) ≡ count + 0 = rw e at (f .number) in
+        let z : length (inRow 4 (keptFrom p s from)) ≡ count = omega arith in
+        let m = f .most in
+        let w : eight (linesOf s (inRow 4 (keptFrom p s from))) ≡ each = rw e at (f .filled) in
+        (rw (z, w), omega arith)
+
+    pub lining-end : nextOf (keptFrom p s i) ≡ Done → (record { count = count; each = each } ≡ linesIn s (keptFrom p s from)) × (count ≤ 8)
+    lining-end e = lining-empty (next-done p s i e)
+
+    pub lining-full : 8 ≤ count → (record { count = count; each = each } ≡ linesIn s (keptFrom p s from)) × (count ≤ 8)
+    lining-full h = lining-empty (none (keptFrom p s i) (omega (arith, f .number, f .most)))
+      where
+        none : (ks : List Kept) → length ks ≤ 0 → ks ≡ []
+        none [] h = refl
+        none (k ∷ ks) h = absurd (omega arith)
+
+    module _ (k : Kept) (e : nextOf (keptFrom p s i) ≡ Named k) where
+      pub lining-shaped : ranges (table p) ≡ orderRows → Shaped lineRows 2 s k
+      lining-shaped t =
+          let l = next-at p s i k e .lies in
+          let r : k .row ≡ 4 = eqb-true (k .row) 4 (all-next p s i k e (ofRow 4) (f .rows) .0) in
+          record {
+            within = omega arith;
+            rows = held-line p (k .holds) t (rw r at (held-at p s i k e));
+            holds = all-next p s i k e (keptHolds (λ q a. fitsAt 2 q s a) s) (f .holds) .0;
+          }
+
+      pub lining-step : (l : Line) → l ≡ lineOf s k → count < 8 → Lining p s from (set each count l) (count + 1) (k .child .after)
+      unfolding linesOf
+      lining-step l u h =
+          let a = next-at p s i k e in
+          let n : length (inRow 4 (keptFrom p s from)) ≡ count + suc (length (keptFrom p s (k .child .after))) = rw (a .rest) at (f .number) in
+          record {
+            within = a .lies .within;
+            rows = all-next p s i k e (ofRow 4) (f .rows) .1;
+            holds = all-next p s i k e (keptHolds (λ q a. fitsAt 2 q s a) s) (f .holds) .1;
+            number = omega arith;
+            most = f .most;
+            size = length-set each count l ∙ f .size;
+            filled = rw (u, add-one) (rw (a .rest) at (f .filled));
+          }
+
+pub lines-same : (s : List ℕ) (ks js : List Kept) → inRow 4 ks ≡ inRow 4 js → linesIn s ks ≡ linesIn s js
+unfolding linesIn
+lines-same s ks js e = rw e
+
+-- A LINE AND AN ORDER, put together of their parts
+pub line-made : (s : List ℕ) (ks : List Kept) (l : Line) → l .progressivo ≡ valueOf (progressivo (textIn 0 s ks)) → l .amount ≡ valueOf (importo (textIn 1 s ks)) → l ≡ lineBy s ks
+line-made s ks l a b = rw (← a, ← b)
+
+pub order-made : (kind : ℕ) (s : List ℕ) (ks : List Kept) (o : Order)
+    → o .kind ≡ kind → o .operation ≡ operationOf (tipoOperazione (textIn 0 s ks)) → o .number ≡ valueOf (numero (textIn 1 s ks))
+    → o .date ≡ dateOf (dataOf (textIn 2 s ks)) → o .total ≡ valueOf (importo (textIn 3 s ks)) → o .lines ≡ linesIn s ks → o ≡ orderBy kind s ks
+order-made kind s ks o a b c d e f = rw (← a, ← b, ← c, ← d, ← e, ← f)
+
+module _ (s : List ℕ) (k : Kept) (p : Parent) (w : ℕ) (z : w ≡ whiteAt s (k .child .gt + 1)) where
+  pub line-inside : {d : ℕ} → Inside lineRows d s k p → (l : Line) → l ≡ lineBy s (keptFrom p s w) → l ≡ lineOf s k
+  unfolding lineOf
+  line-inside n l h = rw (n .named, ← z) h
+
+  pub order-inside : {d : ℕ} → Inside orderRows d s k p → k .holds ≡ Rows p → (o : Order) → o ≡ orderBy (kindOf (Rows p)) s (keptFrom p s w) → o ≡ orderOf s k
+  unfolding orderOf
+  order-inside n e o h = rw (n .named, e, ← z) h
+
+-- ORDERS, as the walk goes
+pub orders-end : (s : List ℕ) (i : ℕ) → nextOf (inRow 5 (keptFrom FlussoOrdinativi s i)) ≡ Done → ordersIn s (keptFrom FlussoOrdinativi s i) ≡ []
+unfolding ordersOf
+orders-end s i e = rw (row-end (inRow 5 (keptFrom FlussoOrdinativi s i)) e)
+
+pub orders-one : (s : List ℕ) (i : ℕ) (k : Kept) → nextOf (inRow 5 (keptFrom FlussoOrdinativi s i)) ≡ Named k → ordersIn s (keptFrom FlussoOrdinativi s i) ≡ orderOf s k ∷ ordersIn s (keptFrom FlussoOrdinativi s (k .child .after))
+unfolding ordersOf
+orders-one s i k e = rw (row-at 5 FlussoOrdinativi s i k e .rest)
+
+-- every named child of the root from i on holds what its row says
+abbrev pub Standing : List ℕ → ℕ → Type 0
+Standing s i = all (keptHolds (λ q a. fitsAt 3 q s a) s) (keptFrom FlussoOrdinativi s i) ≡ true
+
+-- the first order from i on, as the code that reads it asks for it, and what comes after it
+pub record Order-at (s : List ℕ) (i : ℕ) (k : Kept) : Type 0 where
+  pub rest : ordersIn s (keptFrom FlussoOrdinativi s i) ≡ orderOf s k ∷ ordersIn s (keptFrom FlussoOrdinativi s (k .child .after))
+  pub lies : Lies s i (k .child)
+  pub shaped : Shaped orderRows 3 s k
+  pub on : Standing s (k .child .after)
+
+pub order-at : (s : List ℕ) (i : ℕ) (k : Kept) → Standing s i → nextOf (inRow 5 (keptFrom FlussoOrdinativi s i)) ≡ Named k → Order-at s i k
+order-at s i k h e =
+    let a = row-at 5 FlussoOrdinativi s i k e in
+    let l = a .lies in
+    let b = a .every (keptHolds (λ q a. fitsAt 3 q s a) s) h in
+    record {
+      rest = orders-one s i k e;
+      lies = l;
+      shaped = record { within = omega arith; rows = held-order (k .holds) (a .held); holds = b .0 };
+      on = b .1;
+    }
+
+-- a flow whose structure stands, where its root's content begins
+pub standing : (s : List ℕ) (at : ℕ) → fitsAt 4 FlussoOrdinativi s at ≡ true → Standing s (whiteAt s at)
+standing s at e = fits-parts 3 FlussoOrdinativi s at e .1

@@ -1,0 +1,84 @@
+use mathlib.Core.Path.{_≡_, sym, ap, _∙_}
+use Prim.Native.Nat.{_+_, _-_, _≤_}
+use native.Mathlib.Omega.{arith}
+use borrow.Author.Needs.{needs}
+use lib.ListN.{length}
+use Rattle.children.specs.declared.Parent.the-variants.{FlussoOrdinativi}
+use Rattle.children.specs.declared.Next.the-variants.{Named}
+use Rattle.children.specs.Kept.{keptFrom, nextOf}
+use Rattle.orders.specs.Orders.{inRow, ordersIn}
+use Rattle.orders.proofs.Laws.{row-at, orders-end, orders-one}
+use Rattle.orders.proofs.count_orders.Statement.{statement}
+use Rattle.orders.proofs.count_orders.Tie as tie
+
+abbrev Inv-loop : tie.InvT-loop
+Inv-loop s from past i₀ n₀ i n = (i ≤ length s) × (n ≤ i) × (length (ordersIn s (keptFrom FlussoOrdinativi s from)) ≡ n + length (ordersIn s (keptFrom FlussoOrdinativi s i)))
+
+abbrev μ-loop : tie.MeasureT-loop
+μ-loop s from past i₀ n₀ i n = length s - i
+
+loop-holds : tie.Need-loop-holds Inv-loop μ-loop
+loop-holds c = (c .before .before .pre .0, omega arith, omega arith)
+
+next-row-requires : tie.Need-next-row-requires Inv-loop μ-loop
+next-row-requires c κs = (c .loop .inv .0, c .before .before .before .pre .1)
+
+enum-known-k : tie.Need-enum-known-k Inv-loop μ-loop
+enum-known-k c = search needs
+
+enum-told : tie.Need-enum-told Inv-loop μ-loop
+enum-told c = search needs
+
+returns : tie.Need-returns Inv-loop μ-loop
+returns c =
+    let s = c .before .before .before .before .before .before .args .s .now in
+    let i = c .before .before .before .loop .i in
+    let n = c .before .before .before .loop .inv .2 in
+    let o = ap length (orders-end s i (sym (c .before .before .next-row .ensures) ∙ c .enum-told .given .1)) in
+    omega arith
+
+add-n : tie.Need-add-n Inv-loop μ-loop
+add-n c =
+    let s = c .before .before .before .before .before .before .before .before .args .s .now in
+    let i = c .before .before .before .before .before .loop .i in
+    let n = c .before .before .before .before .before .loop .inv .2 in
+    let k = c .before .before .k .given .0 .0 in
+    let e : nextOf (inRow 5 (keptFrom FlussoOrdinativi s i)) ≡ Named k = sym (c .before .before .before .before .next-row .ensures) ∙ c .before .before .k .given .1 in
+    let l = row-at 5 FlussoOrdinativi s i k e .lies in
+    omega arith
+
+loop-less : tie.Need-loop-less Inv-loop μ-loop
+loop-less c =
+    let s = c .before .before .before .before .before .before .before .before .args .s .now in
+    let i = c .before .before .before .before .before .loop .i in
+    let n = c .before .before .before .before .before .loop .inv .2 in
+    let k = c .before .before .k .given .0 .0 in
+    let e : nextOf (inRow 5 (keptFrom FlussoOrdinativi s i)) ≡ Named k = sym (c .before .before .before .before .next-row .ensures) ∙ c .before .before .k .given .1 in
+    let l = row-at 5 FlussoOrdinativi s i k e .lies in
+    omega arith
+
+loop-again : tie.Need-loop-again Inv-loop μ-loop
+loop-again c =
+    let s = c .before .before .before .before .before .before .before .before .args .s .now in
+    let i = c .before .before .before .before .before .loop .i in
+    let n = c .before .before .before .before .before .loop .inv .2 in
+    let k = c .before .before .k .given .0 .0 in
+    let e : nextOf (inRow 5 (keptFrom FlussoOrdinativi s i)) ≡ Named k = sym (c .before .before .before .before .next-row .ensures) ∙ c .before .before .k .given .1 in
+    let l = row-at 5 FlussoOrdinativi s i k e .lies in
+    let o = ap length (orders-one s i k e) in
+    (l .within, omega arith, omega arith)
+
+pub count-orders-spec : {M : Type 1} → statement M
+count-orders-spec =
+    tie.close
+    (tie.spec
+    Inv-loop
+    μ-loop
+    loop-holds
+    next-row-requires
+    enum-known-k
+    enum-told
+    returns
+    add-n
+    loop-less
+    loop-again)

@@ -1,0 +1,23 @@
+use mathlib.Core.Path.{_≡_, sym, ap}
+use Rattle.fields.specs.declared.Day.the-variants.{NoDay}
+use Rattle.orders.specs.Orders.{dateOf}
+use borrow.Author.Needs.{needs}
+use Rattle.orders.proofs.date_of.Statement.{statement}
+use Rattle.orders.proofs.date_of.Tie as tie
+
+enum-known-d : tie.Need-enum-known-d
+enum-known-d c = search needs
+
+enum-told : tie.Need-enum-told
+enum-told c = search needs
+
+returns : tie.Need-returns
+returns c = search needs
+
+returns-2 : tie.Need-returns-2
+returns-2 c =
+    let e : c .before .before .args .d ≡ NoDay = c .enum-told .given .1 in
+    sym (ap dateOf e)
+
+pub date-of-spec : {M : Type 1} → statement M
+date-of-spec = tie.close (tie.spec enum-known-d enum-told returns returns-2)

@@ -1,0 +1,57 @@
+use mathlib.Core.Path.{_≡_}
+use lib.ListN.{drop}
+use Rattle.children.specs.declared.Holds.the-variants.{Rows}
+use Rattle.orders.specs.Shape.{orderRows}
+use Rattle.orders.proofs.Laws.{one, shaped-some, shaped-inside, order-inside}
+use borrow.Author.Needs.{needs}
+use Rattle.orders.proofs.order_of.Statement.{statement}
+use Rattle.orders.proofs.order_of.Tie as tie
+
+enum-told : tie.Need-enum-told
+enum-told c = search needs
+
+order-from-requires : tie.Need-order-from-requires
+order-from-requires c κs = absurd (shaped-some one (drop 1 orderRows) 3 (c .before .before .before .before .before .args .s .now) (c .before .before .before .before .before .args .k) (c .enum-told .given .0 .0) (c .enum-told .given .1) (c .before .before .before .before .before .pre .0))
+
+enum-known-h : tie.Need-enum-known-h
+enum-known-h c = search needs
+
+add-white-end : tie.Need-add-white-end
+add-white-end c = search needs
+
+white-end-requires : tie.Need-white-end-requires
+white-end-requires c κs = search needs
+
+order-from-requires-2 : tie.Need-order-from-requires-2
+order-from-requires-2 c κs =
+    let s = c .before .before .before .before .before .before .before .before .args .s .now in
+    let k = c .before .before .before .before .before .before .before .before .args .k in
+    let p = c .before .before .before .h .given .0 .0 in
+    let e : k .holds ≡ Rows p = c .before .before .before .h .given .1 in
+    let n = shaped-inside orderRows 2 s k p e (c .before .before .before .before .before .before .before .before .pre .0) in
+    (n .rows, rw (c .white-end .ensures) (n .filled), c .before .before .before .before .before .before .before .before .pre .1)
+
+returns : tie.Need-returns
+returns c = absurd (shaped-some one (drop 1 orderRows) 3 (c .before .before .before .before .before .before .args .s .now) (c .before .before .before .before .before .before .args .k) (c .before .enum-told .given .0 .0) (c .before .enum-told .given .1) (c .before .before .before .before .before .before .pre .0))
+
+returns-2 : tie.Need-returns-2
+returns-2 c =
+    let s = c .before .before .before .before .before .before .before .before .before .args .s .now in
+    let k = c .before .before .before .before .before .before .before .before .before .args .k in
+    let p = c .before .before .before .before .h .given .0 .0 in
+    let e : k .holds ≡ Rows p = c .before .before .before .before .h .given .1 in
+    let n = shaped-inside orderRows 2 s k p e (c .before .before .before .before .before .before .before .before .before .pre .0) in
+    (order-inside s k p (c .before .white-end .result) (c .before .white-end .ensures) n e (c .order-from2 .result) (c .order-from2 .ensures .0), c .order-from2 .ensures .1)
+
+pub order-of-spec : {M : Type 1} → statement M
+order-of-spec =
+    tie.close
+    (tie.spec
+    enum-told
+    order-from-requires
+    enum-known-h
+    add-white-end
+    white-end-requires
+    order-from-requires-2
+    returns
+    returns-2)

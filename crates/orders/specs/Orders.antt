@@ -1,0 +1,128 @@
+-- The header and the orders of a flow as values: everything after this speaks of them, and no longer of the flow's bytes.
+use Prim.Native.Nat.{ℕ, _+_}
+use mathlib.Core.List.{List, [], _∷_, _++_}
+use mathlib.Core.Bool.{cond}
+use lib.ListN.{length, take, replicate}
+use lib.Dec.{eqb}
+use Rattle.scan.specs.Bytes.{part}
+use Rattle.tokens.specs.Tokens.{whiteAt}
+use Rattle.calendar.specs.declared.Date.{Date}
+use Rattle.fields.specs.declared.Number.{Number}
+use Rattle.fields.specs.declared.Number.the-variants.{Value, NoNumber}
+use Rattle.fields.specs.declared.Day.{Day}
+use Rattle.fields.specs.declared.Day.the-variants.{On, NoDay}
+use Rattle.fields.specs.declared.Operation.{Operation}
+use Rattle.fields.specs.declared.Operation.the-variants.{Sostituzione}
+use Rattle.fields.specs.declared.Asked.{Asked}
+use Rattle.fields.specs.declared.Asked.the-variants.{Operazione, NoOperation}
+use Rattle.fields.specs.Fields.{esercizio, tipoOperazione, numero, dataOf, importo, progressivo}
+use Rattle.children.specs.declared.Parent.the-variants.{FlussoOrdinativi, Mandato, Reversale, InformazioniBeneficiario, InformazioniVersante, Beneficiario, Versante}
+use Rattle.children.specs.declared.Holds.{Holds}
+use Rattle.children.specs.declared.Holds.the-variants.{Text, Rows}
+use Rattle.children.specs.declared.Kept.{Kept}
+use Rattle.children.specs.declared.Next.{Next}
+use Rattle.children.specs.declared.Next.the-variants.{Named, Done}
+use Rattle.children.specs.Kept.{keptFrom, nextOf}
+use Rattle.order.specs.declared.Line.{Line}
+use Rattle.order.specs.declared.Lines.{Lines}
+use Rattle.order.specs.declared.Order.{Order}
+
+-- BY ROWS of the parent's table, counted from 0
+
+-- the named children of one row
+unfoldable pub inRow : ℕ → List Kept → List Kept
+inRow n [] = []
+inRow n (k ∷ ks) = cond (eqb (k .row) n) (k ∷ inRow n ks) (inRow n ks)
+
+abbrev pub textOfNext : List ℕ → Next → List ℕ
+textOfNext s (Named k) = part s (k .child .gt + 1) (k .child .to)
+textOfNext s Done = []
+
+-- the text of the child in a row that holds one (once the structure stands there is one: proved in proofs/)
+unfoldable pub textIn : ℕ → List ℕ → List Kept → List ℕ
+textIn n s ks = textOfNext s (nextOf (inRow n ks))
+
+-- VALUES of fields that stand. (The defaults are never used once structure and fields stand)
+abbrev pub valueOf : Number → ℕ
+valueOf (Value v) = v
+valueOf NoNumber = 0
+
+abbrev pub dateOf : Day → Date
+dateOf (On d) = d
+dateOf NoDay = record { year = 0; month = 0; day = 0 }
+
+abbrev pub operationOf : Asked → Operation
+operationOf (Operazione o) = o
+operationOf NoOperation = Sostituzione
+
+-- a named child's own named children
+abbrev pub insideOf : List ℕ → Kept → Holds → List Kept
+insideOf s k (Text f) = []
+insideOf s k (Rows p) = keptFrom p s (whiteAt s (k .child .gt + 1))
+
+unfoldable pub inside : List ℕ → Kept → List Kept
+inside s k = insideOf s k (k .holds)
+
+-- A LINE: progressivo is row 0 of its table, importo row 1
+abbrev pub lineBy : List ℕ → List Kept → Line
+lineBy s ks = record { progressivo = valueOf (progressivo (textIn 0 s ks)); amount = valueOf (importo (textIn 1 s ks)) }
+
+unfoldable pub lineOf : List ℕ → Kept → Line
+lineOf s k = lineBy s (inside s k)
+
+unfoldable pub linesOf : List ℕ → List Kept → List Line
+linesOf s [] = []
+linesOf s (k ∷ ks) = lineOf s k ∷ linesOf s ks
+
+-- no line
+abbrev pub noLine : Line
+noLine = record { progressivo = 0; amount = 0 }
+
+-- eight places, `noLine` after the lines
+unfoldable pub eight : List Line → List Line
+eight ls = take 8 (ls ++ replicate 8 noLine)
+
+-- the lines of an order: row 4 of its table
+unfoldable pub linesIn : List ℕ → List Kept → Lines
+linesIn s ks = record { count = length (inRow 4 ks); each = eight (linesOf s (inRow 4 ks)) }
+
+-- AN ORDER: tipo_operazione, numero, data, importo are rows 0 to 3 of its table
+abbrev pub kindOf : Holds → ℕ
+kindOf (Text f) = 0
+kindOf (Rows Mandato) = 1
+kindOf (Rows Reversale) = 2
+kindOf (Rows FlussoOrdinativi) = 0
+kindOf (Rows InformazioniBeneficiario) = 0
+kindOf (Rows InformazioniVersante) = 0
+kindOf (Rows Beneficiario) = 0
+kindOf (Rows Versante) = 0
+
+abbrev pub orderBy : ℕ → List ℕ → List Kept → Order
+orderBy kind s ks = record {
+  kind = kind;
+  operation = operationOf (tipoOperazione (textIn 0 s ks));
+  number = valueOf (numero (textIn 1 s ks));
+  date = dateOf (dataOf (textIn 2 s ks));
+  total = valueOf (importo (textIn 3 s ks));
+  lines = linesIn s ks;
+}
+
+unfoldable pub orderOf : List ℕ → Kept → Order
+orderOf s k = orderBy (kindOf (k .holds)) s (inside s k)
+
+unfoldable pub ordersOf : List ℕ → List Kept → List Order
+ordersOf s [] = []
+ordersOf s (k ∷ ks) = orderOf s k ∷ ordersOf s ks
+
+-- THE FLOW: codice_ABI_BT, codice_ente_BT and esercizio are rows 0, 3 and 4 of the root's table, the orders row 5
+pub record Header : Type 0 where
+  pub abi : List ℕ
+  pub ente : List ℕ
+  pub esercizio : ℕ
+
+-- the header and the orders of the root's named children
+abbrev pub headerIn : List ℕ → List Kept → Header
+headerIn s ks = record { abi = textIn 0 s ks; ente = textIn 3 s ks; esercizio = valueOf (esercizio (textIn 4 s ks)) }
+
+abbrev pub ordersIn : List ℕ → List Kept → List Order
+ordersIn s ks = ordersOf s (inRow 5 ks)
