@@ -1,7 +1,7 @@
 -- A code finds the body that has it and no other.
 use mathlib.Core.Path.{_≡_, refl, sym, ap, _∙_}
 use mathlib.Core.List.{List, [], _∷_}
-use mathlib.Core.Bool.{Bool, true, false, cond, _&&_}
+use mathlib.Core.Bool.{Bool, true, false, cond}
 use Prim.Native.Nat.{ℕ, zero, suc, _+_, _-_, _*_, _≤_, _<_}
 use native.Mathlib.Nat.{add-zero, mul-zero, not-suc-le-zero}
 use native.Mathlib.Omega.{arith}
@@ -11,8 +11,7 @@ use borrow.Author.Tests.{eq-eqb, eqb-true}
 use Rattle.scan.specs.Bytes.{startsWith, hasAt, textIs}
 use Rattle.scan.proofs.Laws.{both}
 use Rattle.ranges.specs.Ranges.{isNothing}
-use Rattle.ranges.specs.declared.Found.{Found}
-use Rattle.ranges.specs.declared.Found.the-variants.{At, Nothing}
+use Rattle.ranges.specs.declared.Found.the-variants.{At}
 use Rattle.entries.specs.Entry.{codeAt, codesFrom, findCode, distinctCodes}
 use Rattle.entries.proofs.Laws.{times}
 

@@ -1,19 +1,19 @@
 -- Entries that hold the same bytes have the same form, code, slots and place.
 use mathlib.Core.Path.{_≡_, refl, sym, ap, _∙_}
-use mathlib.Core.List.{List, [], _∷_}
-use mathlib.Core.Bool.{Bool, true, false, cond, _&&_}
+use mathlib.Core.List.{List, _∷_}
+use mathlib.Core.Bool.{true}
 use Prim.Native.Nat.{ℕ, zero, suc, _+_, _-_, _*_, _≤_, _<_}
-use native.Mathlib.Nat.{add-assoc}
+use native.Mathlib.Nat.{add-zero, mul-zero, not-suc-le-zero}
 use native.Mathlib.Omega.{arith}
-use lib.ListN.{length, getD, take, drop, length-drop}
+use lib.ListN.{length, getD, drop, length-drop}
 use lib.Seq.{length-take-le, getD-take, getD-drop, ext-getD}
-use lib.Dec.{leb, eqb}
+use lib.Dec.{eqb}
 use borrow.Author.Tests.{le-leb}
-use Rattle.scan.specs.Bytes.{between, part, all, isAlnum}
+use Rattle.scan.specs.Bytes.{part, all, isAlnum}
 use Rattle.words.proofs.Laws.{Agree, on, at-it, same2, same4}
 use Rattle.ranges.specs.Ranges.{zeros}
 use Rattle.entries.specs.Entry.{requestSize, codeLength, codeAt, slotsOf, placeOf, formOk, formsOk, codesFrom}
-use Rattle.entries.proofs.Laws.{Form, form, forms-split}
+use Rattle.entries.proofs.Laws.{times, form, forms-split}
 
 -- the bytes from k on up to m of what agrees
 module _ {s t : List ℕ} {p q n : ℕ} (h : Agree s p t q n) (k m : ℕ) (f : m ≤ n) where
@@ -23,11 +23,11 @@ module _ {s t : List ℕ} {p q n : ℕ} (h : Agree s p t q n) (k m : ℕ) (f : m
       let y : length (part t a′ e′) ≡ m - k = length-take-le (e′ - a′) (drop a′ t) (omega (arith, length-drop a′ t)) ∙ omega arith in
       ext-getD 0 (part s a e) (part t a′ e′) (x ∙ sym y)
       (λ i b.
-          let u : a + i ≡ p + (k + i) = omega arith in
-          let v : q + (k + i) ≡ a′ + i = omega arith in
-          getD-take (e - a) (drop a s) i 0 (omega arith) ∙ getD-drop a s i 0 ∙ ap (λ (z : ℕ). getD s z 0) u
-          ∙ h .same (k + i) (omega arith)
-          ∙ ap (λ (z : ℕ). getD t z 0) v ∙ sym (getD-drop a′ t i 0) ∙ sym (getD-take (e′ - a′) (drop a′ t) i 0 (omega arith)))
+      let u : a + i ≡ p + (k + i) = omega arith in
+      let v : q + (k + i) ≡ a′ + i = omega arith in
+      getD-take (e - a) (drop a s) i 0 (omega arith) ∙ getD-drop a s i 0 ∙ ap (λ (z : ℕ). getD s z 0) u
+      ∙ h .same (k + i) (omega arith)
+      ∙ ap (λ (z : ℕ). getD t z 0) v ∙ sym (getD-drop a′ t i 0) ∙ sym (getD-take (e′ - a′) (drop a′ t) i 0 (omega arith)))
 
   pub zeros-agree : (a e a′ e′ : ℕ) → a ≡ p + k → e ≡ p + m → a′ ≡ q + k → e′ ≡ q + m → e ≤ length s → e′ ≤ length t → zeros s a e ≡ zeros t a′ e′
   unfolding zeros
@@ -85,3 +85,14 @@ module _ {s t : List ℕ} {m n : ℕ} where
       let c = code-agree h ls lt (form t q (w .0) .short) in
       let d = codes-rows r (w .1) in
       λ i. c i ∷ d i
+
+  pub slots-rows : {p q k : ℕ} → Rows s t m n p q k → (b : ℕ) → b < k → slotsOf s (p + m * b) ≡ slotsOf t (q + n * b)
+  slots-rows none b h = absurd (not-suc-le-zero h)
+  slots-rows (row {p = p} {q = q} g ls lt r) zero h =
+      let u : p + m * 0 ≡ p = ap (λ (x : ℕ). p + x) (mul-zero m) ∙ add-zero p in
+      let v : q ≡ q + n * 0 = sym (ap (λ (x : ℕ). q + x) (mul-zero n) ∙ add-zero q) in
+      ap (slotsOf s) u ∙ slots-agree g (omega arith) ∙ ap (slotsOf t) v
+  slots-rows (row {p = p} {q = q} g ls lt r) (suc b) h =
+      let u : p + m * suc b ≡ p + m + m * b = omega (arith, times m (suc b) b refl) in
+      let v : q + n + n * b ≡ q + n * suc b = omega (arith, times n (suc b) b refl) in
+      ap (slotsOf s) u ∙ slots-rows r b (omega arith) ∙ ap (slotsOf t) v

@@ -1,8 +1,8 @@
 -- A body's entry (document 01, "The table"), and bodies told apart by their codes. A request's 20 bytes per body are an entry's bytes 0 to 19.
-use Prim.Native.Nat.{ℕ, zero, suc, _+_, _*_, _-_}
-use mathlib.Core.Bool.{Bool, true, false, _&&_, cond}
-use mathlib.Core.List.{List, [], _∷_, _++_}
-use lib.ListN.{length, getD}
+use Prim.Native.Nat.{ℕ, zero, suc, _+_}
+use mathlib.Core.Bool.{Bool, true, _&&_, cond}
+use mathlib.Core.List.{List, [], _∷_}
+use lib.ListN.{getD}
 use Rattle.scan.specs.Bytes.{between, part, all, isAlnum, textIs}
 use Rattle.words.specs.Numbers.{be2, be4}
 use Rattle.ranges.specs.Ranges.{zeros, isNothing}

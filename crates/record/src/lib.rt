@@ -118,10 +118,12 @@ pub fn key_at(t: &[u8], at: usize) -> Key
     requires { ⌜ at + slotSize ≤ length (now t) ⌝ }
     ensures { λ k. ⌜ k ≡ keyOf (recordAt (now (t .entry)) at) ⌝ }
 {
+    let esercizio = words::read2(t, at + 4);
+    let number = words::read4(t, at + 8);
     Key {
         kind: wide(t[at]),
-        esercizio: words::read2(t, at + 4),
-        number: words::read4(t, at + 8),
+        esercizio,
+        number,
     }
 }
 

@@ -4,7 +4,6 @@ use mathlib.Core.List.{List}
 use mathlib.Core.Bool.{Bool, true, false}
 use mathlib.Core.Logic.{_⊎_, inl, inr}
 use Prim.Native.Nat.{ℕ, zero, suc, _+_, _-_, _*_, _≤_, _<_}
-use native.Mathlib.Nat.{not-suc-le-zero}
 use native.Mathlib.Omega.{arith}
 use lib.ListN.{length}
 use lib.Dec.{leb}
@@ -15,8 +14,8 @@ use Rattle.body.specs.Body.{bodyOk}
 use Rattle.entries.specs.Entry.{entrySize, codeAt, slotsOf, placeOf}
 use Rattle.entries.proofs.Laws.{Form, form}
 use Rattle.entries.proofs.Codes.{found-below, found-code, found-own, found-one}
-use Rattle.table.specs.Table.{headSize, bodies, entryOk, layoutOk, bodiesOk, tableOk, bodyOf, entryOf}
-use Rattle.table.proofs.Laws.{Entry, entry, lay-split, lay-own, lay-next, lay-room, lay-forms, bodies-split, Head, head, Table, table}
+use Rattle.table.specs.Table.{headSize, bodies, layoutOk, bodiesOk, tableOk, bodyOf, entryOf}
+use Rattle.table.proofs.Laws.{Entry, entry, lay-split, lay-own, lay-next, lay-room, bodies-split, table}
 
 below : (a b : ℕ) → a ≤ b → (a ≡ b → ⊥) → a < b
 below a b h n = go (leb (suc a) b) refl

@@ -1,6 +1,6 @@
 -- What is written into one body's slots leaves the head, the entries and every other body; the table stays valid where that body does.
 use mathlib.Core.Path.{_≡_, refl, sym, ap, _∙_}
-use mathlib.Core.List.{List, [], _∷_}
+use mathlib.Core.List.{List}
 use mathlib.Core.Bool.{Bool, true, false, _&&_}
 use mathlib.Core.Logic.{⊎-elim}
 use Prim.Native.Nat.{ℕ, zero, suc, _+_, _-_, _*_, _≤_, _<_}
@@ -9,21 +9,18 @@ use lib.ListN.{length}
 use lib.Dec.{eqb, leb}
 use borrow.Author.Tests.{eq-eqb, eqb-true, eqb-false}
 use Rattle.scan.specs.Bytes.{between, all, isDigit}
-use Rattle.words.specs.Numbers.{be2, be4, put}
+use Rattle.words.specs.Numbers.{put}
 use Rattle.words.proofs.Laws.{Agree, same2, same4, length-put}
 use Rattle.record.specs.Slot.{slotSize}
-use Rattle.record.specs.declared.Record.{Record}
 use Rattle.record.proofs.Back.{agree-before, agree-after}
-use Rattle.ranges.specs.Ranges.{zeros}
-use Rattle.ranges.specs.declared.Found.{Found}
 use Rattle.body.specs.Body.{recordsAt, bodyOk}
 use Rattle.body.proofs.Same.{records-agree, body-agree}
-use Rattle.entries.specs.Entry.{entrySize, requestSize, slotsOf, placeOf, formOk, formsOk, codesFrom, findCode, distinctCodes}
+use Rattle.entries.specs.Entry.{entrySize, requestSize, slotsOf, placeOf, codesFrom, findCode}
 use Rattle.entries.proofs.Same.{part-agree, zeros-agree, slots-agree, place-agree, form-agree, Rows, codes-rows}
 use Rattle.entries.proofs.Same.Rows.{none, row}
 use Rattle.table.specs.Table.{headSize, maxLength, bodies, abiOf, headOk, entryOk, layoutOk, bodiesOk, tableOk, codesOf, bodyOf, entryOf}
-use Rattle.table.proofs.Laws.{Entry, entry, lay-split, Head, head, Table, table}
-use Rattle.table.proofs.Bodies.{Body, body-at, apart}
+use Rattle.table.proofs.Laws.{entry, lay-split, head, table}
+use Rattle.table.proofs.Bodies.{body-at, apart}
 
 -- u has t's length, head and entries
 pub record Contents (u t : List ℕ) : Type 0 where
@@ -54,8 +51,8 @@ module _ {u t : List ℕ} (s : Contents u t) (ok : tableOk t ≡ true) where
       let a = same-abi in
       let z = zeros-agree (s .same 0 headSize (omega arith)) 13 16 (omega arith) 13 16 13 16 refl refl refl refl (omega arith) (omega arith) in
       λ i.
-          between headSize maxLength (l i)
-          && (between 1 16 (n i) && (eqb (f i) 1 && (eqb (g i) (l i) && (all isDigit (a i) && (z i && leb (headSize + entrySize * n i) (l i))))))
+      between headSize maxLength (l i)
+      && (between 1 16 (n i) && (eqb (f i) 1 && (eqb (g i) (l i) && (all isDigit (a i) && (z i && leb (headSize + entrySize * n i) (l i))))))
 
   entry-same : (at p : ℕ) → at + entrySize ≤ headSize + entrySize * bodies t → entryOk t at p ≡ true → entryOk u at p ≡ true
   unfolding entryOk
@@ -108,16 +105,22 @@ module _ {u t : List ℕ} (s : Contents u t) (ok : tableOk t ≡ true) where
       rw (place-agree a (omega arith), slots-agree a (omega arith), o)
       (bodies-same (at + entrySize) n (omega arith)
       (λ b l.
-          let q : at + entrySize + entrySize * b ≡ at + entrySize * suc b = omega arith in
-          ap (λ (k : ℕ). bodyOk u (placeOf t k) (slotsOf t k)) q ∙ f (suc b) (omega arith)))
+      let q : at + entrySize + entrySize * b ≡ at + entrySize * suc b = omega arith in
+      ap (λ (k : ℕ). bodyOk u (placeOf t k) (slotsOf t k)) q ∙ f (suc b) (omega arith)))
 
   -- valid where each body is
   pub same-table : ((b : ℕ) → b < bodies t → bodyOk u (placeOf t (entryOf b)) (slotsOf t (entryOf b)) ≡ true) → tableOk u ≡ true
   unfolding tableOk
   same-table f =
       let w = table t ok in
-      rw (same-head, w .head-ok, same-codes, w .distinct, same-bodies,
-      layout-same headSize (bodies t) (headSize + entrySize * bodies t) (omega arith) (w .layout))
+      rw (
+        same-head,
+        w .head-ok,
+        same-codes,
+        w .distinct,
+        same-bodies,
+        layout-same headSize (bodies t) (headSize + entrySize * bodies t) (omega arith) (w .layout),
+      )
       (bodies-same headSize (bodies t) (omega arith) f)
 
 -- A PUT INSIDE BODY b

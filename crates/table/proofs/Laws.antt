@@ -1,10 +1,10 @@
 -- Laws of the head, the entries and the layout: what the code of this crate goes by, and what a valid table tells.
-use mathlib.Core.Path.{_≡_, refl, sym, ap, _∙_}
-use mathlib.Core.List.{List, [], _∷_}
-use mathlib.Core.Bool.{Bool, true, false, cond, _&&_}
+use mathlib.Core.Path.{_≡_, refl, ap, _∙_}
+use mathlib.Core.List.{List}
+use mathlib.Core.Bool.{true, false, _&&_}
 use Prim.Native.Nat.{ℕ, zero, suc, _+_, _-_, _*_, _≤_, _<_}
 use native.Mathlib.Omega.{arith}
-use lib.ListN.{length, getD, take, drop}
+use lib.ListN.{length}
 use lib.Dec.{leb, eqb}
 use borrow.Author.Tests.{leb-true, eqb-true, le-leb, lt-leb, eq-eqb, ne-eqb}
 use Rattle.scan.specs.Bytes.{between, part, all, isDigit}
@@ -14,7 +14,6 @@ use Rattle.record.specs.Slot.{slotSize}
 use Rattle.ranges.specs.Ranges.{zeros}
 use Rattle.body.specs.Body.{bodyOk}
 use Rattle.entries.specs.Entry.{entrySize, slotsOf, placeOf, formOk, formsOk, codesFrom, distinctCodes}
-use Rattle.entries.proofs.Laws.{Form, form}
 use Rattle.table.specs.Table.{headSize, maxLength, bodies, abiOf, headOk, entryOk, layoutOk, bodiesOk, tableOk, codesOf}
 
 -- THE HEAD, a way out of the code at a time; n, v, l are the numbers read

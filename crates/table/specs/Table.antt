@@ -1,8 +1,8 @@
 -- The table (document 01, "The table"): "Contents first, then the bodies' records. Numbers have the highest byte first; the buffer has exactly the
 -- length that the head states, at most 65,536."
 use Prim.Native.Nat.{ℕ, zero, suc, _+_, _*_}
-use mathlib.Core.Bool.{Bool, true, false, _&&_, cond}
-use mathlib.Core.List.{List, [], _∷_}
+use mathlib.Core.Bool.{Bool, true, _&&_}
+use mathlib.Core.List.{List}
 use lib.ListN.{length}
 use lib.Dec.{eqb, leb}
 use Rattle.scan.specs.Bytes.{between, part, all, isDigit}
@@ -11,7 +11,7 @@ use Rattle.record.specs.Slot.{slotSize}
 use Rattle.ranges.specs.Ranges.{zeros}
 use Rattle.body.specs.Body.{bodyOk}
 use Rattle.ranges.specs.declared.Found.{Found}
-use Rattle.entries.specs.Entry.{entrySize, slotsOf, placeOf, formOk, formsOk, codesFrom, findCode, distinctCodes}
+use Rattle.entries.specs.Entry.{entrySize, slotsOf, placeOf, formOk, codesFrom, findCode, distinctCodes}
 
 -- "Head, 16 bytes"
 abbrev pub headSize : ℕ

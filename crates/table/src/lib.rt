@@ -2,11 +2,10 @@
 use ranges::Class;
 use ranges::Found;
 ghost use mathlib.Core.Path.{_≡_};
-ghost use mathlib.Core.Bool.{_&&_, true};
+ghost use mathlib.Core.Bool.{true};
 ghost use Prim.Native.Nat.{_+_, _*_, _≤_, _<_};
 ghost use lib.ListN.{length};
-ghost use Rattle.record.specs.Slot.{slotSize};
-ghost use Rattle.entries.specs.Entry.{entrySize, formsOk, codesFrom};
+ghost use Rattle.entries.specs.Entry.{entrySize};
 ghost use Rattle.table.specs.Table.{headSize, bodies, headOk, entryOk, layoutOk, bodiesOk, tableOk, bodyOf};
 
 pub const HEAD: usize = 16;

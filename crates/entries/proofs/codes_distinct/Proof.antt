@@ -1,10 +1,10 @@
-use Prim.Native.Nat.{_≤_, _<_, _-_, _+_, _*_}
+use Prim.Native.Nat.{_-_, _+_, _*_}
 use mathlib.Core.Path.{_≡_, refl, sym, _∙_}
-use mathlib.Core.Bool.{true, false}
+use mathlib.Core.Bool.{true}
 use native.Mathlib.Omega.{arith}
 use borrow.Author.Tests.{not-true, not-false}
 use Rattle.entries.specs.Entry.{formsOk, codesFrom, distinctCodes}
-use Rattle.entries.proofs.Laws.{times, Form, form, forms-split, distinct-not, distinct-on, distinct-done}
+use Rattle.entries.proofs.Laws.{times, form, forms-split, distinct-not, distinct-on, distinct-done}
 use Rattle.entries.proofs.codes_distinct.Statement.{statement}
 use Rattle.entries.proofs.codes_distinct.Tie as tie
 use Rattle.entries.proofs.codes_distinct.Reads as reads

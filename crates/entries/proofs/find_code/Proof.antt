@@ -1,10 +1,10 @@
-use Prim.Native.Nat.{_≤_, _<_, _-_, _+_, _*_}
+use Prim.Native.Nat.{_≤_, _-_, _+_, _*_}
 use mathlib.Core.Path.{_≡_, refl, sym, _∙_}
-use mathlib.Core.Bool.{true, false}
+use mathlib.Core.Bool.{true}
 use native.Mathlib.Nat.{sub-zero}
 use native.Mathlib.Omega.{arith}
 use Rattle.entries.specs.Entry.{formsOk, codesFrom, findCode}
-use Rattle.entries.proofs.Laws.{times, Form, form, forms-split, find-hit, find-on, find-done}
+use Rattle.entries.proofs.Laws.{times, form, forms-split, find-hit, find-on, find-done}
 use Rattle.entries.proofs.find_code.Statement.{statement}
 use Rattle.entries.proofs.find_code.Tie as tie
 use Rattle.entries.proofs.find_code.Reads as reads

@@ -1,5 +1,4 @@
-use mathlib.Core.Path.{_≡_, sym, _∙_}
-use mathlib.Core.Bool.{true, false}
+use mathlib.Core.Path.{sym, _∙_}
 use borrow.Author.Tests.{not-true, not-false}
 use Rattle.entries.proofs.Laws.{form-empty, form-long, form-code, form-pad, form-none, form-slots}
 use borrow.Author.Needs.{needs}

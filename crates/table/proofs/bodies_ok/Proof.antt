@@ -1,10 +1,9 @@
-use Prim.Native.Nat.{_≤_, _<_, _-_, _+_, _*_}
+use Prim.Native.Nat.{_<_, _-_, _+_, _*_}
 use mathlib.Core.Path.{_≡_, refl, sym, _∙_}
-use mathlib.Core.Bool.{true, false}
+use mathlib.Core.Bool.{true}
 use native.Mathlib.Omega.{arith}
 use borrow.Author.Tests.{not-true, not-false}
-use Rattle.record.specs.Slot.{slotSize}
-use Rattle.entries.specs.Entry.{entrySize, slotsOf, placeOf}
+use Rattle.entries.specs.Entry.{entrySize, placeOf}
 use Rattle.table.specs.Table.{headSize, layoutOk, bodiesOk}
 use Rattle.table.proofs.Laws.{lay-own, lay-next, lay-room, body-same, bodies-not, bodies-on, bodies-done}
 use Rattle.table.proofs.bodies_ok.Statement.{statement}

@@ -1,11 +1,9 @@
-use Prim.Native.Nat.{ℕ, _≤_, _<_, _-_, _+_, _*_}
-use mathlib.Core.Path.{_≡_, refl, sym, ap, _∙_}
-use mathlib.Core.Bool.{true}
+use Prim.Native.Nat.{ℕ, _-_}
+use mathlib.Core.Path.{ap, _∙_}
 use native.Mathlib.Omega.{arith}
-use lib.ListN.{length}
 use Rattle.entries.specs.Entry.{entrySize, codesFrom, findCode, formsOk}
-use Rattle.table.specs.Table.{headSize, bodies}
-use Rattle.table.proofs.Laws.{Head, head, Table, table}
+use Rattle.table.specs.Table.{headSize}
+use Rattle.table.proofs.Laws.{head, table}
 use Rattle.table.proofs.find_body.Statement.{statement}
 use Rattle.table.proofs.find_body.Tie as tie
 use Rattle.table.proofs.find_body.Reads as reads

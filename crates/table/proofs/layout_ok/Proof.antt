@@ -1,13 +1,12 @@
-use Prim.Native.Nat.{ℕ, _≤_, _<_, _-_, _+_, _*_}
+use Prim.Native.Nat.{ℕ, _≤_, _-_, _+_, _*_}
 use mathlib.Core.Path.{_≡_, refl, sym, ap, _∙_}
-use mathlib.Core.Bool.{true, false}
 use native.Mathlib.Omega.{arith}
 use borrow.Author.Tests.{not-true, not-false}
 use Rattle.record.specs.Slot.{slotSize}
-use Rattle.entries.specs.Entry.{entrySize, slotsOf}
-use Rattle.entries.proofs.Laws.{Form, form}
+use Rattle.entries.specs.Entry.{entrySize}
+use Rattle.entries.proofs.Laws.{form}
 use Rattle.table.specs.Table.{headSize, layoutOk}
-use Rattle.table.proofs.Laws.{Entry, entry, lay-not, lay-on, lay-done}
+use Rattle.table.proofs.Laws.{entry, lay-not, lay-on, lay-done}
 use Rattle.table.proofs.layout_ok.Statement.{statement}
 use Rattle.table.proofs.layout_ok.Tie as tie
 use Rattle.table.proofs.layout_ok.Reads as reads

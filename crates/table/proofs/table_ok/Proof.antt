@@ -1,12 +1,11 @@
-use Prim.Native.Nat.{ℕ, _≤_, _<_, _-_, _+_, _*_}
-use mathlib.Core.Path.{_≡_, refl, sym, ap, _∙_}
-use mathlib.Core.Bool.{true, false}
+use Prim.Native.Nat.{_-_, _+_, _*_}
+use mathlib.Core.Path.{_≡_, sym, _∙_}
+use mathlib.Core.Bool.{true}
 use native.Mathlib.Omega.{arith}
 use borrow.Author.Tests.{not-true, not-false}
-use lib.ListN.{length}
 use Rattle.entries.specs.Entry.{entrySize}
 use Rattle.table.specs.Table.{headSize, bodies, headOk, layoutOk}
-use Rattle.table.proofs.Laws.{Head, head, lay-forms, table-head, table-layout, table-codes, table-bodies}
+use Rattle.table.proofs.Laws.{head, lay-forms, table-head, table-layout, table-codes, table-bodies}
 use borrow.Author.Needs.{needs}
 use Rattle.table.proofs.table_ok.Statement.{statement}
 use Rattle.table.proofs.table_ok.Tie as tie

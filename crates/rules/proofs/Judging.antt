@@ -1,0 +1,184 @@
+-- What an accepted order and a moved line passed: the tests of `judgeOrder` and `judgeNotice`, read backwards.
+use Prim.Native.Nat.{ℕ, zero, suc, _-_, _≤_, _<_}
+use mathlib.Core.Bool.{Bool, true, false, _&&_, cond}
+use mathlib.Core.List.{List}
+use mathlib.Core.Path.{_≡_, refl, sym, ap, _∙_}
+use native.Mathlib.Omega.{arith}
+use lib.ListN.{length, getD}
+use lib.Dec.{eqb, leb, ltb}
+use borrow.Author.Tests.{ltb-true, eqb-false, leb-true}
+use Rattle.ranges.specs.declared.Found.{Found}
+use Rattle.ranges.specs.declared.Found.the-variants.{At, Nothing}
+use Rattle.fields.specs.declared.Operation.{Operation}
+use Rattle.fields.specs.declared.Operation.the-variants.{Inserimento, Variazione, Annullo, Sostituzione}
+use Rattle.order.specs.declared.Order.{Order}
+use Rattle.record.specs.declared.Record.{Record}
+use Rattle.record.specs.declared.Key.{Key}
+use Rattle.body.specs.Body.{findIn}
+use Rattle.body.proofs.Search.{found-below}
+use Rattle.rules.specs.declared.Situation.{Situation}
+use Rattle.rules.specs.declared.Situation.the-variants.{Absent, Annulled, Waiting, Executed}
+use Rattle.rules.specs.declared.Judged.{Judged}
+use Rattle.rules.specs.declared.Judged.the-variants.{Accepted, Refused}
+use Rattle.rules.specs.declared.Noticed.the-variants.{Moved, Unmoved}
+use Rattle.rules.specs.Rules.{linesOf, lineCode, anyExecuted, situationIn, situationOf, stepOf, sostituzione, keyFor, nth, noRecord, placed, unless, stepped, judgeOrder, sameOrder, lineMoves, moveOr, noticeIn, noticeAt, judgeNotice}
+
+-- two constructors are never equal
+abbrev clash : Type 0
+clash = _≡_ {A = ℕ} 0 1
+
+no : clash → ⊥
+no z = omega arith
+
+refused : {A : Type 0} {c i : ℕ} → Refused c ≡ Accepted i → A
+refused e = let z : clash = cc in absurd (no z)
+
+unmoved : {A : Type 0} {c i m : ℕ} → Unmoved c ≡ Moved i m → A
+unmoved e = let z : clash = cc in absurd (no z)
+
+-- AN ORDER'S RECORD
+
+there : (r : Record) → situationIn r ≡ Absent → ⊥
+unfolding situationIn
+there r e = go (eqb (r .state) 2) (anyExecuted (r .states)) e
+  where
+    go : (a b : Bool) → cond a Annulled (cond b Executed Waiting) ≡ Absent → ⊥
+    go true b e = let z : clash = cc in no z
+    go false true e = let z : clash = cc in no z
+    go false false e = let z : clash = cc in no z
+
+-- acquired, all lines waiting
+pub record Waits (r : Record) : Type 0 where
+  pub acquired : r .state ≡ 2 → ⊥
+  pub waits : anyExecuted (r .states) ≡ false
+
+waiting-in : (r : Record) → situationIn r ≡ Waiting → Waits r
+unfolding situationIn
+waiting-in r e = go (eqb (r .state) 2) (anyExecuted (r .states)) refl refl e
+  where
+    go : (a b : Bool) → eqb (r .state) 2 ≡ a → anyExecuted (r .states) ≡ b → cond a Annulled (cond b Executed Waiting) ≡ Waiting → Waits r
+    go true b p q e = let z : clash = cc in absurd (no z)
+    go false true p q e = let z : clash = cc in absurd (no z)
+    go false false p q e = record { acquired = eqb-false (r .state) 2 p; waits = q }
+
+-- THE STEP TABLE: a step of 0
+
+inserts : (s : Situation) → stepOf Inserimento s ≡ 0 → s ≡ Absent
+inserts Absent e = refl
+inserts Annulled e = absurd (omega arith)
+inserts Waiting e = absurd (omega arith)
+inserts Executed e = absurd (omega arith)
+
+varies : (s : Situation) → stepOf Variazione s ≡ 0 → s ≡ Waiting
+varies Absent e = absurd (omega arith)
+varies Annulled e = absurd (omega arith)
+varies Waiting e = refl
+varies Executed e = absurd (omega arith)
+
+annuls : (s : Situation) → stepOf Annullo s ≡ 0 → s ≡ Waiting
+annuls s e = varies s e
+
+-- AN ACCEPTED ORDER, of a body with so many slots and these records: it stands at i
+pub data Stands (slots year : ℕ) (o : Order) (rs : List Record) (i : ℕ) : Type 0 where
+  inserting : o .operation ≡ Inserimento → findIn rs 0 (keyFor year o) ≡ Nothing → i ≡ length rs → length rs < slots → Stands slots year o rs i
+  varying : o .operation ≡ Variazione → findIn rs 0 (keyFor year o) ≡ At i → Waits (nth rs i) → Stands slots year o rs i
+  annulling : o .operation ≡ Annullo → findIn rs 0 (keyFor year o) ≡ At i → Waits (nth rs i) → sameOrder o (nth rs i) ≡ true → Stands slots year o rs i
+
+unless-zero : (c : ℕ) (next : Judged) {i : ℕ} → unless c next ≡ Accepted i → (c ≡ 0) × (next ≡ Accepted i)
+unless-zero zero next e = (refl, e)
+unless-zero (suc c) next e = refused e
+
+module _ (slots year : ℕ) (o : Order) (rs : List Record) (i : ℕ) where
+  stand : (p : Operation) (f : Found) → o .operation ≡ p → findIn rs 0 (keyFor year o) ≡ f
+      → stepOf p (situationOf rs f) ≡ 0 → placed slots o rs p f ≡ Accepted i → Stands slots year o rs i
+  unfolding situationOf placed
+  stand Inserimento Nothing p f s e = go (ltb (length rs) slots) refl e
+    where
+      go : (b : Bool) → ltb (length rs) slots ≡ b → cond b (Accepted (length rs)) (Refused 15) ≡ Accepted i → Stands slots year o rs i
+      go true h e = let q : i ≡ length rs = cc in inserting p f q (ltb-true (length rs) slots h)
+      go false h e = refused e
+  stand Inserimento (At j) p f s e = absurd (there (nth rs j) (inserts (situationIn (nth rs j)) s))
+  stand Variazione Nothing p f s e = absurd (omega arith)
+  stand Variazione (At j) p f s e =
+      let q : j ≡ i = cc in
+      varying p (f ∙ ap At q) (waiting-in (nth rs i) (ap (λ (m : ℕ). situationIn (nth rs m)) (sym q) ∙ varies (situationIn (nth rs j)) s))
+  stand Annullo Nothing p f s e = absurd (omega arith)
+  stand Annullo (At j) p f s e = go (sameOrder o (nth rs j)) refl e
+    where
+      go : (b : Bool) → sameOrder o (nth rs j) ≡ b → cond b (Accepted j) (Refused 19) ≡ Accepted i → Stands slots year o rs i
+      go true h e =
+          let q : j ≡ i = cc in
+          annulling p (f ∙ ap At q) (waiting-in (nth rs i) (ap (λ (m : ℕ). situationIn (nth rs m)) (sym q) ∙ annuls (situationIn (nth rs j)) s))
+          (ap (λ (m : ℕ). sameOrder o (nth rs m)) (sym q) ∙ h)
+      go false h e = refused e
+  stand Sostituzione f p g s e = refused e
+
+  module _ (e : judgeOrder slots year o rs ≡ Accepted i) where
+    judged : (lineCode (linesOf (o .lines)) (o .total) ≡ 0) × (stepped slots o rs (findIn rs 0 (keyFor year o)) ≡ Accepted i)
+    unfolding judgeOrder
+    judged = unless-zero (lineCode (linesOf (o .lines)) (o .total)) _ (unless-zero (sostituzione (o .operation)) _ e .1)
+
+    pub accepted-lines : lineCode (linesOf (o .lines)) (o .total) ≡ 0
+    accepted-lines = judged .0
+
+    pub accepted : Stands slots year o rs i
+    unfolding stepped
+    accepted =
+        let s = unless-zero (stepOf (o .operation) (situationOf rs (findIn rs 0 (keyFor year o)))) _ (judged .1) in
+        stand (o .operation) (findIn rs 0 (keyFor year o)) refl refl (s .0) (s .1)
+
+    -- its slot is used already, or is the first empty one
+    pub accepted-within : i ≤ length rs
+    accepted-within = go accepted
+      where
+        go : Stands slots year o rs i → i ≤ length rs
+        go (inserting p f q l) = omega arith
+        go (varying p f w) = omega (arith, found-below rs (keyFor year o) i noRecord f)
+        go (annulling p f w s) = omega (arith, found-below rs (keyFor year o) i noRecord f)
+
+    pub accepted-slot : length rs ≤ slots → i < slots
+    accepted-slot h = go accepted
+      where
+        go : Stands slots year o rs i → i < slots
+        go (inserting p f q l) = omega arith
+        go (varying p f w) = omega (arith, found-below rs (keyFor year o) i noRecord f)
+        go (annulling p f w s) = omega (arith, found-below rs (keyFor year o) i noRecord f)
+
+-- A MOVED LINE
+pub record Moves (executing : Bool) (line : ℕ) (r : Record) (cents : ℕ) : Type 0 where
+  pub acquired : r .state ≡ 2 → ⊥
+  pub first : 1 ≤ line
+  pub last : line ≤ r .lines
+  pub moves : lineMoves executing (getD (r .states) (line - 1) 0) ≡ 0
+  pub amount : cents ≡ getD (r .amounts) (line - 1) 0
+
+move-zero : (c i m j n : ℕ) → moveOr c (Moved i m) ≡ Moved j n → (c ≡ 0) × (i ≡ j) × (m ≡ n)
+move-zero zero i m j n e = let p : i ≡ j = cc in let q : m ≡ n = cc in (refl, p, q)
+move-zero (suc c) i m j n e = unmoved e
+
+module _ (executing : Bool) (line i : ℕ) (r : Record) {j cents : ℕ} where
+  notice-moved : noticeIn executing line i r ≡ Moved j cents → (i ≡ j) × Moves executing line r cents
+  unfolding noticeIn
+  notice-moved e = go (eqb (r .state) 2) (leb 1 line) (leb line (r .lines)) refl refl refl e
+    where
+      go : (a b c : Bool) → eqb (r .state) 2 ≡ a → leb 1 line ≡ b → leb line (r .lines) ≡ c
+          → cond a (Unmoved 17) (cond (b && c) (moveOr (lineMoves executing (getD (r .states) (line - 1) 0)) (Moved i (getD (r .amounts) (line - 1) 0))) (Unmoved 20)) ≡ Moved j cents
+          → (i ≡ j) × Moves executing line r cents
+      go true b c p q s e = unmoved e
+      go false false c p q s e = unmoved e
+      go false true false p q s e = unmoved e
+      go false true true p q s e =
+          let m = move-zero (lineMoves executing (getD (r .states) (line - 1) 0)) i (getD (r .amounts) (line - 1) 0) j cents e in
+          (m .1, record { acquired = eqb-false (r .state) 2 p; first = leb-true 1 line q; last = leb-true line (r .lines) s; moves = m .0; amount = sym (m .2) })
+
+module _ (executing : Bool) (k : Key) (line : ℕ) (rs : List Record) (i cents : ℕ) where
+  at-found : (f : Found) → findIn rs 0 k ≡ f → noticeAt executing line rs f ≡ Moved i cents → (findIn rs 0 k ≡ At i) × Moves executing line (nth rs i) cents
+  unfolding noticeAt
+  at-found Nothing f e = unmoved e
+  at-found (At j) f e =
+      let m = notice-moved executing line j (nth rs j) e in
+      (f ∙ ap At (m .0), rw (m .0) at (m .1))
+
+  pub moved : judgeNotice executing k line rs ≡ Moved i cents → (findIn rs 0 k ≡ At i) × Moves executing line (nth rs i) cents
+  unfolding judgeNotice
+  moved e = at-found (findIn rs 0 k) refl e

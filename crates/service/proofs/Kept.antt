@@ -1,0 +1,168 @@
+-- What an order leaves: a table as long as it was, the same bytes outside the body's slots, and the body valid.
+use Prim.Native.Nat.{ℕ, suc, _+_, _-_, _*_, _≤_, _<_}
+use mathlib.Core.Bool.{true}
+use mathlib.Core.List.{List, [], _∷_, _++_}
+use mathlib.Core.Path.{_≡_, refl, sym, ap, _∙_}
+use native.Mathlib.Omega.{arith}
+use lib.ListN.{length, take, drop, drop-of-length-le}
+use lib.Seq.{set-split, take-all}
+use Rattle.words.specs.Numbers.{put}
+use Rattle.words.proofs.Laws.{Agree, length-put}
+use Rattle.ranges.specs.declared.Found.the-variants.{At}
+use Rattle.order.specs.declared.Order.{Order}
+use Rattle.record.specs.declared.Record.{Record}
+use Rattle.record.specs.Slot.{slotSize, recordAt, recordBytes, keyOf}
+use Rattle.record.proofs.Back.{agree-before, agree-after, length-record}
+use Rattle.body.specs.Body.{recordsAt, bodyOk, findIn}
+use Rattle.body.proofs.Puts.{records-set, keeps-ok, records-add, adds-ok}
+use Rattle.body.proofs.Search.{found-key}
+use Rattle.body.proofs.Slots.{length-records, valid-at}
+use Rattle.body.proofs.Valid.{Valid}
+use Rattle.rules.specs.declared.Judged.{Judged}
+use Rattle.rules.specs.declared.Judged.the-variants.{Accepted, Refused}
+use Rattle.rules.specs.Rules.{keyFor, nth, noRecord, judgeOrder, written}
+use Rattle.rules.proofs.Judging.{Stands, inserting, varying, annulling, accepted}
+use Rattle.rules.proofs.Kept.{Writable, written-valid, written-key}
+use Rattle.service.specs.Service.{orderComes, orderStored, orderLeaves, allLeave}
+use Rattle.service.proofs.Laws.{Held, held, search-held, order-low}
+
+-- a call on a body of n slots from base on left t′ of t
+pub record Kept (t t′ : List ℕ) (base n : ℕ) : Type 0 where
+  pub long : length t′ ≡ length t
+  pub before : (p m : ℕ) → p + m ≤ base → Agree t′ p t p m
+  pub after : (p m : ℕ) → base + slotSize * n ≤ p → Agree t′ p t p m
+  pub ok : bodyOk t′ base n ≡ true
+
+pub unchanged : (t : List ℕ) (base n : ℕ) → bodyOk t base n ≡ true → Kept t t base n
+unchanged t base n e = record { long = refl; before = λ p m h. record { same = λ i b. refl }; after = λ p m h. record { same = λ i b. refl }; ok = e }
+
+pub kept-on : {s t u : List ℕ} {base n : ℕ} → Kept s t base n → Kept t u base n → Kept s u base n
+kept-on a b = record {
+  long = b .long ∙ a .long;
+  before = λ p m h. record { same = λ i l. b .before p m h .same i l ∙ a .before p m h .same i l };
+  after = λ p m h. record { same = λ i l. b .after p m h .same i l ∙ a .after p m h .same i l };
+  ok = b .ok;
+}
+
+-- a body's slot is written
+pub slot-kept : (t : List ℕ) (base n i : ℕ) (v : List ℕ) → length v ≡ slotSize → i < n → base + slotSize * n ≤ length t
+    → bodyOk (put t (base + slotSize * i) v) base n ≡ true → Kept t (put t (base + slotSize * i) v) base n
+slot-kept t base n i v l h fits e = record {
+  long = length-put t (base + slotSize * i) v (omega arith);
+  before = λ p m k. agree-before t (base + slotSize * i) v p (omega arith) m (omega arith);
+  after = λ p m k. agree-after t (base + slotSize * i) v p (omega arith) m (omega arith);
+  ok = e;
+}
+
+-- THE RECORDS: a record in place of the one at i, or after the last
+abbrev pub storedAt : List Record → ℕ → Record → List Record
+storedAt rs i r = take i rs ++ r ∷ drop (suc i) rs
+
+stored-end : (rs : List Record) (i : ℕ) (r : Record) → i ≡ length rs → storedAt rs i r ≡ rs ++ r ∷ []
+stored-end rs i r e =
+    let a = take-all i rs (omega arith) in
+    let b = drop-of-length-le rs {i = suc i} (omega arith) in
+    λ k. a k ++ r ∷ b k
+
+-- the records that an order leaves
+abbrev pub recordsBy : ℕ → Order → List Record → Judged → List Record
+recordsBy year o rs (Accepted i) = storedAt rs i (written year o (nth rs i) (o .operation))
+recordsBy year o rs (Refused c) = rs
+
+module _ (t : List ℕ) (base n year : ℕ) (o : Order) (fits : base + slotSize * n ≤ length t) (ok : bodyOk t base n ≡ true) (w : Writable o) (y : (2000 ≤ year) × (year ≤ 2099)) where
+  abbrev rs : List Record
+  rs = recordsAt t base n
+
+  module _ (i : ℕ) (e : judgeOrder n year o rs ≡ Accepted i) (low : i < n) where
+    abbrev old : Record
+    old = recordAt t (base + slotSize * i)
+
+    abbrev new : Record
+    new = written year o old (o .operation)
+
+    abbrev after : List ℕ
+    after = put t (base + slotSize * i) (recordBytes new)
+
+    holds : i < length rs → old ≡ nth rs i
+    holds h = sym (held t base n i h .same)
+
+    valid : Valid new
+    valid = written-valid n year o rs i old e holds w y (λ h. valid-at t base n i ok (held t base n i h .used))
+
+    key : keyOf new ≡ keyFor year o
+    key = written-key n year o rs i old e holds
+
+    -- in place of its own record
+    module _ (f : findIn rs 0 (keyFor year o) ≡ At i) where
+      here : Held t base n i
+      here = search-held t base n (keyFor year o) refl f
+
+      replaced-ok : bodyOk after base n ≡ true
+      replaced-ok = keeps-ok t base n i new valid low fits (here .used) ok (key ∙ sym (ap keyOf (sym (here .same)) ∙ found-key rs (keyFor year o) i noRecord f))
+
+      replaced : recordsAt after base n ≡ storedAt rs i new
+      replaced = records-set t base n i new valid low fits (here .used) ∙ set-split rs i new (omega (arith, length-records t base n, here .used))
+
+      same-old : old ≡ nth rs i
+      same-old = sym (here .same)
+
+    stored-ok : Stands n year o rs i → bodyOk after base n ≡ true
+    stored-ok (inserting p f q l) = adds-ok t base n i new valid low fits (omega (arith, length-records t base n)) ok (ap (findIn rs 0) key ∙ f)
+    stored-ok (varying p f a) = replaced-ok f
+    stored-ok (annulling p f a s) = replaced-ok f
+
+    stored-records : Stands n year o rs i → recordsAt after base n ≡ recordsBy year o rs (Accepted i)
+    unfolding written
+    stored-records (inserting p f q l) =
+        records-add t base n i new valid low fits (omega (arith, length-records t base n)) ok ∙ sym (stored-end rs i new q)
+        ∙ ap (storedAt rs i) (rw p)
+    stored-records (varying p f a) = replaced f ∙ ap (λ (r : Record). storedAt rs i (written year o r (o .operation))) (same-old f)
+    stored-records (annulling p f a s) = replaced f ∙ ap (λ (r : Record). storedAt rs i (written year o r (o .operation))) (same-old f)
+
+    long : length (recordBytes new) ≡ slotSize
+    long = length-record new (valid .states) (valid .amounts)
+
+  kept-by : (j : Judged) → orderComes t base n year o ≡ j → Kept t (orderStored t base year o j) base n
+  unfolding orderComes orderStored
+  kept-by (Accepted i) e =
+      let low = order-low t base n year o i e in
+      slot-kept t base n i (recordBytes (new i e low)) (long i e low) low fits (stored-ok i e low (accepted n year o rs i e))
+  kept-by (Refused c) e = unchanged t base n ok
+
+  pub order-kept : Kept t (orderLeaves t base n year o) base n
+  order-kept = kept-by (orderComes t base n year o) refl
+
+  records-by : (j : Judged) → orderComes t base n year o ≡ j → recordsAt (orderStored t base year o j) base n ≡ recordsBy year o rs j
+  unfolding orderComes orderStored
+  records-by (Accepted i) e = let low = order-low t base n year o i e in stored-records i e low (accepted n year o rs i e)
+  records-by (Refused c) e = refl
+
+  pub order-records : recordsAt (orderLeaves t base n year o) base n ≡ recordsBy year o rs (judgeOrder n year o rs)
+  unfolding orderComes
+  order-records = records-by (orderComes t base n year o) refl
+
+-- ALL ORDERS OF A FLOW
+pub data Writables : List Order → Type 0 where
+  none : Writables []
+  more : {o : Order} {os : List Order} → Writable o → Writables os → Writables (o ∷ os)
+
+-- the records that they leave
+unfoldable pub allRecords : ℕ → ℕ → List Order → List Record → List Record
+allRecords slots year [] rs = rs
+allRecords slots year (o ∷ os) rs = allRecords slots year os (recordsBy year o rs (judgeOrder slots year o rs))
+
+pub all-kept : (t : List ℕ) (base n year : ℕ) (os : List Order) → base + slotSize * n ≤ length t → bodyOk t base n ≡ true → Writables os → (2000 ≤ year) × (year ≤ 2099)
+    → Kept t (allLeave t base n year os) base n
+unfolding allLeave
+all-kept t base n year [] fits ok none y = unchanged t base n ok
+all-kept t base n year (o ∷ os) fits ok (more w ws) y =
+    let k = order-kept t base n year o fits ok w y in
+    kept-on k (all-kept (orderLeaves t base n year o) base n year os (omega (arith, k .long)) (k .ok) ws y)
+
+pub all-records : (t : List ℕ) (base n year : ℕ) (os : List Order) → base + slotSize * n ≤ length t → bodyOk t base n ≡ true → Writables os → (2000 ≤ year) × (year ≤ 2099)
+    → recordsAt (allLeave t base n year os) base n ≡ allRecords n year os (recordsAt t base n)
+unfolding allLeave allRecords
+all-records t base n year [] fits ok none y = refl
+all-records t base n year (o ∷ os) fits ok (more w ws) y =
+    let k = order-kept t base n year o fits ok w y in
+    all-records (orderLeaves t base n year o) base n year os (omega (arith, k .long)) (k .ok) ws y ∙ ap (allRecords n year os) (order-records t base n year o fits ok w y)

@@ -1,0 +1,268 @@
+-- What a moved line leaves: one byte of its record's states, so that record with one state changed, and the body valid.
+use Prim.Native.Nat.{ℕ, zero, suc, _+_, _-_, _*_, _≤_, _<_}
+use mathlib.Core.Bool.{Bool, true, false, _&&_}
+use mathlib.Core.List.{List, [], _∷_}
+use mathlib.Core.Path.{_≡_, refl, sym, ap, _∙_}
+use native.Mathlib.Omega.{arith}
+use native.Mathlib.Nat.{add-zero}
+use lib.ListN.{length, getD, set, length-set}
+use lib.Seq.{ext-getD, getD-set-same, getD-set-other}
+use lib.Dec.{eqb, ltb}
+use borrow.Author.Tests.{eqb-true, eqb-false, ltb-true, ltb-false}
+use Rattle.words.specs.Numbers.{put}
+use Rattle.words.proofs.Laws.{Agree, on, at-it, same2, same4, same8, get-before, get-in, get-after, length-put}
+use Rattle.record.specs.declared.Record.{Record}
+use Rattle.record.specs.declared.Key.{Key}
+use Rattle.record.specs.Slot.{slotSize, eightAt, be8s, dateAt, recordAt, restZero, keyOf}
+use Rattle.record.proofs.Back.{same-record, agree-before, agree-after}
+use Rattle.body.specs.Body.{usedAt, slotsAt, recordsAt, recordOk, distinct, slotOk, bodyOk}
+use Rattle.body.proofs.Laws.{used-le, slot-rest}
+use Rattle.body.proofs.Same.{slot-ok-agree}
+use Rattle.body.proofs.Search.{distinct-set}
+use Rattle.body.proofs.Slots.{length-slots, get-slot, slots-each, each-slots, used-is, used-kind, used-empty, parts, together, valid-at}
+use Rattle.body.proofs.Valid.{Valid, ok-used, ok-bounds}
+use Rattle.body.proofs.Zeros.{zeros-get, get-zeros}
+use Rattle.scan.proofs.Laws.{both}
+use Rattle.rules.specs.declared.Noticed.{Noticed}
+use Rattle.rules.specs.declared.Noticed.the-variants.{Moved, Unmoved}
+use Rattle.rules.specs.Rules.{nth, judgeNotice, movedTo}
+use Rattle.rules.proofs.Judging.{Moves, moved}
+use Rattle.rules.proofs.Kept.{withState, moved-valid}
+use Rattle.service.specs.Service.{noticeComes, noticeStored, noticeLeaves, statePlace}
+use Rattle.service.proofs.Laws.{Held, search-held}
+use Rattle.service.proofs.Kept.{Kept, unchanged}
+
+-- THE BYTE OF A STATE
+
+eight-at : (t : List ℕ) (p j : ℕ) → j < 8 → getD (eightAt t p) j 0 ≡ getD t (p + j) 0
+eight-at t p zero h = ap (λ (x : ℕ). getD t x 0) (sym (add-zero p))
+eight-at t p (suc zero) h = refl
+eight-at t p (suc (suc zero)) h = refl
+eight-at t p (suc (suc (suc zero))) h = refl
+eight-at t p (suc (suc (suc (suc zero)))) h = refl
+eight-at t p (suc (suc (suc (suc (suc zero))))) h = refl
+eight-at t p (suc (suc (suc (suc (suc (suc zero)))))) h = refl
+eight-at t p (suc (suc (suc (suc (suc (suc (suc zero))))))) h = refl
+eight-at t p (suc (suc (suc (suc (suc (suc (suc (suc j)))))))) h = absurd (omega arith)
+
+module _ (t : List ℕ) (at k s : ℕ) (small : k < 8) (fits : at + slotSize ≤ length t) where
+  abbrev after : List ℕ
+  after = put t (at + 24 + k) (s ∷ [])
+
+  byte : (j : ℕ) → j < 8 → (x : Bool) → eqb j k ≡ x → getD after (at + 24 + j) 0 ≡ getD (set (eightAt t (at + 24)) k s) j 0
+  byte j h true q =
+      let e : j ≡ k = eqb-true j k q in
+      let z : at + 24 + j ≡ at + 24 + k + 0 = omega arith in
+      ap (λ (x : ℕ). getD after x 0) z ∙ get-in t (at + 24 + k) (s ∷ []) 0 (omega arith) (omega arith)
+      ∙ sym (ap (λ (x : ℕ). getD (set (eightAt t (at + 24)) k s) x 0) e ∙ getD-set-same (eightAt t (at + 24)) k s 0 small)
+  byte j h false q = other j (eqb-false j k q) ∙ sym (getD-set-other (eightAt t (at + 24)) k j s 0 (eqb-false j k q) ∙ eight-at t (at + 24) j h)
+    where
+      other : (x : ℕ) → (x ≡ k → ⊥) → getD after (at + 24 + x) 0 ≡ getD t (at + 24 + x) 0
+      other x ne = go (ltb x k) refl
+        where
+          go : (b : Bool) → ltb x k ≡ b → getD after (at + 24 + x) 0 ≡ getD t (at + 24 + x) 0
+          go true e = get-before t (at + 24 + k) (s ∷ []) (at + 24 + x) (omega (arith, ltb-true x k e)) (omega arith)
+          go false e = get-after t (at + 24 + k) (s ∷ []) (at + 24 + x) (omega (arith, ltb-false x k e)) (omega arith)
+
+  states-after : eightAt after (at + 24) ≡ set (eightAt t (at + 24)) k s
+  states-after =
+      ext-getD 0 (eightAt after (at + 24)) (set (eightAt t (at + 24)) k s) (sym (length-set (eightAt t (at + 24)) k s))
+      (λ j h. eight-at after (at + 24) j h ∙ byte j h (eqb j k) refl)
+
+  head-same : Agree after at t at 24
+  head-same = agree-before t (at + 24 + k) (s ∷ []) at (omega arith) 24 (omega arith)
+
+  tail-same : Agree after (at + 32) t (at + 32) 64
+  tail-same = agree-after t (at + 24 + k) (s ∷ []) (at + 32) (omega arith) 64 (omega arith)
+
+  date-same : dateAt after (at + 12) ≡ dateAt t (at + 12)
+  date-same = let g = on head-same 12 4 (omega arith) in cc (same2 g (omega arith), g .same 2 (omega arith), g .same 3 (omega arith))
+
+  amounts-same : be8s after (at + 32) ≡ be8s t (at + 32)
+  amounts-same =
+      let g = tail-same in
+      cc (
+        same8 g (omega arith),
+        same8 (on g 8 8 (omega arith)) (omega arith),
+        same8 (on g 16 8 (omega arith)) (omega arith),
+        same8 (on g 24 8 (omega arith)) (omega arith),
+        same8 (on g 32 8 (omega arith)) (omega arith),
+        same8 (on g 40 8 (omega arith)) (omega arith),
+        same8 (on g 48 8 (omega arith)) (omega arith),
+        same8 (on g 56 8 (omega arith)) (omega arith),
+      )
+
+  pub state-record : recordAt after at ≡ withState (recordAt t at) k s
+  unfolding recordAt
+  state-record =
+      let g = head-same in
+      cc (
+        at-it g (omega arith),
+        g .same 1 (omega arith),
+        g .same 2 (omega arith),
+        same2 (on g 4 2 (omega arith)) (omega arith),
+        same4 (on g 8 4 (omega arith)) (omega arith),
+        date-same,
+        same8 (on g 16 8 (omega arith)) (omega arith),
+        states-after,
+        amounts-same,
+      )
+
+  pub state-rest : restZero after at ≡ restZero t at
+  unfolding restZero
+  state-rest = let g = head-same in cc (g .same 3 (omega arith), same2 (on g 6 2 (omega arith)) (omega arith))
+
+-- A USED SLOT WITH ANOTHER RECORD OF THE SAME KEY: the body stays valid
+module _ (t t′ : List ℕ) (base n i : ℕ) (r : Record) (v : Valid r) (there : recordAt t′ (base + slotSize * i) ≡ r) (rest : restZero t′ (base + slotSize * i) ≡ true)
+    (other : (j : ℕ) → (j ≡ i → ⊥) → Agree t′ (base + slotSize * j) t (base + slotSize * j) slotSize) (h : i < usedAt t base n) (ok : bodyOk t base n ≡ true) where
+  abbrev u : ℕ
+  u = usedAt t base n
+
+  -- what holds of slot i and of every other one
+  each : (P : ℕ → Type 0) → P i → ((j : ℕ) → (j ≡ i → ⊥) → P j) → (j : ℕ) → P j
+  each P a b j = go (eqb j i) refl
+    where
+      go : (x : Bool) → eqb j i ≡ x → P j
+      go true e = rw (eqb-true j i e) a
+      go false e = b j (eqb-false j i e)
+
+  kind-there : getD t′ (base + slotSize * i) 0 ≡ 0 → ⊥
+  unfolding recordAt
+  kind-there z = ok-used r (v .ok) (sym (ap (λ (x : Record). x .kind) there) ∙ z)
+
+  used-same : usedAt t′ base n ≡ u
+  used-same =
+      used-is t′ base n u (used-le t base n)
+      (each (λ j. j < u → getD t′ (base + slotSize * j) 0 ≡ 0 → ⊥) (λ b. kind-there)
+      (λ j ne b z. used-kind t base n j b (sym (at-it (other j ne) (omega arith)) ∙ z)))
+      (λ b. at-it (other u (λ (q : u ≡ i). omega arith)) (omega arith) ∙ used-empty t base n u refl b)
+
+  slots-set : slotsAt t′ base u ≡ set (slotsAt t base u) i r
+  slots-set =
+      let l = length-slots t base u in
+      ext-getD r (slotsAt t′ base u) (set (slotsAt t base u) i r) (length-slots t′ base u ∙ sym (length-set (slotsAt t base u) i r ∙ l))
+      (λ j b.
+      let k : j < u = omega (arith, length-slots t′ base u) in
+      get-slot t′ base u j r k
+      ∙ each (λ x. x < u → recordAt t′ (base + slotSize * x) ≡ getD (set (slotsAt t base u) i r) x r)
+      (λ c. there ∙ sym (getD-set-same (slotsAt t base u) i r r (omega arith)))
+      (λ x ne c. same-record (other x ne) ∙ sym (getD-set-other (slotsAt t base u) i x r r ne ∙ get-slot t base u x r c))
+      j k)
+
+  slot-there : slotOk t′ (base + slotSize * i) ≡ true
+  slot-there = slot-rest t′ (base + slotSize * i) ∙ (λ k. rest k && (ap recordOk there ∙ v .ok) k)
+
+  pub changed-records : recordsAt t′ base n ≡ set (recordsAt t base n) i r
+  changed-records = ap (slotsAt t′ base) used-same ∙ slots-set
+
+  pub changed-ok : keyOf r ≡ keyOf (recordAt t (base + slotSize * i)) → ((x : ℕ) → base + slotSize * u ≤ x → getD t′ x 0 ≡ getD t x 0) → bodyOk t′ base n ≡ true
+  changed-ok k past =
+      let p = parts t base n ok in
+      together t′ base n u used-same
+      (each-slots t′ base u
+      (each (λ j. j < u → slotOk t′ (base + slotSize * j) ≡ true) (λ b. slot-there)
+      (λ j ne b. slot-ok-agree (other j ne) ∙ slots-each t base u (p .slots) j b)))
+      (get-zeros t′ (base + slotSize * u) (base + slotSize * n) (λ x b c. past x b ∙ zeros-get t (base + slotSize * u) (base + slotSize * n) (p .empty) x b c))
+      (ap distinct slots-set ∙ distinct-set (slotsAt t base u) i r r (k ∙ ap keyOf (sym (get-slot t base u i r h))) ∙ p .keys)
+
+-- the bytes of a used slot that hold nothing
+rest-of : (t : List ℕ) (base n i : ℕ) → bodyOk t base n ≡ true → i < usedAt t base n → restZero t (base + slotSize * i) ≡ true
+rest-of t base n i ok h =
+    both (restZero t (base + slotSize * i)) _ (sym (slot-rest t (base + slotSize * i)) ∙ slots-each t base (usedAt t base n) (parts t base n ok .slots) i h) .0
+
+-- A NOTICE
+
+-- the records that it leaves
+abbrev pub recordsMoved : Bool → ℕ → List Record → Noticed → List Record
+recordsMoved executing line rs (Moved i cents) = set rs i (withState (nth rs i) (line - 1) (movedTo executing))
+recordsMoved executing line rs (Unmoved c) = rs
+
+moved-state : (executing : Bool) → (1 ≤ movedTo executing) × (movedTo executing ≤ 2)
+moved-state true = (omega arith, omega arith)
+moved-state false = (omega arith, omega arith)
+
+module _ (t : List ℕ) (base n : ℕ) (executing : Bool) (k : Key) (line : ℕ) (fits : base + slotSize * n ≤ length t) (ok : bodyOk t base n ≡ true) where
+  module _ (i cents : ℕ) (e : judgeNotice executing k line (recordsAt t base n) ≡ Moved i cents) where
+    abbrev s : ℕ
+    s = movedTo executing
+
+    abbrev old : Record
+    old = recordAt t (base + slotSize * i)
+
+    abbrev new : Record
+    new = withState old (line - 1) s
+
+    abbrev left : List ℕ
+    left = put t (statePlace base i line) (s ∷ [])
+
+    moves : Moves executing line (nth (recordsAt t base n) i) cents
+    moves = moved executing k line (recordsAt t base n) i cents e .1
+
+    here : Held t base n i
+    here = search-held t base n k refl (moved executing k line (recordsAt t base n) i cents e .0)
+
+    same-lines : nth (recordsAt t base n) i .lines ≡ old .lines
+    same-lines = ap (λ (x : Record). x .lines) (here .same)
+
+    old-valid : Valid old
+    old-valid = valid-at t base n i ok (here .used)
+
+    below : line - 1 < 8
+    below = omega (arith, moves .first, moves .last, same-lines, ok-bounds old (old-valid .ok) .lines)
+
+    new-valid : Valid new
+    new-valid =
+        moved-valid old (line - 1) s old-valid (λ q. moves .acquired (ap (λ (x : Record). x .state) (here .same) ∙ q))
+        (omega (arith, moves .first, moves .last, same-lines)) (moved-state executing)
+
+    slot-fits : base + slotSize * i + slotSize ≤ length t
+    slot-fits = omega (arith, here .low)
+
+    others : (j : ℕ) → (j ≡ i → ⊥) → Agree left (base + slotSize * j) t (base + slotSize * j) slotSize
+    others j ne = go (ltb j i) refl
+      where
+        go : (b : Bool) → ltb j i ≡ b → Agree left (base + slotSize * j) t (base + slotSize * j) slotSize
+        go true q = agree-before t (statePlace base i line) (s ∷ []) (base + slotSize * j) (omega (arith, below, slot-fits)) slotSize (omega (arith, ltb-true j i q))
+        go false q =
+            agree-after t (statePlace base i line) (s ∷ []) (base + slotSize * j) (omega (arith, below, slot-fits)) slotSize (omega (arith, ltb-false j i q, below))
+
+    new-there : recordAt left (base + slotSize * i) ≡ new
+    new-there = state-record t (base + slotSize * i) (line - 1) s below slot-fits
+
+    new-rest : restZero left (base + slotSize * i) ≡ true
+    new-rest = state-rest t (base + slotSize * i) (line - 1) s below slot-fits ∙ rest-of t base n i ok (here .used)
+
+    left-ok : bodyOk left base n ≡ true
+    left-ok =
+        changed-ok t left base n i new new-valid new-there new-rest others (here .used) ok refl
+        (λ x b. get-after t (statePlace base i line) (s ∷ []) x (omega (arith, below, here .used)) (omega (arith, below, slot-fits)))
+
+    left-records : recordsAt left base n ≡ recordsMoved executing line (recordsAt t base n) (Moved i cents)
+    left-records =
+        changed-records t left base n i new new-valid new-there new-rest others (here .used) ok
+        ∙ ap (λ (x : Record). set (recordsAt t base n) i (withState x (line - 1) s)) (sym (here .same))
+
+    left-kept : Kept t left base n
+    left-kept = record {
+      long = length-put t (statePlace base i line) (s ∷ []) (omega (arith, below, slot-fits));
+      before = λ p m h. agree-before t (statePlace base i line) (s ∷ []) p (omega (arith, below, slot-fits)) m (omega arith);
+      after = λ p m h. agree-after t (statePlace base i line) (s ∷ []) p (omega (arith, below, slot-fits)) m (omega (arith, below, here .low));
+      ok = left-ok;
+    }
+
+  kept-by : (m : Noticed) → noticeComes t base n executing k line ≡ m → Kept t (noticeStored t base executing line m) base n
+  unfolding noticeComes noticeStored
+  kept-by (Moved i cents) e = left-kept i cents e
+  kept-by (Unmoved c) e = unchanged t base n ok
+
+  pub notice-kept : Kept t (noticeLeaves t base n executing k line) base n
+  notice-kept = kept-by (noticeComes t base n executing k line) refl
+
+  records-by : (m : Noticed) → noticeComes t base n executing k line ≡ m → recordsAt (noticeStored t base executing line m) base n ≡ recordsMoved executing line (recordsAt t base n) m
+  unfolding noticeComes noticeStored
+  records-by (Moved i cents) e = left-records i cents e
+  records-by (Unmoved c) e = refl
+
+  pub notice-records : recordsAt (noticeLeaves t base n executing k line) base n ≡ recordsMoved executing line (recordsAt t base n) (judgeNotice executing k line (recordsAt t base n))
+  unfolding noticeComes
+  notice-records = records-by (noticeComes t base n executing k line) refl
