@@ -1,0 +1,88 @@
+-- Notices and totals (document 01, "Answers"): which body a call names, what it answers, and every byte it leaves.
+use Prim.Native.Nat.{ℕ, zero, suc, _+_}
+use lib.IntN.{ℤ, pos, _-ℤ_}
+use mathlib.Core.Bool.{Bool, true, false, cond}
+use mathlib.Core.List.{List}
+use Rattle.ranges.specs.declared.Found.{Found}
+use Rattle.ranges.specs.declared.Found.the-variants.{At, Nothing}
+use Rattle.record.specs.declared.Key.{Key}
+use Rattle.body.specs.Body.{recordsAt, usedAt, centsOf}
+use Rattle.entries.specs.Entry.{slotsOf, placeOf}
+use Rattle.table.specs.Table.{tableOk, bodyOf, entryOf}
+use Rattle.rules.specs.declared.Noticed.{Noticed}
+use Rattle.rules.specs.declared.Noticed.the-variants.{Moved, Unmoved}
+use Rattle.service.specs.Service.{noticeComes, noticeLeaves}
+use Rattle.notices.specs.declared.Addressed.{Addressed}
+use Rattle.notices.specs.declared.Addressed.the-variants.{Invalid, Unknown, Body}
+use Rattle.notices.specs.declared.NoticeAnswer.{NoticeAnswer}
+use Rattle.notices.specs.declared.NoticeAnswer.the-variants.{InvalidTable, UnknownBody, Done, Declined}
+use Rattle.notices.specs.declared.TotalsAnswer.{TotalsAnswer}
+
+-- WHICH BODY A CALL NAMES: "1 the table isn't valid", "7 no body has this code"
+
+-- a body of the table: where its slots begin, and how many they are
+abbrev pub bodyAt : List ℕ → Found → Addressed
+bodyAt t (At b) = Body (placeOf t (entryOf b)) (slotsOf t (entryOf b))
+bodyAt t Nothing = Unknown
+
+unfoldable pub addressed : List ℕ → List ℕ → Addressed
+addressed t code = cond (tableOk t) (bodyAt t (bodyOf t code)) Invalid
+
+-- A NOTICE: "A notice names body code, kind, esercizio, number, line"
+
+abbrev pub noticed : Noticed → NoticeAnswer
+noticed (Moved i cents) = Done cents
+noticed (Unmoved c) = Declined c
+
+unfoldable pub noticeBy : List ℕ → Bool → Key → ℕ → Addressed → NoticeAnswer
+noticeBy t executing k line Invalid = InvalidTable
+noticeBy t executing k line Unknown = UnknownBody
+noticeBy t executing k line (Body base n) = noticed (noticeComes t base n executing k line)
+
+unfoldable pub noticeTableBy : List ℕ → Bool → Key → ℕ → Addressed → List ℕ
+noticeTableBy t executing k line Invalid = t
+noticeTableBy t executing k line Unknown = t
+noticeTableBy t executing k line (Body base n) = noticeLeaves t base n executing k line
+
+-- what a notice of execution (true) or reversal (false) answers, and the table afterwards
+abbrev pub noticeAnswer : List ℕ → Bool → List ℕ → Key → ℕ → NoticeAnswer
+noticeAnswer t executing code k line = noticeBy t executing k line (addressed t code)
+
+abbrev pub noticeTable : List ℕ → Bool → List ℕ → Key → ℕ → List ℕ
+noticeTable t executing code k line = noticeTableBy t executing k line (addressed t code)
+
+-- document 01's code and cents: "cents 0 on refusal"
+abbrev pub noticeCodeOf : NoticeAnswer → ℕ
+noticeCodeOf InvalidTable = 1
+noticeCodeOf UnknownBody = 7
+noticeCodeOf (Done cents) = 0
+noticeCodeOf (Declined c) = c
+
+abbrev pub noticeCentsOf : NoticeAnswer → ℕ
+noticeCentsOf InvalidTable = 0
+noticeCentsOf UnknownBody = 0
+noticeCentsOf (Done cents) = cents
+noticeCentsOf (Declined c) = 0
+
+-- TOTALS: "Totals name a body: code (0, 1, 7), used slots, cents paid (executed mandato lines), cents collected (executed reversale lines), and the
+-- balance, collected less paid, which may be below zero. A refusal gives zeros."
+abbrev pub zeroTotals : ℕ → TotalsAnswer
+zeroTotals c = record { code = c; used = 0; paid = 0; collected = 0; balance = pos 0 }
+
+-- of a body of n slots from base on
+unfoldable pub bodyTotals : List ℕ → ℕ → ℕ → TotalsAnswer
+bodyTotals t base n = record {
+  code = 0;
+  used = usedAt t base n;
+  paid = centsOf 1 (recordsAt t base n);
+  collected = centsOf 2 (recordsAt t base n);
+  balance = pos (centsOf 2 (recordsAt t base n)) -ℤ pos (centsOf 1 (recordsAt t base n));
+}
+
+abbrev pub totalsBy : List ℕ → Addressed → TotalsAnswer
+totalsBy t Invalid = zeroTotals 1
+totalsBy t Unknown = zeroTotals 7
+totalsBy t (Body base n) = bodyTotals t base n
+
+unfoldable pub totalsOf : List ℕ → List ℕ → TotalsAnswer
+totalsOf t code = totalsBy t (addressed t code)

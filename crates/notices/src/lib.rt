@@ -1,0 +1,175 @@
+// The bank's notices of execution and reversal, and a body's totals, on any bytes at all.
+use ranges::Found;
+use record::Key;
+use rules::Noticed;
+ghost use mathlib.Core.Path.{_≡_};
+ghost use mathlib.Core.Bool.{true, false};
+ghost use Prim.Native.Nat.{ℕ, _+_, _*_, _≤_, _<_};
+ghost use lib.IntN.{pos, _-ℤ_};
+ghost use lib.ListN.{length};
+ghost use Rattle.record.specs.Slot.{slotSize};
+ghost use Rattle.body.specs.Body.{bodyOk};
+ghost use Rattle.notices.specs.Notices.{addressed, noticed, noticeAnswer, noticeTable, zeroTotals, bodyTotals, totalsOf};
+
+// The body that a code names: where its slots begin and how many they are.
+pub enum Addressed {
+    Invalid,
+    Unknown,
+    Body(usize, usize),
+}
+
+// What a notice's call answers.
+pub enum NoticeAnswer {
+    InvalidTable,
+    UnknownBody,
+    Done(u64),
+    Declined(u8),
+}
+
+// What a totals call answers.
+pub struct TotalsAnswer {
+    pub code: u64,
+    pub used: u64,
+    pub paid: u64,
+    pub collected: u64,
+    pub balance: i64,
+}
+
+// The body of a table that a code names.
+pub fn addressed_by(t: &[u8], code: &[u8]) -> Addressed
+    ensures { λ r. ⌜ r ≡ addressed (now (t .entry)) (now (code .entry)) ⌝ }
+{
+    if !table::table_ok(t) {
+        return Addressed::Invalid;
+    }
+    match table::find_body(t, code) {
+        Found::At(b) => {
+            let e = table::HEAD + entries::ENTRY * b;
+            Addressed::Body(entries::place_of(t, e), entries::slots_of(t, e))
+        }
+        Found::Nothing => Addressed::Unknown,
+    }
+}
+
+fn answer_of(n: Noticed) -> NoticeAnswer
+    ensures { λ r. ⌜ r ≡ noticed n ⌝ }
+{
+    match n {
+        Noticed::Moved(_, cents) => NoticeAnswer::Done(cents),
+        Noticed::Unmoved(c) => NoticeAnswer::Declined(c),
+    }
+}
+
+fn notice(t: &mut [u8], code: &[u8], executing: bool, key: Key, line: u64) -> NoticeAnswer
+    ensures { λ r. ⌜ (r ≡ noticeAnswer (now (t .entry)) executing (now (code .entry)) key line) × (now (t .exit) ≡ noticeTable (now (t .entry)) executing (now (code .entry)) key line) ⌝ }
+{
+    match addressed_by(t, code) {
+        Addressed::Invalid => NoticeAnswer::InvalidTable,
+        Addressed::Unknown => NoticeAnswer::UnknownBody,
+        Addressed::Body(base, n) => answer_of(service::serve_notice(
+            t,
+            base,
+            n,
+            executing,
+            key,
+            line,
+        )),
+    }
+}
+
+// Takes the bank's notice that a line was executed.
+pub fn execute(
+    t: &mut [u8],
+    code: &[u8],
+    kind: u64,
+    esercizio: u64,
+    number: u64,
+    line: u64,
+) -> NoticeAnswer
+    ensures { λ r. ⌜ (r ≡ noticeAnswer (now (t .entry)) true (now (code .entry)) (record { kind = kind; esercizio = esercizio; number = number }) line) × (now (t .exit) ≡ noticeTable (now (t .entry)) true (now (code .entry)) (record { kind = kind; esercizio = esercizio; number = number }) line) ⌝ }
+{
+    notice(
+        t,
+        code,
+        true,
+        Key {
+            kind,
+            esercizio,
+            number,
+        },
+        line,
+    )
+}
+
+// Takes the bank's notice that a line's execution was reversed (storno).
+pub fn reverse(
+    t: &mut [u8],
+    code: &[u8],
+    kind: u64,
+    esercizio: u64,
+    number: u64,
+    line: u64,
+) -> NoticeAnswer
+    ensures { λ r. ⌜ (r ≡ noticeAnswer (now (t .entry)) false (now (code .entry)) (record { kind = kind; esercizio = esercizio; number = number }) line) × (now (t .exit) ≡ noticeTable (now (t .entry)) false (now (code .entry)) (record { kind = kind; esercizio = esercizio; number = number }) line) ⌝ }
+{
+    notice(
+        t,
+        code,
+        false,
+        Key {
+            kind,
+            esercizio,
+            number,
+        },
+        line,
+    )
+}
+
+fn no_totals(code: u64) -> TotalsAnswer
+    ensures { λ r. ⌜ r ≡ zeroTotals code ⌝ }
+{
+    TotalsAnswer {
+        code,
+        used: 0,
+        paid: 0,
+        collected: 0,
+        balance: 0,
+    }
+}
+
+// The first number less the second, which may be below zero.
+fn difference(a: u64, b: u64) -> i64
+    requires { ⌜ (a ≤ 51199999999488) × (b ≤ 51199999999488) ⌝ }
+    ensures { λ r. ⌜ r ≡ pos a -ℤ pos b ⌝ }
+{
+    (a as i64) - (b as i64)
+}
+
+// The totals of a valid body.
+fn body_totals(t: &[u8], base: usize, n: usize) -> TotalsAnswer
+    requires { ⌜ (base + slotSize * n ≤ length (now t)) × (n ≤ 512) × (bodyOk (now t) base n ≡ true) ⌝ }
+    ensures { λ r. ⌜ r ≡ bodyTotals (now (t .entry)) base n ⌝ }
+{
+    let used = body::used_slots(t, base, n) as u64;
+    let paid = body::cents_of(t, base, n, 1);
+    let collected = body::cents_of(t, base, n, 2);
+    let balance = difference(collected, paid);
+    TotalsAnswer {
+        code: 0,
+        used,
+        paid,
+        collected,
+        balance,
+    }
+}
+
+// A body's totals: used slots, cents paid and collected, and the balance, which may be below zero.
+pub fn totals(t: &[u8], code: &[u8]) -> TotalsAnswer
+    ensures { λ r. ⌜ r ≡ totalsOf (now (t .entry)) (now (code .entry)) ⌝ }
+{
+    match addressed_by(t, code) {
+        Addressed::Invalid => no_totals(1),
+        Addressed::Unknown => no_totals(7),
+        Addressed::Body(base, n) => body_totals(t, base, n),
+    }
+}
