@@ -73,7 +73,7 @@ fn width(s: &[u8], i: usize, e: usize) -> usize
 
 // Writes what the column from a up to e stands for into out, as far as it has room: how many bytes that is.
 pub fn unescape(s: &[u8], a: usize, e: usize, out: &mut [u8]) -> usize
-    requires { ⌜ (a ≤ e) × (e ≤ length (now s)) × (length (now s) ≤ 65536) ⌝ }
+    requires { ⌜ (a ≤ e) × (e ≤ length (now s)) × (length (now s) ≤ 1000000) ⌝ }
     ensures { λ r. ⌜ Counts r (now (out .exit)) ⌝ }
 {
     let mut i = a;
