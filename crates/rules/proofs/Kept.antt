@@ -30,7 +30,7 @@ within lo hi b h = rw (le-leb lo b (h .0), le-leb b hi (h .1))
 
 -- A LINE, counted from 0
 
-split : (k n : ℕ) {A : Type 0} → (k < n → A) → (n ≤ k → A) → A
+pub split : (k n : ℕ) {A : Type 0} → (k < n → A) → (n ≤ k → A) → A
 split k n {A} f g = go (ltb k n) refl
   where
     go : (b : Bool) → ltb k n ≡ b → A

@@ -1,12 +1,10 @@
 -- What a body's calls answer and leave rests on its own slots alone: where these agree, so do the answers, the outcomes and the slots afterwards.
 use Prim.Native.Nat.{ℕ, _+_, _-_, _*_, _≤_, _<_}
-use mathlib.Core.Bool.{Bool, true, false}
+use mathlib.Core.Bool.{Bool, true}
 use mathlib.Core.List.{List, [], _∷_, _++_}
 use mathlib.Core.Path.{_≡_, refl, sym, ap, _∙_}
 use native.Mathlib.Omega.{arith}
 use lib.ListN.{length, getD}
-use lib.Dec.{ltb}
-use borrow.Author.Tests.{ltb-true, ltb-false}
 use Rattle.words.specs.Numbers.{put}
 use Rattle.words.proofs.Laws.{Agree, on, get-before, get-in, get-after}
 use Rattle.order.specs.declared.Order.{Order}
@@ -20,16 +18,10 @@ use Rattle.rules.specs.declared.Judged.the-variants.{Accepted, Refused}
 use Rattle.rules.specs.declared.Noticed.{Noticed}
 use Rattle.rules.specs.declared.Noticed.the-variants.{Moved, Unmoved}
 use Rattle.rules.specs.Rules.{judgeOrder, codeOf, written, judgeNotice, movedTo}
+use Rattle.rules.proofs.Kept.{split}
 use Rattle.service.proofs.Laws.{order-low, notice-line}
 use Rattle.service.proofs.Kept.{Writables, none, more, order-kept}
 use Rattle.service.specs.Service.{orderComes, orderStored, orderLeaves, outcomeBytes, one, allLeave, allOutcomes, allAccepted, noticeComes, noticeStored, noticeLeaves}
-
-split : (k n : ℕ) {A : Type 0} → (k < n → A) → (n ≤ k → A) → A
-split k n {A} f g = go (ltb k n) refl
-  where
-    go : (b : Bool) → ltb k n ≡ b → A
-    go true e = f (ltb-true k n e)
-    go false e = g (ltb-false k n e)
 
 -- the same bytes put at the same place
 pub put-agree : {s t : List ℕ} {p q m : ℕ} → Agree s p t q m → (k : ℕ) (v : List ℕ) → p + k ≤ length s → q + k ≤ length t → Agree (put s (p + k) v) p (put t (q + k) v) q m

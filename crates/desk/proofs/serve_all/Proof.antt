@@ -1,0 +1,132 @@
+use mathlib.Core.Path.{_≡_, sym, _∙_}
+use Prim.Native.Nat.{_-_}
+use native.Mathlib.Omega.{arith}
+use borrow.Author.Needs.{needs}
+use lib.ListN.{length}
+use Rattle.children.specs.declared.Parent.the-variants.{FlussoOrdinativi}
+use Rattle.children.specs.declared.Next.the-variants.{Named}
+use Rattle.children.specs.Kept.{keptFrom, nextOf}
+use Rattle.orders.specs.Orders.{inRow}
+use Rattle.desk.proofs.Laws.{Serving, serving-start, serving-end, serving-order, serving-room, serving-step}
+use Rattle.desk.proofs.serve_all.Statement.{statement}
+use Rattle.desk.proofs.serve_all.Tie as tie
+
+abbrev Inv-loop : tie.InvT-loop
+Inv-loop t₀ f from base n year out₀ past i₀ to₀ accepted₀ t out i to accepted = Serving f past base n year t₀ out₀ from t out i to accepted
+
+abbrev μ-loop : tie.MeasureT-loop
+μ-loop t₀ f from base n year out₀ past i₀ to₀ accepted₀ t out i to accepted = length f - i
+
+loop-holds : tie.Need-loop-holds Inv-loop μ-loop
+loop-holds c =
+    let a = c .before .before .before .before .args in
+    serving-start (a .f .now) (a .past .now) (a .base) (a .n) (a .year) (a .t .now) (a .out .now) (a .from) (c .before .before .before .before .pre .1) (c .before .before .before .before .pre .0) (c .before .before .before .before .pre .2)
+
+next-row-requires : tie.Need-next-row-requires Inv-loop μ-loop
+next-row-requires c κs = (c .loop .inv .rooted .within, c .loop .inv .rooted .noted)
+
+enum-known-k : tie.Need-enum-known-k Inv-loop μ-loop
+enum-known-k c = search needs
+
+enum-told : tie.Need-enum-told Inv-loop μ-loop
+enum-told c = search needs
+
+same-length : tie.Need-same-length Inv-loop μ-loop
+same-length c = c .before .before .before .loop .inv .same-table
+
+same-length-2 : tie.Need-same-length-2 Inv-loop μ-loop
+same-length-2 c = c .before .before .before .loop .inv .same-out
+
+returns : tie.Need-returns Inv-loop μ-loop
+returns c =
+    let a = c .before .before .before .before .before .before .before .before .args in
+    serving-end (a .f .now) (a .past .now) (a .base) (a .n) (a .year) (a .t .now) (a .out .now) (a .from) _ _ _ _ _ (c .before .before .before .loop .inv) (sym (c .before .before .next-row .ensures) ∙ c .enum-told .given .1)
+
+order-of-requires : tie.Need-order-of-requires Inv-loop μ-loop
+order-of-requires c κs =
+    let a = c .before .before .before .before .before .before .before .before .before .before .args in
+    let s = c .before .before .before .before .before .loop .inv in
+    let k = c .before .before .k .given .0 .0 in
+    let e : nextOf (inRow 5 (keptFrom FlussoOrdinativi (a .f .now) (c .before .before .before .before .before .loop .i))) ≡ Named k = sym (c .before .before .before .before .next-row .ensures) ∙ c .before .before .k .given .1 in
+    (serving-order (a .f .now) (a .past .now) (a .base) (a .n) (a .year) (a .t .now) (a .out .now) (a .from) _ _ _ _ _ s k e .shaped, s .rooted .noted)
+
+serve-order-requires : tie.Need-serve-order-requires Inv-loop μ-loop
+serve-order-requires c κs = (c .before .before .before .before .before .before .before .loop .inv .slots, c .before .order-of .ensures .1)
+
+code-of-requires : tie.Need-code-of-requires Inv-loop μ-loop
+code-of-requires c κs = search needs
+
+put-outcome-requires : tie.Need-put-outcome-requires Inv-loop μ-loop
+put-outcome-requires c κs =
+    let a = c .before .before .before .before .before .before .before .before .before .before .before .before .before .before .before .before .before .args in
+    let s = c .before .before .before .before .before .before .before .before .before .before .before .before .loop .inv in
+    let k = c .before .before .before .before .before .before .before .before .before .k .given .0 .0 in
+    let e : nextOf (inRow 5 (keptFrom FlussoOrdinativi (a .f .now) (c .before .before .before .before .before .before .before .before .before .before .before .before .loop .i))) ≡ Named k = sym (c .before .before .before .before .before .before .before .before .before .before .before .next-row .ensures) ∙ c .before .before .before .before .before .before .before .before .before .k .given .1 in
+    (serving-room (a .f .now) (a .past .now) (a .base) (a .n) (a .year) (a .t .now) (a .out .now) (a .from) _ _ _ _ _ s k e, c .before .before .before .before .before .before .order-of .ensures .1)
+
+one-of-requires : tie.Need-one-of-requires Inv-loop μ-loop
+one-of-requires c κs = search needs
+
+add-accepted : tie.Need-add-accepted Inv-loop μ-loop
+add-accepted c =
+    let a = c .before .before .before .before .before .before .before .before .before .before .before .before .before .before .before .before .before .before .before .before .before .args in
+    let s = c .before .before .before .before .before .before .before .before .before .before .before .before .before .before .before .before .loop .inv in
+    let k = c .before .before .before .before .before .before .before .before .before .before .before .before .before .k .given .0 .0 in
+    let e : nextOf (inRow 5 (keptFrom FlussoOrdinativi (a .f .now) (c .before .before .before .before .before .before .before .before .before .before .before .before .before .before .before .before .loop .i))) ≡ Named k = sym (c .before .before .before .before .before .before .before .before .before .before .before .before .before .before .before .next-row .ensures) ∙ c .before .before .before .before .before .before .before .before .before .before .before .before .before .k .given .1 in
+    let r = serving-room (a .f .now) (a .past .now) (a .base) (a .n) (a .year) (a .t .now) (a .out .now) (a .from) _ _ _ _ _ s k e in
+    let w = s .few in
+    let o = c .one-of .ensures .1 in
+    let m = s .same-out in
+    let g = c .before .before .before .before .before .before .before .before .before .before .before .before .before .before .before .before .before .before .before .before .before .good .1 .1 .1 .1 .1 .1 .0 .0 in
+    omega arith
+
+add-to : tie.Need-add-to Inv-loop μ-loop
+add-to c =
+    let a = c .before .before .before .before .before .before .before .before .before .before .before .before .before .before .before .before .before .before .before .before .before .args in
+    let s = c .before .before .before .before .before .before .before .before .before .before .before .before .before .before .before .before .loop .inv in
+    let k = c .before .before .before .before .before .before .before .before .before .before .before .before .before .k .given .0 .0 in
+    let e : nextOf (inRow 5 (keptFrom FlussoOrdinativi (a .f .now) (c .before .before .before .before .before .before .before .before .before .before .before .before .before .before .before .before .loop .i))) ≡ Named k = sym (c .before .before .before .before .before .before .before .before .before .before .before .before .before .before .before .next-row .ensures) ∙ c .before .before .before .before .before .before .before .before .before .before .before .before .before .k .given .1 in
+    let r = serving-room (a .f .now) (a .past .now) (a .base) (a .n) (a .year) (a .t .now) (a .out .now) (a .from) _ _ _ _ _ s k e in
+    let m = s .same-out in
+    let g = c .before .before .before .before .before .before .before .before .before .before .before .before .before .before .before .before .before .before .before .before .before .good .1 .1 .1 .1 .1 .1 .0 .0 in
+    omega arith
+
+loop-less : tie.Need-loop-less Inv-loop μ-loop
+loop-less c =
+    let a = c .before .before .before .before .before .before .before .before .before .before .before .before .before .before .before .before .before .before .before .before .before .args in
+    let s = c .before .before .before .before .before .before .before .before .before .before .before .before .before .before .before .before .loop .inv in
+    let k = c .before .before .before .before .before .before .before .before .before .before .before .before .before .k .given .0 .0 in
+    let e : nextOf (inRow 5 (keptFrom FlussoOrdinativi (a .f .now) (c .before .before .before .before .before .before .before .before .before .before .before .before .before .before .before .before .loop .i))) ≡ Named k = sym (c .before .before .before .before .before .before .before .before .before .before .before .before .before .before .before .next-row .ensures) ∙ c .before .before .before .before .before .before .before .before .before .before .before .before .before .k .given .1 in
+    let l = serving-order (a .f .now) (a .past .now) (a .base) (a .n) (a .year) (a .t .now) (a .out .now) (a .from) _ _ _ _ _ s k e .lies in
+    omega arith
+
+loop-again : tie.Need-loop-again Inv-loop μ-loop
+loop-again c =
+    let a = c .before .before .before .before .before .before .before .before .before .before .before .before .before .before .before .before .before .before .before .before .before .args in
+    let s = c .before .before .before .before .before .before .before .before .before .before .before .before .before .before .before .before .loop .inv in
+    let k = c .before .before .before .before .before .before .before .before .before .before .before .before .before .k .given .0 .0 in
+    let e : nextOf (inRow 5 (keptFrom FlussoOrdinativi (a .f .now) (c .before .before .before .before .before .before .before .before .before .before .before .before .before .before .before .before .loop .i))) ≡ Named k = sym (c .before .before .before .before .before .before .before .before .before .before .before .before .before .before .before .next-row .ensures) ∙ c .before .before .before .before .before .before .before .before .before .before .before .before .before .k .given .1 in
+    serving-step (a .f .now) (a .past .now) (a .base) (a .n) (a .year) (a .t .now) (a .out .now) (a .from) _ _ _ _ _ s k e (c .before .before .before .before .before .before .before .before .before .before .order-of .ensures .0) (c .before .before .before .before .before .before .before .before .serve-order .ensures .0) (c .before .before .before .before .before .before .before .before .serve-order .ensures .1) (search needs) (c .before .before .before .before .code-of .ensures) (c .before .before .before .put-outcome .ensures) (search needs) (c .one-of .ensures .0) (c .one-of .ensures .1)
+
+pub serve-all-spec : {M : Type 1} → statement M
+serve-all-spec =
+    tie.close
+    (tie.spec
+    Inv-loop
+    μ-loop
+    loop-holds
+    next-row-requires
+    enum-known-k
+    enum-told
+    same-length
+    same-length-2
+    returns
+    order-of-requires
+    serve-order-requires
+    code-of-requires
+    put-outcome-requires
+    one-of-requires
+    add-accepted
+    add-to
+    loop-less
+    loop-again)

@@ -1,0 +1,117 @@
+-- A flow's call (document 01, "Answers"): what it answers, and every byte of table and outcomes that it leaves.
+use Prim.Native.Nat.{ℕ, zero, suc, _+_, _*_, _-_}
+use mathlib.Core.Bool.{Bool, true, false, cond}
+use mathlib.Core.List.{List, [], _∷_, _++_}
+use lib.ListN.{length}
+use lib.Dec.{eqb, leb}
+use Rattle.scan.specs.Bytes.{textIs}
+use Rattle.words.specs.Numbers.{put}
+use Rattle.table.specs.Table.{tableOk, abiOf, bodyOf}
+use Rattle.order.specs.declared.Order.{Order}
+use Rattle.orders.specs.Orders.{Header}
+use Rattle.flow.specs.declared.Verdict.{Verdict}
+use Rattle.flow.specs.declared.Verdict.the-variants.{MarkupBreaks, StructureBreaks, FieldBreaks, Stands}
+use Rattle.flow.specs.Flow.{verdictOf, headerOf, flowOrders}
+use Rattle.service.specs.Service.{allLeave, allOutcomes, allAccepted}
+use Rattle.notices.specs.declared.Addressed.{Addressed}
+use Rattle.notices.specs.declared.Addressed.the-variants.{Invalid, Unknown, Body}
+use Rattle.notices.specs.Notices.{bodyAt}
+use Rattle.desk.specs.declared.FlowAnswer.{FlowAnswer}
+use Rattle.desk.specs.declared.FlowAnswer.the-variants.{InvalidTable, TooLong, BrokenMarkup, BrokenStructure, BrokenField, OtherBank, UnknownBody, NoRoom, Taken}
+
+-- A FLOW
+
+-- a flow refused, or served: on which body of the table, in which esercizio, and its orders
+pub data Reading : Type 0 where
+  refused : FlowAnswer → Reading
+  served : ℕ → ℕ → ℕ → List Order → Reading
+
+-- "8 the outcome buffer has under 16 bytes per order"
+abbrev pub withRoom : ℕ → ℕ → ℕ → ℕ → List Order → Reading
+withRoom room base n year os = cond (leb (16 * length os) room) (served base n year os) (refused NoRoom)
+
+-- "7 no body has this code"
+abbrev pub forBody : ℕ → ℕ → List Order → Addressed → Reading
+forBody room year os (Body base n) = withRoom room base n year os
+forBody room year os Unknown = refused UnknownBody
+forBody room year os Invalid = refused InvalidTable
+
+-- "6 codice_ABI_BT isn't the table's"
+abbrev pub forBank : List ℕ → ℕ → Header → List Order → Reading
+forBank t room h os = cond (textIs (abiOf t) (h .abi)) (forBody room (h .esercizio) os (bodyAt t (bodyOf t (h .ente)))) (refused OtherBank)
+
+-- "3 the markup breaks; 4 the structure breaks; 5 a field breaks"
+abbrev pub forFlow : List ℕ → List ℕ → ℕ → Verdict → Reading
+forFlow t f room (MarkupBreaks p) = refused BrokenMarkup
+forFlow t f room StructureBreaks = refused BrokenStructure
+forFlow t f room (FieldBreaks p) = refused (BrokenField p)
+forFlow t f room (Stands at) = forBank t room (headerOf f at) (flowOrders f at)
+
+abbrev pub maxFlow : ℕ
+maxFlow = 32768
+
+-- "1 the table isn't valid; 2 the flow is longer than 32,768 bytes"; "Checked in that order, each over the whole flow". room is the outcome
+-- buffer's length
+unfoldable pub flowReads : List ℕ → List ℕ → ℕ → Reading
+flowReads t f room =
+    cond (tableOk t) (cond (leb (length f) maxFlow) (forFlow t f room (verdictOf f)) (refused TooLong)) (refused InvalidTable)
+
+-- the answer
+abbrev pub flowAnswer : List ℕ → Reading → FlowAnswer
+flowAnswer t (refused a) = a
+flowAnswer t (served base n year os) = Taken (length os) (allAccepted t base n year os)
+
+-- the table afterwards: "Codes 1 to 10 change no buffer. Otherwise .. orders are taken as written, each on the table the one before left"
+abbrev pub flowTable : List ℕ → Reading → List ℕ
+flowTable t (refused a) = t
+flowTable t (served base n year os) = allLeave t base n year os
+
+-- the outcome buffer afterwards: "Outcome bytes past the last order stay"
+abbrev pub flowOutcomes : List ℕ → List ℕ → Reading → List ℕ
+flowOutcomes t out (refused a) = out
+flowOutcomes t out (served base n year os) = put out 0 (allOutcomes t base n year os)
+
+-- document 01's code, place, orders and accepted: "A refusal gives orders and accepted 0; place is 0 but for code 5"
+abbrev pub flowCode : FlowAnswer → ℕ
+flowCode InvalidTable = 1
+flowCode TooLong = 2
+flowCode BrokenMarkup = 3
+flowCode BrokenStructure = 4
+flowCode (BrokenField p) = 5
+flowCode OtherBank = 6
+flowCode UnknownBody = 7
+flowCode NoRoom = 8
+flowCode (Taken orders accepted) = 0
+
+abbrev pub flowPlace : FlowAnswer → ℕ
+flowPlace (BrokenField p) = p
+flowPlace InvalidTable = 0
+flowPlace TooLong = 0
+flowPlace BrokenMarkup = 0
+flowPlace BrokenStructure = 0
+flowPlace OtherBank = 0
+flowPlace UnknownBody = 0
+flowPlace NoRoom = 0
+flowPlace (Taken orders accepted) = 0
+
+abbrev pub flowOrdersOf : FlowAnswer → ℕ
+flowOrdersOf (Taken orders accepted) = orders
+flowOrdersOf InvalidTable = 0
+flowOrdersOf TooLong = 0
+flowOrdersOf BrokenMarkup = 0
+flowOrdersOf BrokenStructure = 0
+flowOrdersOf (BrokenField p) = 0
+flowOrdersOf OtherBank = 0
+flowOrdersOf UnknownBody = 0
+flowOrdersOf NoRoom = 0
+
+abbrev pub flowAccepted : FlowAnswer → ℕ
+flowAccepted (Taken orders accepted) = accepted
+flowAccepted InvalidTable = 0
+flowAccepted TooLong = 0
+flowAccepted BrokenMarkup = 0
+flowAccepted BrokenStructure = 0
+flowAccepted (BrokenField p) = 0
+flowAccepted OtherBank = 0
+flowAccepted UnknownBody = 0
+flowAccepted NoRoom = 0

@@ -1,0 +1,163 @@
+// A flow's call, on any bytes at all: the table is checked, then the flow's length, markup, structure and fields, then bank, body and room; then its
+// orders are served one after another.
+use children::Next;
+use children::Parent;
+use fields::Number;
+use flow::Verdict;
+use ranges::Found;
+use rules::Judged;
+ghost use mathlib.Core.Path.{_≡_};
+ghost use mathlib.Core.Bool.{true};
+ghost use Prim.Native.Nat.{ℕ, _+_, _*_, _≤_, _<_};
+ghost use lib.ListN.{length};
+ghost use Rattle.words.specs.Numbers.{put};
+ghost use Rattle.record.specs.Slot.{slotSize};
+ghost use Rattle.markup.specs.Noted.{Noted};
+ghost use Rattle.table.specs.Table.{bodies, tableOk};
+ghost use Rattle.flow.specs.declared.Verdict.the-variants.{Stands};
+ghost use Rattle.flow.specs.Flow.{verdictOf, headerOf, flowOrders};
+ghost use Rattle.rules.specs.Rules.{codeOf};
+ghost use Rattle.service.specs.Service.{one, allLeave, allOutcomes, allAccepted};
+ghost use Rattle.desk.specs.Desk.{forBank, maxFlow, flowReads, flowAnswer, flowTable, flowOutcomes};
+ghost use Rattle.desk.specs.Served.{headerFrom, ordersFrom, Rooted, roomFor, bodyFor, Gives};
+
+// What a flow's call answers.
+pub enum FlowAnswer {
+    InvalidTable,
+    TooLong,
+    BrokenMarkup,
+    BrokenStructure,
+    BrokenField(usize),
+    OtherBank,
+    UnknownBody,
+    NoRoom,
+    Taken(usize, usize),
+}
+
+// An order's code, for its outcome bytes.
+fn code_of(j: Judged) -> u8
+    ensures { λ r. ⌜ r ≡ codeOf j ⌝ }
+{
+    match j {
+        Judged::Accepted(_) => 0,
+        Judged::Refused(c) => c,
+    }
+}
+
+fn one_of(j: Judged) -> usize
+    ensures { λ r. ⌜ (r ≡ one j) × (r ≤ 1) ⌝ }
+{
+    match j {
+        Judged::Accepted(_) => 1,
+        Judged::Refused(_) => 0,
+    }
+}
+
+// Serves the orders from a place of the root's children on, each on the table that the one before left: how many were accepted.
+fn serve_all(
+    t: &mut [u8],
+    f: &[u8],
+    from: usize,
+    base: usize,
+    n: usize,
+    year: u64,
+    out: &mut [u8],
+    past: &[u16],
+) -> usize
+    requires { ⌜ (base + slotSize * n ≤ length (now t)) × Rooted (now f) (now past) from × (16 * length (ordersFrom (now f) from) ≤ length (now out)) ⌝ }
+    ensures { λ r. ⌜ (r ≡ allAccepted (now (t .entry)) base n year (ordersFrom (now (f .entry)) from)) × (now (t .exit) ≡ allLeave (now (t .entry)) base n year (ordersFrom (now (f .entry)) from)) × (now (out .exit) ≡ put (now (out .entry)) 0 (allOutcomes (now (t .entry)) base n year (ordersFrom (now (f .entry)) from))) ⌝ }
+{
+    let mut i = from;
+    let mut to: usize = 0;
+    let mut accepted: usize = 0;
+    loop {
+        let Next::Named(k) = orders::next_row(f, i, Parent::FlussoOrdinativi, 5, past) else {
+            return accepted;
+        };
+        let c = k.child;
+        let o = orders::order_of(f, k, past);
+        let j = service::serve_order(t, base, n, year, o);
+        service::put_outcome(out, to, o, code_of(j));
+        accepted += one_of(j);
+        to += 16;
+        i = c.after;
+    }
+}
+
+// The flow's esercizio.
+fn year_of(f: &[u8], from: usize, past: &[u16]) -> u64
+    requires { ⌜ (from ≤ length (now f)) × Noted (now f) (now past) ⌝ }
+    ensures { λ r. ⌜ r ≡ headerFrom (now (f .entry)) from .esercizio ⌝ }
+{
+    match fields::esercizio_of(orders::field_text(f, from, Parent::FlussoOrdinativi, 4, past)) {
+        Number::Value(v) => v,
+        Number::NoNumber => 0,
+    }
+}
+
+// The orders of a flow for a body of the table: 8, or they are served.
+fn with_room(
+    t: &mut [u8],
+    f: &[u8],
+    from: usize,
+    b: usize,
+    out: &mut [u8],
+    past: &[u16],
+) -> FlowAnswer
+    requires { ⌜ (tableOk (now t) ≡ true) × (b < bodies (now t)) × Rooted (now f) (now past) from × (length (now f) ≤ maxFlow) ⌝ }
+    ensures { λ r. ⌜ Gives (now (t .entry)) (now (out .entry)) (roomFor (now (t .entry)) (length (now (out .entry))) (headerFrom (now (f .entry)) from) (ordersFrom (now (f .entry)) from) b) r (now (t .exit)) (now (out .exit)) ⌝ }
+{
+    let count = orders::count_orders(f, from, past);
+    if out.len() < 16 * count {
+        return FlowAnswer::NoRoom;
+    }
+    let year = year_of(f, from, past);
+    let e = table::HEAD + entries::ENTRY * b;
+    let base = entries::place_of(t, e);
+    let n = entries::slots_of(t, e);
+    FlowAnswer::Taken(count, serve_all(t, f, from, base, n, year, out, past))
+}
+
+// The orders of a flow, for the body with the flow's code: 7, or as the room says.
+fn for_body(t: &mut [u8], f: &[u8], from: usize, out: &mut [u8], past: &[u16]) -> FlowAnswer
+    requires { ⌜ (tableOk (now t) ≡ true) × Rooted (now f) (now past) from × (length (now f) ≤ maxFlow) ⌝ }
+    ensures { λ r. ⌜ Gives (now (t .entry)) (now (out .entry)) (bodyFor (now (t .entry)) (length (now (out .entry))) (headerFrom (now (f .entry)) from) (ordersFrom (now (f .entry)) from)) r (now (t .exit)) (now (out .exit)) ⌝ }
+{
+    let ente = orders::field_text(f, from, Parent::FlussoOrdinativi, 3, past);
+    match table::find_body(t, ente) {
+        Found::At(b) => with_room(t, f, from, b, out, past),
+        Found::Nothing => FlowAnswer::UnknownBody,
+    }
+}
+
+// A flow that stands, its root's content at a place: 6, or as its body says.
+fn for_bank(t: &mut [u8], f: &[u8], at: usize, out: &mut [u8], past: &[u16]) -> FlowAnswer
+    requires { ⌜ (tableOk (now t) ≡ true) × (verdictOf (now f) ≡ Stands at) × Noted (now f) (now past) × (length (now f) ≤ maxFlow) ⌝ }
+    ensures { λ r. ⌜ Gives (now (t .entry)) (now (out .entry)) (forBank (now (t .entry)) (length (now (out .entry))) (headerOf (now (f .entry)) at) (flowOrders (now (f .entry)) at)) r (now (t .exit)) (now (out .exit)) ⌝ }
+{
+    let from = scan::white_end(f, at);
+    let abi = orders::field_text(f, from, Parent::FlussoOrdinativi, 0, past);
+    if !scan::same(abi, &t[8..13]) {
+        return FlowAnswer::OtherBank;
+    }
+    for_body(t, f, from, out, past)
+}
+
+// Takes a flow. Every byte of table and outcomes is determined, and none changes where the flow is refused.
+pub fn take_flow(t: &mut [u8], f: &[u8], out: &mut [u8]) -> FlowAnswer
+    ensures { λ r. ⌜ (r ≡ flowAnswer (now (t .entry)) (flowReads (now (t .entry)) (now (f .entry)) (length (now (out .entry))))) × (now (t .exit) ≡ flowTable (now (t .entry)) (flowReads (now (t .entry)) (now (f .entry)) (length (now (out .entry))))) × (now (out .exit) ≡ flowOutcomes (now (t .entry)) (now (out .entry)) (flowReads (now (t .entry)) (now (f .entry)) (length (now (out .entry))))) ⌝ }
+{
+    if !table::table_ok(t) {
+        return FlowAnswer::InvalidTable;
+    }
+    if 32768 < f.len() {
+        return FlowAnswer::TooLong;
+    }
+    let mut past = [0u16; 32769];
+    match flow::verdict_of(f, &mut past) {
+        Verdict::MarkupBreaks(_) => FlowAnswer::BrokenMarkup,
+        Verdict::StructureBreaks => FlowAnswer::BrokenStructure,
+        Verdict::FieldBreaks(p) => FlowAnswer::BrokenField(p),
+        Verdict::Stands(at) => for_bank(t, f, at, out, &past),
+    }
+}
