@@ -1,0 +1,204 @@
+// The C interface: five thin functions over the desk, each with its promise. Every result is written on every path.
+use desk::FlowAnswer;
+use notices::NoticeAnswer;
+use opening::Opened;
+ghost use mathlib.Core.Path.{_≡_};
+ghost use mathlib.Core.Bool.{true, false};
+ghost use lib.ListN.{length};
+ghost use Rattle.opening.specs.Opening.{openOf, openCode, openTable};
+ghost use Rattle.desk.specs.Desk.{flowReads, flowAnswer, flowTable, flowOutcomes, flowCode, flowPlace, flowOrdersOf, flowAccepted};
+ghost use Rattle.notices.specs.Notices.{noticeAnswer, noticeTable, noticeCodeOf, noticeCentsOf, totalsOf};
+
+fn open_code(o: Opened) -> u64
+    ensures { λ r. ⌜ r ≡ openCode o ⌝ }
+{
+    match o {
+        Opened::Open => 0,
+        Opened::WrongRequest => 9,
+        Opened::WrongLength => 10,
+    }
+}
+
+// Opens a table.
+#[no_mangle]
+pub extern "C" fn hondivole_open(request: &[u8], table: &mut [u8]) -> u64
+    ensures { λ r. ⌜ r ≡ openCode (openOf (now (request .entry)) (length (now (table .entry)))) ⌝ }
+    ensures { λ _. ⌜ now (table .exit) ≡ openTable (openOf (now (request .entry)) (length (now (table .entry)))) (now (request .entry)) (now (table .entry)) ⌝ }
+{
+    open_code(opening::open_table(request, table))
+}
+
+fn flow_code(a: FlowAnswer) -> u64
+    ensures { λ r. ⌜ r ≡ flowCode a ⌝ }
+{
+    match a {
+        FlowAnswer::InvalidTable => 1,
+        FlowAnswer::TooLong => 2,
+        FlowAnswer::BrokenMarkup => 3,
+        FlowAnswer::BrokenStructure => 4,
+        FlowAnswer::BrokenField(_) => 5,
+        FlowAnswer::OtherBank => 6,
+        FlowAnswer::UnknownBody => 7,
+        FlowAnswer::NoRoom => 8,
+        FlowAnswer::Taken(_, _) => 0,
+    }
+}
+
+fn flow_place(a: FlowAnswer) -> u64
+    ensures { λ r. ⌜ r ≡ flowPlace a ⌝ }
+{
+    match a {
+        FlowAnswer::InvalidTable => 0,
+        FlowAnswer::TooLong => 0,
+        FlowAnswer::BrokenMarkup => 0,
+        FlowAnswer::BrokenStructure => 0,
+        FlowAnswer::BrokenField(p) => p as u64,
+        FlowAnswer::OtherBank => 0,
+        FlowAnswer::UnknownBody => 0,
+        FlowAnswer::NoRoom => 0,
+        FlowAnswer::Taken(_, _) => 0,
+    }
+}
+
+fn flow_orders(a: FlowAnswer) -> u64
+    ensures { λ r. ⌜ r ≡ flowOrdersOf a ⌝ }
+{
+    match a {
+        FlowAnswer::InvalidTable => 0,
+        FlowAnswer::TooLong => 0,
+        FlowAnswer::BrokenMarkup => 0,
+        FlowAnswer::BrokenStructure => 0,
+        FlowAnswer::BrokenField(_) => 0,
+        FlowAnswer::OtherBank => 0,
+        FlowAnswer::UnknownBody => 0,
+        FlowAnswer::NoRoom => 0,
+        FlowAnswer::Taken(n, _) => n as u64,
+    }
+}
+
+fn flow_accepted(a: FlowAnswer) -> u64
+    ensures { λ r. ⌜ r ≡ flowAccepted a ⌝ }
+{
+    match a {
+        FlowAnswer::InvalidTable => 0,
+        FlowAnswer::TooLong => 0,
+        FlowAnswer::BrokenMarkup => 0,
+        FlowAnswer::BrokenStructure => 0,
+        FlowAnswer::BrokenField(_) => 0,
+        FlowAnswer::OtherBank => 0,
+        FlowAnswer::UnknownBody => 0,
+        FlowAnswer::NoRoom => 0,
+        FlowAnswer::Taken(_, n) => n as u64,
+    }
+}
+
+// Takes a flow.
+#[no_mangle]
+pub extern "C" fn hondivole_flow(
+    table: &mut [u8],
+    flow: &[u8],
+    outcomes: &mut [u8],
+    place: &mut u64,
+    orders: &mut u64,
+    accepted: &mut u64,
+) -> u64
+    ensures { λ r. ⌜ r ≡ flowCode (flowAnswer (now (table .entry)) (flowReads (now (table .entry)) (now (flow .entry)) (length (now (outcomes .entry))))) ⌝ }
+    ensures { λ _. ⌜ now (place .exit) ≡ flowPlace (flowAnswer (now (table .entry)) (flowReads (now (table .entry)) (now (flow .entry)) (length (now (outcomes .entry))))) ⌝ }
+    ensures { λ _. ⌜ now (orders .exit) ≡ flowOrdersOf (flowAnswer (now (table .entry)) (flowReads (now (table .entry)) (now (flow .entry)) (length (now (outcomes .entry))))) ⌝ }
+    ensures { λ _. ⌜ now (accepted .exit) ≡ flowAccepted (flowAnswer (now (table .entry)) (flowReads (now (table .entry)) (now (flow .entry)) (length (now (outcomes .entry))))) ⌝ }
+    ensures { λ _. ⌜ now (table .exit) ≡ flowTable (now (table .entry)) (flowReads (now (table .entry)) (now (flow .entry)) (length (now (outcomes .entry)))) ⌝ }
+    ensures { λ _. ⌜ now (outcomes .exit) ≡ flowOutcomes (now (table .entry)) (now (outcomes .entry)) (flowReads (now (table .entry)) (now (flow .entry)) (length (now (outcomes .entry)))) ⌝ }
+{
+    let a = desk::take_flow(table, flow, outcomes);
+    *place = flow_place(a);
+    *orders = flow_orders(a);
+    *accepted = flow_accepted(a);
+    flow_code(a)
+}
+
+fn notice_code(a: NoticeAnswer) -> u64
+    ensures { λ r. ⌜ r ≡ noticeCodeOf a ⌝ }
+{
+    match a {
+        NoticeAnswer::InvalidTable => 1,
+        NoticeAnswer::UnknownBody => 7,
+        NoticeAnswer::Done(_) => 0,
+        NoticeAnswer::Declined(c) => c as u64,
+    }
+}
+
+fn notice_cents(a: NoticeAnswer) -> u64
+    ensures { λ r. ⌜ r ≡ noticeCentsOf a ⌝ }
+{
+    match a {
+        NoticeAnswer::InvalidTable => 0,
+        NoticeAnswer::UnknownBody => 0,
+        NoticeAnswer::Done(c) => c,
+        NoticeAnswer::Declined(_) => 0,
+    }
+}
+
+// Takes a notice of execution.
+#[no_mangle]
+pub extern "C" fn hondivole_execute(
+    table: &mut [u8],
+    body: &[u8],
+    kind: u64,
+    esercizio: u64,
+    number: u64,
+    line: u64,
+    cents: &mut u64,
+) -> u64
+    ensures { λ r. ⌜ r ≡ noticeCodeOf (noticeAnswer (now (table .entry)) true (now (body .entry)) (record { kind = kind; esercizio = esercizio; number = number }) line) ⌝ }
+    ensures { λ _. ⌜ now (cents .exit) ≡ noticeCentsOf (noticeAnswer (now (table .entry)) true (now (body .entry)) (record { kind = kind; esercizio = esercizio; number = number }) line) ⌝ }
+    ensures { λ _. ⌜ now (table .exit) ≡ noticeTable (now (table .entry)) true (now (body .entry)) (record { kind = kind; esercizio = esercizio; number = number }) line ⌝ }
+{
+    let a = notices::execute(table, body, kind, esercizio, number, line);
+    *cents = notice_cents(a);
+    notice_code(a)
+}
+
+// Takes a notice of reversal.
+#[no_mangle]
+pub extern "C" fn hondivole_reverse(
+    table: &mut [u8],
+    body: &[u8],
+    kind: u64,
+    esercizio: u64,
+    number: u64,
+    line: u64,
+    cents: &mut u64,
+) -> u64
+    ensures { λ r. ⌜ r ≡ noticeCodeOf (noticeAnswer (now (table .entry)) false (now (body .entry)) (record { kind = kind; esercizio = esercizio; number = number }) line) ⌝ }
+    ensures { λ _. ⌜ now (cents .exit) ≡ noticeCentsOf (noticeAnswer (now (table .entry)) false (now (body .entry)) (record { kind = kind; esercizio = esercizio; number = number }) line) ⌝ }
+    ensures { λ _. ⌜ now (table .exit) ≡ noticeTable (now (table .entry)) false (now (body .entry)) (record { kind = kind; esercizio = esercizio; number = number }) line ⌝ }
+{
+    let a = notices::reverse(table, body, kind, esercizio, number, line);
+    *cents = notice_cents(a);
+    notice_code(a)
+}
+
+// A body's totals.
+#[no_mangle]
+pub extern "C" fn hondivole_totals(
+    table: &[u8],
+    body: &[u8],
+    used: &mut u64,
+    paid: &mut u64,
+    collected: &mut u64,
+    balance: &mut i64,
+) -> u64
+    ensures { λ r. ⌜ r ≡ totalsOf (now (table .entry)) (now (body .entry)) .code ⌝ }
+    ensures { λ _. ⌜ now (used .exit) ≡ totalsOf (now (table .entry)) (now (body .entry)) .used ⌝ }
+    ensures { λ _. ⌜ now (paid .exit) ≡ totalsOf (now (table .entry)) (now (body .entry)) .paid ⌝ }
+    ensures { λ _. ⌜ now (collected .exit) ≡ totalsOf (now (table .entry)) (now (body .entry)) .collected ⌝ }
+    ensures { λ _. ⌜ now (balance .exit) ≡ totalsOf (now (table .entry)) (now (body .entry)) .balance ⌝ }
+{
+    let a = notices::totals(table, body);
+    *used = a.used;
+    *paid = a.paid;
+    *collected = a.collected;
+    let signed = a.balance;
+    *balance = signed;
+    a.code
+}
