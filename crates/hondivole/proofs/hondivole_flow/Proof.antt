@@ -26,17 +26,16 @@ same-length-2 : tie.Need-same-length-2
 same-length-2 c = search needs
 
 returns : tie.Need-returns
-returns c =
-    let e = c .before .before .before .before .before .before .before .before .take-flow .ensures .0 in (
-      c .flow-code .ensures ∙ ap flowCode e,
-      (
-        c .before .before .before .flow-place .ensures ∙ ap flowPlace e,
-        (
-          c .before .before .flow-orders .ensures ∙ ap flowOrdersOf e,
-          (c .before .flow-accepted .ensures ∙ ap flowAccepted e, (c .before .before .before .before .before .before .before .before .take-flow .ensures .1, c .before .before .before .before .before .before .before .before .take-flow .ensures .2)),
-        ),
-      ),
-    )
+returns c = (
+  c .flow-code .ensures ∙ ap flowCode (c .before .before .before .before .before .before .before .before .take-flow .ensures .0),
+  (
+    c .before .before .before .flow-place .ensures ∙ ap flowPlace (c .before .before .before .before .before .before .before .before .take-flow .ensures .0),
+    (
+      c .before .before .flow-orders .ensures ∙ ap flowOrdersOf (c .before .before .before .before .before .before .before .before .take-flow .ensures .0),
+      (c .before .flow-accepted .ensures ∙ ap flowAccepted (c .before .before .before .before .before .before .before .before .take-flow .ensures .0), (c .before .before .before .before .before .before .before .before .take-flow .ensures .1, c .before .before .before .before .before .before .before .before .take-flow .ensures .2)),
+    ),
+  ),
+)
 
 pub hondivole-flow-spec : {M : Type 1} → statement M
 hondivole-flow-spec =
