@@ -1,0 +1,92 @@
+//! The five C functions as `include/hondivole.h` declares them.
+//!
+//! Each answers with a code (0, or the number of a [`Refusal`](crate::Refusal)) and writes all its results on every path.
+//!
+//! ```
+//! use hondivole::ffi::hondivole_open;
+//!
+//! let request = b"01234\x03471\0\0\0\0\0\0\0\0\0\0\0\0\0\0\0\x01";
+//! let mut table = [0; 144];
+//! // SAFETY: the pointers and lengths are those of two arrays that don't overlap.
+//! let code = unsafe { hondivole_open(request.as_ptr(), request.len(), table.as_mut_ptr(), table.len()) };
+//! assert_eq!(code, 0);
+//! ```
+
+unsafe extern "C" {
+    /// Opens a table: see [`Table::open`](crate::Table::open).
+    ///
+    /// # Safety
+    ///
+    /// `request` points at `request_len` bytes that can be read, `table` at `table_len` bytes that can be written, and they don't
+    /// overlap.
+    pub fn hondivole_open(request: *const u8, request_len: usize, table: *mut u8, table_len: usize) -> u64;
+
+    /// Takes a flow: see [`Table::flow`](crate::Table::flow).
+    ///
+    /// # Safety
+    ///
+    /// Each pointer is good for its length, the last three for one number each; `table`, `outcomes` and the three numbers can be
+    /// written, and no two of all these overlap.
+    pub fn hondivole_flow(
+        table: *mut u8,
+        table_len: usize,
+        flow: *const u8,
+        flow_len: usize,
+        outcomes: *mut u8,
+        outcomes_len: usize,
+        place: *mut u64,
+        orders: *mut u64,
+        accepted: *mut u64,
+    ) -> u64;
+
+    /// Takes a notice of execution: see [`Table::execute`](crate::Table::execute).
+    ///
+    /// # Safety
+    ///
+    /// Each pointer is good for its length, the last for one number; `table` and `cents` can be written, and no two of them overlap.
+    pub fn hondivole_execute(
+        table: *mut u8,
+        table_len: usize,
+        body: *const u8,
+        body_len: usize,
+        kind: u64,
+        esercizio: u64,
+        number: u64,
+        line: u64,
+        cents: *mut u64,
+    ) -> u64;
+
+    /// Takes a notice of reversal: see [`Table::reverse`](crate::Table::reverse).
+    ///
+    /// # Safety
+    ///
+    /// As for [`hondivole_execute`].
+    pub fn hondivole_reverse(
+        table: *mut u8,
+        table_len: usize,
+        body: *const u8,
+        body_len: usize,
+        kind: u64,
+        esercizio: u64,
+        number: u64,
+        line: u64,
+        cents: *mut u64,
+    ) -> u64;
+
+    /// Reports a body's totals: see [`Table::totals`](crate::Table::totals).
+    ///
+    /// # Safety
+    ///
+    /// Each pointer is good for its length, the last four for one number each; the numbers can be written, and no two of all these
+    /// overlap.
+    pub fn hondivole_totals(
+        table: *const u8,
+        table_len: usize,
+        body: *const u8,
+        body_len: usize,
+        used: *mut u64,
+        paid: *mut u64,
+        collected: *mut u64,
+        balance: *mut i64,
+    ) -> u64;
+}

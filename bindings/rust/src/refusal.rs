@@ -1,0 +1,190 @@
+//! Why a call, an order or a notice is refused.
+
+use std::error::Error;
+use std::fmt;
+
+/// Why something is refused: document 01's codes 1 to 22.
+///
+/// ```
+/// use hondivole::{Refusal, Table};
+///
+/// let table = Table::open("01234", &[("000471", 4)])?;
+/// let refusal = table.totals("471").unwrap_err();
+/// assert_eq!(refusal, Refusal::NoSuchBody);
+/// assert_eq!(refusal.code(), 7);
+/// assert_eq!(refusal.to_string(), "no body of the table has this code");
+/// # Ok::<(), Refusal>(())
+/// ```
+#[derive(Clone, Copy, Debug, PartialEq, Eq, Hash)]
+pub enum Refusal {
+    /// 1: the table isn't valid.
+    TableNotValid,
+    /// 2: the flow is longer than 32,768 bytes.
+    FlowTooLong,
+    /// 3: the flow's markup breaks.
+    MarkupBreaks,
+    /// 4: the flow's structure breaks.
+    StructureBreaks,
+    /// 5: a field of the flow breaks.
+    FieldBreaks {
+        /// The byte of `<` of the first element that breaks, counted from 0 at the flow's first byte.
+        place: usize,
+    },
+    /// 6: the flow's `codice_ABI_BT` isn't the table's.
+    OtherBank,
+    /// 7: no body has this code.
+    NoSuchBody,
+    /// 8: the outcome buffer has under 16 bytes per order.
+    OutcomesTooShort,
+    /// 9: what a table is to be opened with is wrong.
+    RequestWrong,
+    /// 10: the buffer to open a table in hasn't the needed length.
+    BufferLengthWrong,
+    /// 11: an order is a SOSTITUZIONE.
+    Substitution,
+    /// 12: an order's lines aren't numbered 1, 2, 3 and so on.
+    LinesMisnumbered,
+    /// 13: an order's line amounts don't sum to its total.
+    LinesDontSum,
+    /// 14: an INSERIMENTO of an order that the body already has.
+    OrderExists,
+    /// 15: an INSERIMENTO, and the body has no empty slot.
+    NoEmptySlot,
+    /// 16: the body has no such order.
+    NoSuchOrder,
+    /// 17: the order is annulled.
+    OrderAnnulled,
+    /// 18: a line of the order is executed.
+    LineExecuted,
+    /// 19: an ANNULLO whose total or lines differ from the record.
+    RecordDiffers,
+    /// 20: the order has no such line.
+    NoSuchLine,
+    /// 21: an execution of a line that is already executed.
+    AlreadyExecuted,
+    /// 22: a reversal of a line that isn't executed.
+    NotExecuted,
+}
+
+impl Refusal {
+    /// The code that document 01 gives this refusal.
+    ///
+    /// ```
+    /// use hondivole::Refusal;
+    ///
+    /// assert_eq!(Refusal::TableNotValid.code(), 1);
+    /// assert_eq!(Refusal::NotExecuted.code(), 22);
+    /// ```
+    pub fn code(&self) -> u8 {
+        match self {
+            Refusal::TableNotValid => 1,
+            Refusal::FlowTooLong => 2,
+            Refusal::MarkupBreaks => 3,
+            Refusal::StructureBreaks => 4,
+            Refusal::FieldBreaks { .. } => 5,
+            Refusal::OtherBank => 6,
+            Refusal::NoSuchBody => 7,
+            Refusal::OutcomesTooShort => 8,
+            Refusal::RequestWrong => 9,
+            Refusal::BufferLengthWrong => 10,
+            Refusal::Substitution => 11,
+            Refusal::LinesMisnumbered => 12,
+            Refusal::LinesDontSum => 13,
+            Refusal::OrderExists => 14,
+            Refusal::NoEmptySlot => 15,
+            Refusal::NoSuchOrder => 16,
+            Refusal::OrderAnnulled => 17,
+            Refusal::LineExecuted => 18,
+            Refusal::RecordDiffers => 19,
+            Refusal::NoSuchLine => 20,
+            Refusal::AlreadyExecuted => 21,
+            Refusal::NotExecuted => 22,
+        }
+    }
+
+    /// What a code stands for: `Ok` for 0, and `None` for a code that document 01 doesn't have. The place is told with code 5 only.
+    pub(crate) fn of_code(code: u64, place: u64) -> Option<Result<(), Refusal>> {
+        let refusal = match code {
+            0 => return Some(Ok(())),
+            1 => Refusal::TableNotValid,
+            2 => Refusal::FlowTooLong,
+            3 => Refusal::MarkupBreaks,
+            4 => Refusal::StructureBreaks,
+            5 => Refusal::FieldBreaks { place: place as usize },
+            6 => Refusal::OtherBank,
+            7 => Refusal::NoSuchBody,
+            8 => Refusal::OutcomesTooShort,
+            9 => Refusal::RequestWrong,
+            10 => Refusal::BufferLengthWrong,
+            11 => Refusal::Substitution,
+            12 => Refusal::LinesMisnumbered,
+            13 => Refusal::LinesDontSum,
+            14 => Refusal::OrderExists,
+            15 => Refusal::NoEmptySlot,
+            16 => Refusal::NoSuchOrder,
+            17 => Refusal::OrderAnnulled,
+            18 => Refusal::LineExecuted,
+            19 => Refusal::RecordDiffers,
+            20 => Refusal::NoSuchLine,
+            21 => Refusal::AlreadyExecuted,
+            22 => Refusal::NotExecuted,
+            _ => return None,
+        };
+        Some(Err(refusal))
+    }
+
+    /// The answer of a call that has this code.
+    pub(crate) fn answer(code: u64, place: u64) -> Result<(), Refusal> {
+        Refusal::of_code(code, place).expect("a call answers with a code of document 01")
+    }
+}
+
+impl fmt::Display for Refusal {
+    fn fmt(&self, to: &mut fmt::Formatter) -> fmt::Result {
+        to.write_str(match self {
+            Refusal::TableNotValid => "the table isn't valid",
+            Refusal::FlowTooLong => "the flow is longer than 32,768 bytes",
+            Refusal::MarkupBreaks => "the flow's markup breaks",
+            Refusal::StructureBreaks => "the flow's structure breaks",
+            Refusal::FieldBreaks { place } => {
+                return write!(to, "the field whose element begins at byte {place} of the flow breaks");
+            }
+            Refusal::OtherBank => "the flow's codice_ABI_BT isn't the table's",
+            Refusal::NoSuchBody => "no body of the table has this code",
+            Refusal::OutcomesTooShort => "the outcome buffer has under 16 bytes per order",
+            Refusal::RequestWrong => "a table can't be opened with these ABI digits, codes and slots",
+            Refusal::BufferLengthWrong => "the buffer hasn't the length that the table needs",
+            Refusal::Substitution => "SOSTITUZIONE isn't taken",
+            Refusal::LinesMisnumbered => "the order's lines aren't numbered 1, 2, 3 and so on",
+            Refusal::LinesDontSum => "the order's line amounts don't sum to its total",
+            Refusal::OrderExists => "the body already has an order of this kind, esercizio and number",
+            Refusal::NoEmptySlot => "the body has no empty slot",
+            Refusal::NoSuchOrder => "the body has no order of this kind, esercizio and number",
+            Refusal::OrderAnnulled => "the order is annulled",
+            Refusal::LineExecuted => "a line of the order is executed",
+            Refusal::RecordDiffers => "the order's total or lines differ from the record",
+            Refusal::NoSuchLine => "the order has no such line",
+            Refusal::AlreadyExecuted => "the line is already executed",
+            Refusal::NotExecuted => "the line isn't executed",
+        })
+    }
+}
+
+impl Error for Refusal {}
+
+#[cfg(test)]
+mod tests {
+    use super::*;
+
+    #[test]
+    fn codes_go_both_ways() {
+        assert_eq!(Refusal::of_code(0, 0), Some(Ok(())));
+        assert_eq!(Refusal::of_code(23, 0), None);
+        let mut sentences = std::collections::HashSet::new();
+        for code in 1..=22 {
+            let refusal = Refusal::of_code(code, 7).unwrap().unwrap_err();
+            assert_eq!(u64::from(refusal.code()), code);
+            assert!(sentences.insert(refusal.to_string()));
+        }
+    }
+}

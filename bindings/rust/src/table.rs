@@ -1,0 +1,290 @@
+//! Order tables and the calls on them.
+
+use crate::{FlowAnswer, Kind, Refusal, ffi};
+
+/// What the bank's notice of an execution or a reversal names: one line of an order.
+///
+/// ```
+/// use hondivole::{Kind, Notice};
+///
+/// let notice = Notice { body: "000471", kind: Kind::Mandato, esercizio: 2021, number: 12, line: 1 };
+/// assert_eq!(notice.body, "000471");
+/// ```
+#[derive(Clone, Copy, Debug, PartialEq, Eq)]
+pub struct Notice<'b> {
+    /// The body's code; 000471 and 471 are two bodies.
+    pub body: &'b str,
+    /// Mandato or reversale.
+    pub kind: Kind,
+    /// The year of the books.
+    pub esercizio: u16,
+    /// The order's number.
+    pub number: u32,
+    /// The line, counted from 1.
+    pub line: u8,
+}
+
+/// A body's totals.
+///
+/// ```
+/// use hondivole::{Refusal, Table, Totals};
+///
+/// let table = Table::open("01234", &[("471", 4)])?;
+/// assert_eq!(table.totals("471")?, Totals { used: 0, paid: 0, collected: 0, balance: 0 });
+/// # Ok::<(), Refusal>(())
+/// ```
+#[derive(Clone, Copy, Debug, Default, PartialEq, Eq)]
+pub struct Totals {
+    /// How many slots are used; annulled orders keep theirs.
+    pub used: usize,
+    /// Cents paid: executed lines of mandati.
+    pub paid: u64,
+    /// Cents collected: executed lines of reversali.
+    pub collected: u64,
+    /// Collected less paid, in cents.
+    pub balance: i64,
+}
+
+/// An order table: its bytes, owned (`Table`, a `Vec<u8>`) or borrowed (`Table<&mut [u8]>`, or `Table<&[u8]>` for totals only).
+///
+/// Every call looks at all the bytes first and refuses with [`Refusal::TableNotValid`] what is no valid table, so that any bytes may be
+/// taken for one. A refused call changes no byte.
+///
+/// ```
+/// use hondivole::{Kind, Notice, Refusal, Table};
+///
+/// # let flow = include_bytes!("run.xml").as_slice();
+/// let mut table = Table::open("01234", &[("000471", 4), ("471", 4)])?;
+/// let mut outcomes = [0; 32];
+/// assert_eq!(table.flow(flow, &mut outcomes)?.accepted(), 1);
+///
+/// let line = Notice { body: "000471", kind: Kind::Mandato, esercizio: 2021, number: 12, line: 1 };
+/// assert_eq!(table.execute(&line), Ok(10_000));
+/// assert_eq!(table.totals("000471")?.balance, -10_000);
+/// assert_eq!(table.totals("471")?.balance, 0);
+///
+/// // The bytes can be kept, and borrowed again later.
+/// let mut bytes = table.into_bytes();
+/// assert_eq!(Table::over(&mut bytes).reverse(&line), Ok(10_000));
+/// assert_eq!(Table::over(&bytes).totals("000471")?.balance, 0);
+/// # Ok::<(), Refusal>(())
+/// ```
+#[derive(Clone, Copy, Debug, PartialEq, Eq)]
+pub struct Table<B = Vec<u8>> {
+    bytes: B,
+}
+
+impl Table {
+    /// Opens a table for a bank's five ABI digits and its bodies, each a code of 1 to 16 letters and digits and 1 to 512 slots; every
+    /// slot is empty.
+    ///
+    /// # Errors
+    ///
+    /// [`Refusal::RequestWrong`] for wrong digits, codes or slots, a code repeated, not 1 to 16 bodies, or a table above 65,536 bytes.
+    ///
+    /// ```
+    /// use hondivole::{Refusal, Table};
+    ///
+    /// let table = Table::open("01234", &[("000471", 4), ("471", 4)])?;
+    /// assert_eq!(table.bytes().len(), 848);
+    /// assert_eq!(Table::open("1234", &[("471", 4)]), Err(Refusal::RequestWrong));
+    /// assert_eq!(Table::open("01234", &[("471", 4), ("471", 4)]), Err(Refusal::RequestWrong));
+    /// # Ok::<(), Refusal>(())
+    /// ```
+    pub fn open(abi: &str, bodies: &[(&str, u16)]) -> Result<Table, Refusal> {
+        if abi.len() != 5 {
+            return Err(Refusal::RequestWrong);
+        }
+        let mut request = abi.as_bytes().to_vec();
+        let mut length = 16;
+        for (code, slots) in bodies {
+            let mut entry = [0; 20];
+            let (room, code) = (&mut entry[1..17], code.as_bytes());
+            room.get_mut(..code.len()).ok_or(Refusal::RequestWrong)?.copy_from_slice(code);
+            entry[0] = code.len() as u8;
+            entry[18..].copy_from_slice(&slots.to_be_bytes());
+            request.extend(entry);
+            length += 32 + 96 * usize::from(*slots);
+        }
+        let mut bytes = vec![0; length];
+        // SAFETY: the pointers and lengths are those of two vectors.
+        let code = unsafe { ffi::hondivole_open(request.as_ptr(), request.len(), bytes.as_mut_ptr(), bytes.len()) };
+        Refusal::answer(code, 0)?;
+        Ok(Table { bytes })
+    }
+}
+
+impl<B: AsRef<[u8]>> Table<B> {
+    /// Takes bytes for a table. They may be any bytes; each call looks at them.
+    ///
+    /// ```
+    /// use hondivole::{Refusal, Table};
+    ///
+    /// assert_eq!(Table::over([0; 848]).totals("471"), Err(Refusal::TableNotValid));
+    /// ```
+    pub fn over(bytes: B) -> Table<B> {
+        Table { bytes }
+    }
+
+    /// The table's bytes.
+    ///
+    /// ```
+    /// # use hondivole::{Refusal, Table};
+    /// let table = Table::open("01234", &[("471", 1)])?;
+    /// assert_eq!(&table.bytes()[8..13], b"01234");
+    /// # Ok::<(), Refusal>(())
+    /// ```
+    pub fn bytes(&self) -> &[u8] {
+        self.bytes.as_ref()
+    }
+
+    /// Gives the bytes back.
+    ///
+    /// ```
+    /// # use hondivole::{Refusal, Table};
+    /// let bytes: Vec<u8> = Table::open("01234", &[("471", 1)])?.into_bytes();
+    /// assert_eq!(bytes.len(), 144);
+    /// # Ok::<(), Refusal>(())
+    /// ```
+    pub fn into_bytes(self) -> B {
+        self.bytes
+    }
+
+    /// Reports a body's totals.
+    ///
+    /// # Errors
+    ///
+    /// [`Refusal::TableNotValid`] and [`Refusal::NoSuchBody`].
+    ///
+    /// ```
+    /// # use hondivole::{Refusal, Table};
+    /// let table = Table::open("01234", &[("471", 1)])?;
+    /// assert_eq!(table.totals("471")?.used, 0);
+    /// assert_eq!(table.totals("000471"), Err(Refusal::NoSuchBody));
+    /// # Ok::<(), Refusal>(())
+    /// ```
+    pub fn totals(&self, body: &str) -> Result<Totals, Refusal> {
+        let table = self.bytes.as_ref();
+        let (mut used, mut paid, mut collected, mut balance) = (0, 0, 0, 0);
+        // SAFETY: the pointers and lengths are those of slices and of numbers that live here.
+        let code = unsafe {
+            ffi::hondivole_totals(
+                table.as_ptr(),
+                table.len(),
+                body.as_ptr(),
+                body.len(),
+                &mut used,
+                &mut paid,
+                &mut collected,
+                &mut balance,
+            )
+        };
+        Refusal::answer(code, 0)?;
+        Ok(Totals { used: used as usize, paid, collected, balance })
+    }
+}
+
+impl<B: AsMut<[u8]>> Table<B> {
+    /// Takes a body's flow: serves its orders one after another and writes 16 outcome bytes for each into the lent buffer;
+    /// [`MOST_OUTCOME_BYTES`](crate::MOST_OUTCOME_BYTES) are enough for any flow. Bytes past the last order's stay as they are.
+    ///
+    /// # Errors
+    ///
+    /// The refusals of codes 1 to 8; neither table nor outcomes change then. An order that is refused is no error: it has its verdict
+    /// among the [outcomes](FlowAnswer::outcomes).
+    ///
+    /// ```
+    /// # use hondivole::{Refusal, Table};
+    /// # let flow = include_bytes!("run.xml").as_slice();
+    /// let mut table = Table::open("01234", &[("000471", 4)])?;
+    /// assert_eq!(table.flow(flow, &mut [0; 31]), Err(Refusal::OutcomesTooShort));
+    /// assert_eq!(table.flow(flow, &mut [0; 32])?.orders(), 2);
+    /// # Ok::<(), Refusal>(())
+    /// ```
+    pub fn flow<'o>(&mut self, flow: &[u8], outcomes: &'o mut [u8]) -> Result<FlowAnswer<'o>, Refusal> {
+        let table = self.bytes.as_mut();
+        let (mut place, mut orders, mut accepted) = (0, 0, 0);
+        // SAFETY: the pointers and lengths are those of slices that don't overlap and of numbers that live here.
+        let code = unsafe {
+            ffi::hondivole_flow(
+                table.as_mut_ptr(),
+                table.len(),
+                flow.as_ptr(),
+                flow.len(),
+                outcomes.as_mut_ptr(),
+                outcomes.len(),
+                &mut place,
+                &mut orders,
+                &mut accepted,
+            )
+        };
+        Refusal::answer(code, place)?;
+        let (written, _) = outcomes.as_chunks();
+        Ok(FlowAnswer { accepted: accepted as usize, outcomes: &written[..orders as usize] })
+    }
+
+    /// Takes the bank's notice that a line is executed; the answer is the line's amount in cents.
+    ///
+    /// # Errors
+    ///
+    /// The refusals of codes 1, 7, 16, 17, 20 and 21; no byte changes then.
+    ///
+    /// ```
+    /// # use hondivole::{Kind, Notice, Refusal, Table};
+    /// # let flow = include_bytes!("run.xml").as_slice();
+    /// let mut table = Table::open("01234", &[("000471", 4)])?;
+    /// table.flow(flow, &mut [0; 32])?;
+    /// let line = Notice { body: "000471", kind: Kind::Mandato, esercizio: 2021, number: 12, line: 2 };
+    /// assert_eq!(table.execute(&line), Ok(5_000));
+    /// assert_eq!(table.execute(&line), Err(Refusal::AlreadyExecuted));
+    /// # Ok::<(), Refusal>(())
+    /// ```
+    pub fn execute(&mut self, notice: &Notice) -> Result<u64, Refusal> {
+        self.notify(notice, ffi::hondivole_execute)
+    }
+
+    /// Takes the bank's notice that an executed line is reversed (storno); the answer is the line's amount in cents.
+    ///
+    /// # Errors
+    ///
+    /// The refusals of codes 1, 7, 16, 17, 20 and 22; no byte changes then.
+    ///
+    /// ```
+    /// # use hondivole::{Kind, Notice, Refusal, Table};
+    /// # let flow = include_bytes!("run.xml").as_slice();
+    /// let mut table = Table::open("01234", &[("000471", 4)])?;
+    /// table.flow(flow, &mut [0; 32])?;
+    /// let line = Notice { body: "000471", kind: Kind::Mandato, esercizio: 2021, number: 12, line: 2 };
+    /// assert_eq!(table.reverse(&line), Err(Refusal::NotExecuted));
+    /// table.execute(&line)?;
+    /// assert_eq!(table.reverse(&line), Ok(5_000));
+    /// # Ok::<(), Refusal>(())
+    /// ```
+    pub fn reverse(&mut self, notice: &Notice) -> Result<u64, Refusal> {
+        self.notify(notice, ffi::hondivole_reverse)
+    }
+
+    fn notify(&mut self, notice: &Notice, function: NoticeFunction) -> Result<u64, Refusal> {
+        let table = self.bytes.as_mut();
+        let mut cents = 0;
+        // SAFETY: the pointers and lengths are those of slices that don't overlap and of a number that lives here.
+        let code = unsafe {
+            function(
+                table.as_mut_ptr(),
+                table.len(),
+                notice.body.as_ptr(),
+                notice.body.len(),
+                notice.kind as u64,
+                notice.esercizio.into(),
+                notice.number.into(),
+                notice.line.into(),
+                &mut cents,
+            )
+        };
+        Refusal::answer(code, 0)?;
+        Ok(cents)
+    }
+}
+
+/// The type of the two notice functions.
+type NoticeFunction = unsafe extern "C" fn(*mut u8, usize, *const u8, usize, u64, u64, u64, u64, *mut u64) -> u64;

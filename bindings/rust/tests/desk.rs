@@ -1,0 +1,104 @@
+//! The calls through the safe types: document 01's run, and a refusal of each kind.
+
+use hondivole::{Kind, MOST_OUTCOME_BYTES, Notice, Operation, Refusal, Table, Totals};
+
+const RUN: &[u8] = include_bytes!("../src/run.xml");
+
+fn desk() -> Table {
+    Table::open("01234", &[("000471", 4), ("471", 4)]).expect("document 01's own table")
+}
+
+fn changed(old: &str, new: &str) -> Vec<u8> {
+    String::from_utf8_lossy(RUN).replace(old, new).into_bytes()
+}
+
+const LINE: Notice = Notice { body: "000471", kind: Kind::Mandato, esercizio: 2021, number: 12, line: 1 };
+
+#[test]
+fn the_run_whole() {
+    let mut table = desk();
+    let mut outcomes = [0; MOST_OUTCOME_BYTES];
+    let answer = table.flow(RUN, &mut outcomes).unwrap();
+    assert_eq!((answer.orders(), answer.accepted()), (2, 1));
+    let read: Vec<_> =
+        answer.outcomes().map(|order| (order.kind, order.operation, order.number, order.lines, order.total)).collect();
+    assert_eq!(
+        read,
+        [(Kind::Mandato, Operation::Inserimento, 12, 2, 15_000), (Kind::Reversale, Operation::Inserimento, 12, 1, 2_000)]
+    );
+    let verdicts: Vec<_> = answer.outcomes().map(|order| order.verdict).collect();
+    assert_eq!(verdicts, [Ok(()), Err(Refusal::LinesDontSum)]);
+    assert_eq!(table.totals("000471"), Ok(Totals { used: 1, ..Totals::default() }));
+    assert_eq!(table.totals("471"), Ok(Totals::default()));
+}
+
+#[test]
+fn refused_flows_change_nothing() {
+    let mut table = desk();
+    let broken = changed("2021-03-01<", "2021-02-29<");
+    let place = broken.windows(13).position(|bytes| bytes == b"<data_mandato").unwrap();
+    let flows = [
+        (vec![b' '; 32_769], Refusal::FlowTooLong),
+        (Vec::new(), Refusal::MarkupBreaks),
+        (changed("esercizio>", "anno>"), Refusal::StructureBreaks),
+        (broken, Refusal::FieldBreaks { place }),
+        (changed("01234", "43210"), Refusal::OtherBank),
+        (changed("000471", "0471"), Refusal::NoSuchBody),
+    ];
+    for (flow, refusal) in flows {
+        let mut outcomes = [7; 32];
+        assert_eq!(table.flow(&flow, &mut outcomes), Err(refusal));
+        assert_eq!(outcomes, [7; 32]);
+    }
+    assert_eq!(table.flow(RUN, &mut [0; 31]), Err(Refusal::OutcomesTooShort));
+    assert_eq!(table, desk());
+}
+
+#[test]
+fn bytes_that_are_no_table() {
+    for bytes in [&mut [][..], &mut [0; 15], &mut [0xFF; 848]] {
+        let mut table = Table::over(bytes);
+        assert_eq!(table.flow(RUN, &mut [0; 32]), Err(Refusal::TableNotValid));
+        assert_eq!(table.execute(&LINE), Err(Refusal::TableNotValid));
+        assert_eq!(table.reverse(&LINE), Err(Refusal::TableNotValid));
+        let bytes: &[u8] = table.into_bytes();
+        assert_eq!(Table::over(bytes).totals("471"), Err(Refusal::TableNotValid));
+    }
+}
+
+#[test]
+fn notices() {
+    let mut table = desk();
+    assert_eq!(table.execute(&LINE), Err(Refusal::NoSuchOrder));
+    table.flow(RUN, &mut [0; 32]).unwrap();
+    assert_eq!(table.reverse(&LINE), Err(Refusal::NotExecuted));
+    assert_eq!(table.execute(&Notice { body: "0471", ..LINE }), Err(Refusal::NoSuchBody));
+    assert_eq!(table.execute(&Notice { body: "", ..LINE }), Err(Refusal::NoSuchBody));
+    assert_eq!(table.execute(&Notice { line: 3, ..LINE }), Err(Refusal::NoSuchLine));
+    assert_eq!(table.execute(&LINE), Ok(10_000));
+    assert_eq!(table.execute(&LINE), Err(Refusal::AlreadyExecuted));
+    let again = changed("INSERIMENTO", "ANNULLO");
+    let mut outcomes = [0; 32];
+    let verdicts: Vec<_> = table.flow(&again, &mut outcomes).unwrap().outcomes().map(|order| order.verdict).collect();
+    assert_eq!(verdicts, [Err(Refusal::LineExecuted), Err(Refusal::LinesDontSum)]);
+    assert_eq!(table.totals("000471"), Ok(Totals { used: 1, paid: 10_000, collected: 0, balance: -10_000 }));
+    assert_eq!(table.reverse(&LINE), Ok(10_000));
+    assert_eq!(table.flow(&again, &mut outcomes).unwrap().accepted(), 1);
+    assert_eq!(table.execute(&LINE), Err(Refusal::OrderAnnulled));
+}
+
+#[test]
+fn openings() {
+    let refused = |abi: &str, bodies: &[(&str, u16)]| Table::open(abi, bodies) == Err(Refusal::RequestWrong);
+    assert!(refused("0123", &[("471", 1)]));
+    assert!(refused("0123a", &[("471", 1)]));
+    assert!(refused("01234", &[]));
+    assert!(refused("01234", &[("", 1)]));
+    assert!(refused("01234", &[("47 1", 1)]));
+    assert!(refused("01234", &[("12345678901234567", 1)]));
+    assert!(refused("01234", &[("471", 0)]));
+    assert!(refused("01234", &[("471", 513)]));
+    assert!(refused("01234", &[("471", 1), ("471", 1)]));
+    assert!(refused("01234", &[("A", 512), ("a", 512)]));
+    assert_eq!(Table::open("01234", &[("A", 512), ("a", 169)]).unwrap().bytes().len(), 65_456);
+}

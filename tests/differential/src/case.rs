@@ -1,0 +1,271 @@
+//! A case: a table and the calls made on it.
+
+use std::fmt::{self, Write};
+
+use reference::table::{ENTRY, HEAD, SLOT, number_at};
+use reference::{FlowAnswer, Notice, NoticeAnswer, Totals};
+
+/// A table and calls on it, one after another.
+#[derive(Clone, PartialEq, Eq)]
+pub struct Case {
+    /// The table's bytes before the first call; any bytes.
+    pub table: Vec<u8>,
+    /// The calls.
+    pub calls: Vec<Call>,
+}
+
+/// One call.
+#[derive(Clone, PartialEq, Eq)]
+pub enum Call {
+    /// Opens a table in a buffer of `room` bytes, which is the case's table from here on.
+    Open {
+        /// The request.
+        request: Vec<u8>,
+        /// The length of the lent buffer.
+        room: usize,
+    },
+    /// Takes a flow with an outcome buffer of `room` bytes.
+    Flow {
+        /// The flow.
+        flow: Vec<u8>,
+        /// The length of the outcome buffer.
+        room: usize,
+    },
+    /// Takes a notice of execution.
+    Execute {
+        /// The body's code.
+        body: Vec<u8>,
+        /// What it names besides.
+        notice: Notice,
+    },
+    /// Takes a notice of reversal.
+    Reverse {
+        /// The body's code.
+        body: Vec<u8>,
+        /// What it names besides.
+        notice: Notice,
+    },
+    /// Reports totals.
+    Totals {
+        /// The body's code.
+        body: Vec<u8>,
+    },
+}
+
+/// What a call answers.
+#[derive(Clone, Copy, Debug, PartialEq, Eq)]
+pub enum Answer {
+    /// The code of an opening.
+    Open(u64),
+    /// The answer to a flow.
+    Flow(FlowAnswer),
+    /// The answer to a notice.
+    Notice(NoticeAnswer),
+    /// The answer to a totals call.
+    Totals(Totals),
+}
+
+impl Answer {
+    /// The answer's code.
+    pub fn code(&self) -> u64 {
+        match self {
+            Answer::Open(code) => *code,
+            Answer::Flow(answer) => answer.code,
+            Answer::Notice(answer) => answer.code,
+            Answer::Totals(answer) => answer.code,
+        }
+    }
+}
+
+impl Case {
+    /// How long the case is: its bytes, and something for each call and each number.
+    pub fn cost(&self) -> usize {
+        let calls = self.calls.iter().map(|call| match call {
+            Call::Open { request, room } => 16 + request.len() + digits(*room as u64),
+            Call::Flow { flow, room } => 16 + flow.len() + digits(*room as u64),
+            Call::Execute { body, notice } | Call::Reverse { body, notice } => {
+                let numbers = [notice.kind, notice.esercizio, notice.number, notice.line];
+                16 + body.len() + numbers.map(digits).iter().sum::<usize>()
+            }
+            Call::Totals { body } => 16 + body.len(),
+        });
+        self.table.len() + calls.sum::<usize>()
+    }
+}
+
+fn digits(number: u64) -> usize {
+    number.checked_ilog10().map_or(0, |log| log as usize + 1)
+}
+
+/// The bytes as a Rust expression of type `Vec<u8>`, with long runs of one byte written short.
+pub fn literal(bytes: &[u8]) -> String {
+    let mut parts = Vec::new();
+    let mut plain = Vec::new();
+    let mut rest = bytes;
+    while let Some(&first) = rest.first() {
+        let run = rest.iter().take_while(|&&byte| byte == first).count();
+        if run >= 20 {
+            if !plain.is_empty() {
+                parts.push(format!("&b\"{}\"[..]", std::mem::take(&mut plain).escape_ascii()));
+            }
+            parts.push(format!("&[{first}; {run}]"));
+        } else {
+            plain.extend(&rest[..run]);
+        }
+        rest = &rest[run..];
+    }
+    if parts.is_empty() {
+        return format!("b\"{}\".to_vec()", plain.escape_ascii());
+    }
+    if !plain.is_empty() {
+        parts.push(format!("b\"{}\"", plain.escape_ascii()));
+    }
+    if let Some(short) = parts[0].strip_prefix("&[") {
+        parts[0] = format!("&[{short}[..]");
+    }
+    format!("[{}].concat()", parts.join(", "))
+}
+
+/// The case as a Rust expression.
+impl fmt::Debug for Case {
+    fn fmt(&self, to: &mut fmt::Formatter) -> fmt::Result {
+        writeln!(to, "Case {{\n    table: {},\n    calls: vec![", literal(&self.table))?;
+        for call in &self.calls {
+            writeln!(to, "        {call:?},")?;
+        }
+        to.write_str("    ],\n}")
+    }
+}
+
+/// The call as a Rust expression.
+impl fmt::Debug for Call {
+    fn fmt(&self, to: &mut fmt::Formatter) -> fmt::Result {
+        match self {
+            Call::Open { request, room } => write!(to, "Call::Open {{ request: {}, room: {room} }}", literal(request)),
+            Call::Flow { flow, room } => write!(to, "Call::Flow {{ flow: {}, room: {room} }}", literal(flow)),
+            Call::Execute { body, notice } => write!(to, "Call::Execute {{ body: {}, notice: {notice:?} }}", literal(body)),
+            Call::Reverse { body, notice } => write!(to, "Call::Reverse {{ body: {}, notice: {notice:?} }}", literal(body)),
+            Call::Totals { body } => write!(to, "Call::Totals {{ body: {} }}", literal(body)),
+        }
+    }
+}
+
+/// The case as text for a reader.
+impl fmt::Display for Case {
+    fn fmt(&self, to: &mut fmt::Formatter) -> fmt::Result {
+        writeln!(to, "{}", table_text(&self.table))?;
+        for (index, call) in self.calls.iter().enumerate() {
+            writeln!(to, "call {index}: {call}")?;
+        }
+        Ok(())
+    }
+}
+
+/// The call as text for a reader.
+impl fmt::Display for Call {
+    fn fmt(&self, to: &mut fmt::Formatter) -> fmt::Result {
+        let notice = |to: &mut fmt::Formatter, what: &str, body: &[u8], notice: &Notice| {
+            let Notice { kind, esercizio, number, line } = notice;
+            write!(to, "{what} body {} kind {kind} esercizio {esercizio} number {number} line {line}", quoted(body))
+        };
+        match self {
+            Call::Open { request, room } => {
+                write!(to, "open in {room} bytes, request of {} bytes {}", request.len(), quoted(request))
+            }
+            Call::Flow { flow, room } => write!(to, "flow of {} bytes, room {room}:\n{}", flow.len(), text(flow)),
+            Call::Execute { body, notice: named } => notice(to, "execute", body, named),
+            Call::Reverse { body, notice: named } => notice(to, "reverse", body, named),
+            Call::Totals { body } => write!(to, "totals body {}", quoted(body)),
+        }
+    }
+}
+
+fn quoted(bytes: &[u8]) -> String {
+    format!("\"{}\"", bytes.escape_ascii())
+}
+
+/// A flow with what is no printable text escaped.
+fn text(flow: &[u8]) -> String {
+    let mut shown = String::new();
+    for chunk in flow.utf8_chunks() {
+        for character in chunk.valid().chars() {
+            if character.is_control() && character != '\n' {
+                shown.extend(character.escape_unicode());
+            } else {
+                shown.push(character);
+            }
+        }
+        let _ = write!(shown, "{}", chunk.invalid().escape_ascii());
+    }
+    shown
+}
+
+/// A table field by field, as far as its bytes go.
+fn table_text(table: &[u8]) -> String {
+    let mut shown = format!("table of {} bytes", table.len());
+    let Some((head, mut rest)) = table.split_at_checked(HEAD) else {
+        return shown;
+    };
+    let bodies = number_at(head, 0, 2);
+    let _ = write!(
+        shown,
+        ": bodies {bodies}, form {}, length {}, ABI {}, rest {:?}",
+        number_at(head, 2, 2),
+        number_at(head, 4, 4),
+        quoted(&head[8..13]),
+        &head[13..],
+    );
+    for _ in 0..bodies {
+        let Some((entry, after)) = rest.split_at_checked(ENTRY) else {
+            return shown;
+        };
+        rest = after;
+        let _ = write!(
+            shown,
+            "\n  body: length {}, code {}, byte 17 {}, slots {}, place {}, rest {:?}",
+            entry[0],
+            quoted(&entry[1..17]),
+            entry[17],
+            number_at(entry, 18, 2),
+            number_at(entry, 20, 4),
+            &entry[24..],
+        );
+    }
+    for (index, slot) in rest.chunks(SLOT).enumerate() {
+        if slot.len() < SLOT || slot.iter().all(|&byte| byte == 0) {
+            continue;
+        }
+        let amounts: Vec<u64> = (0..8).map(|line| number_at(slot, 32 + 8 * line, 8)).collect();
+        let _ = write!(
+            shown,
+            "\n  slot {index}: kind {}, state {}, lines {}, {}, esercizio {}, {:?}, number {}, date {}-{}-{}, total {}, states {:?}, amounts {amounts:?}",
+            slot[0],
+            slot[1],
+            slot[2],
+            slot[3],
+            number_at(slot, 4, 2),
+            &slot[6..8],
+            number_at(slot, 8, 4),
+            number_at(slot, 12, 2),
+            slot[14],
+            slot[15],
+            number_at(slot, 16, 8),
+            &slot[24..32],
+        );
+    }
+    shown
+}
+
+#[cfg(test)]
+mod tests {
+    use super::*;
+
+    #[test]
+    fn literals_are_rust() {
+        assert_eq!(literal(b""), r#"b"".to_vec()"#);
+        assert_eq!(literal(b"a\"\xFF"), r#"b"a\"\xff".to_vec()"#);
+        let zeros = [&b"a"[..], &[0; 20], b"b"].concat();
+        assert_eq!(literal(&zeros), r#"[&b"a"[..], &[0; 20], b"b"].concat()"#);
+        assert_eq!(literal(&[7; 30]), "[&[7; 30][..]].concat()");
+    }
+}

@@ -1,0 +1,227 @@
+//! Cases of every kind, from a generator.
+
+use reference::{Kind, Notice, Table};
+
+use crate::case::{Call, Case};
+use crate::flows::{self, Size};
+use crate::random::Random;
+use crate::tables;
+
+/// What a case is about.
+#[derive(Clone, Copy, Debug, PartialEq, Eq)]
+pub enum Theme {
+    /// A flow without damage on a table with orders.
+    WholeFlow,
+    /// A flow damaged in one place.
+    DamagedFlow,
+    /// Any call on a table damaged in one field.
+    DamagedTable,
+    /// Notices and totals on a table with orders.
+    Notices,
+    /// An opening, whole or damaged.
+    Opening,
+    /// A fresh table and a long row of calls for all its bodies.
+    Sequence,
+    /// Everything changed in many places, or random bytes.
+    Fuzz,
+}
+
+/// The themes of an ordinary run, each with its share.
+const SHARES: [(Theme, usize); 6] = [
+    (Theme::WholeFlow, 16),
+    (Theme::DamagedFlow, 42),
+    (Theme::DamagedTable, 20),
+    (Theme::Notices, 8),
+    (Theme::Opening, 12),
+    (Theme::Sequence, 4),
+];
+
+/// The theme of an ordinary case.
+pub fn theme(random: &mut Random) -> Theme {
+    SHARES[random.weighted(&SHARES.map(|(_, share)| share))].0
+}
+
+/// A case of this theme.
+pub fn case(random: &mut Random, theme: Theme) -> Case {
+    match theme {
+        Theme::WholeFlow => {
+            let table = tables::valid(random);
+            let calls = (0..1 + random.below(2)).map(|_| whole_flow(random, &table, Size::Any)).collect();
+            Case { table: table.encode(), calls }
+        }
+        Theme::DamagedFlow => {
+            let table = if random.percent(70) { tables::empty(random, 3, 4) } else { tables::valid(random) };
+            let size = if random.percent(85) { Size::Few } else { Size::Any };
+            let flow = flows::damaged(random, &table, size);
+            let room = flows::room(random, &flow);
+            Case { table: table.encode(), calls: vec![Call::Flow { flow, room }] }
+        }
+        Theme::DamagedTable => {
+            let (table, bytes) = if random.percent(30) { tables::beyond(random) } else { tables::damaged(random) };
+            let calls = (0..1 + random.below(3)).map(|_| call(random, &table)).collect();
+            Case { table: bytes, calls }
+        }
+        Theme::Notices => {
+            let table = tables::valid(random);
+            let calls = (0..1 + random.below(8))
+                .map(|_| if random.percent(80) { notice(random, &table) } else { totals(random, &table) })
+                .collect();
+            Case { table: table.encode(), calls }
+        }
+        Theme::Opening => {
+            let (request, room) = tables::opening(random);
+            let mut calls = vec![Call::Open { request, room }];
+            if random.percent(20) {
+                let (request, room) = tables::opening(random);
+                calls.push(Call::Open { request, room });
+            }
+            let table = tables::empty(random, 2, 2);
+            calls.push(totals(random, &table));
+            Case { table: Vec::new(), calls }
+        }
+        Theme::Sequence => sequence(random),
+        Theme::Fuzz => fuzz(random),
+    }
+}
+
+/// A fresh table for several bodies and a long row of calls. Each call is chosen after the table that the calls before have left.
+pub fn sequence(random: &mut Random) -> Case {
+    let opened = tables::empty(random, 5, 6);
+    let request = tables::request(&opened);
+    let room = opened.length();
+    let mut table = opened.encode();
+    let mut calls = vec![Call::Open { request, room }];
+    for _ in 0..10 + random.below(50) {
+        let now = Table::decode(&table).expect("calls leave a valid table");
+        let call = call(random, &now);
+        match &call {
+            Call::Flow { flow, room } => {
+                reference::flow(&mut table, flow, &mut vec![0; *room]);
+            }
+            Call::Execute { body, notice } => {
+                reference::execute(&mut table, body, notice);
+            }
+            Call::Reverse { body, notice } => {
+                reference::reverse(&mut table, body, notice);
+            }
+            Call::Open { .. } | Call::Totals { .. } => {}
+        }
+        calls.push(call);
+    }
+    Case { table: Vec::new(), calls }
+}
+
+/// A call on a table.
+fn call(random: &mut Random, table: &Table) -> Call {
+    match random.weighted(&[52, 4, 34, 10]) {
+        0 => whole_flow(random, table, Size::Few),
+        1 => {
+            let flow = flows::damaged(random, table, Size::Few);
+            let room = flows::room(random, &flow);
+            Call::Flow { flow, room }
+        }
+        2 => notice(random, table),
+        _ => totals(random, table),
+    }
+}
+
+fn whole_flow(random: &mut Random, table: &Table, size: Size) -> Call {
+    let flow = flows::whole(random, table, size);
+    let room = flows::room(random, &flow);
+    Call::Flow { flow, room }
+}
+
+fn body_code(random: &mut Random, table: &Table) -> Vec<u8> {
+    let code = random.pick(&table.bodies).code.clone();
+    if random.percent(6) { flows::near_code(random, &code, false) } else { code }
+}
+
+fn totals(random: &mut Random, table: &Table) -> Call {
+    Call::Totals { body: body_code(random, table) }
+}
+
+fn notice(random: &mut Random, table: &Table) -> Call {
+    let body = body_code(random, table);
+    let known = table.bodies.iter().find(|known| known.code == body);
+    let mut notice = match known {
+        Some(known) if !known.orders.is_empty() && random.percent(92) => {
+            let order = random.pick(&known.orders);
+            Notice {
+                kind: order.kind as u64,
+                esercizio: u64::from(order.esercizio),
+                number: u64::from(order.number),
+                line: random.between(1, order.lines.len() as u64),
+            }
+        }
+        _ => Notice {
+            kind: *random.pick(&[Kind::Mandato, Kind::Reversale]) as u64,
+            esercizio: 2021,
+            number: random.between(1, 30),
+            line: 1,
+        },
+    };
+    if random.percent(20) {
+        let number = match random.below(4) {
+            0 => &mut notice.kind,
+            1 => &mut notice.esercizio,
+            2 => &mut notice.number,
+            _ => &mut notice.line,
+        };
+        *number = match random.below(6) {
+            0 => *number + 1,
+            1 => *number - 1,
+            2 => *number + *random.pick(&[1 << 8, 1 << 16, 1 << 24, 1 << 32, 1 << 63]),
+            3 => *random.pick(&[0, 1, 2, 3, 8, 9, 255, 256, 1999, 2100, 9_999_999, 10_000_000, u64::MAX]),
+            4 => !*number,
+            _ => random.next(),
+        };
+    }
+    if random.percent(60) { Call::Execute { body, notice } } else { Call::Reverse { body, notice } }
+}
+
+/// A case of another theme changed in many places, or random bytes altogether.
+fn fuzz(random: &mut Random) -> Case {
+    if random.percent(10) {
+        let mut bytes = |most: usize| -> Vec<u8> {
+            let length = random.below(most);
+            (0..length).map(|_| random.byte()).collect()
+        };
+        let (table, flow, body, request) = (bytes(1000), bytes(2000), bytes(20), bytes(100));
+        let notice = Notice { kind: random.next(), esercizio: random.next(), number: random.next(), line: random.next() };
+        let room = random.below(70);
+        let calls = vec![
+            Call::Flow { flow, room },
+            Call::Execute { body: body.clone(), notice },
+            Call::Reverse { body: body.clone(), notice },
+            Call::Totals { body },
+            Call::Open { request, room: table.len() },
+        ];
+        return Case { table, calls };
+    }
+    let theme = theme(random);
+    let mut case = case(random, theme);
+    if random.percent(30) && !case.table.is_empty() {
+        for _ in 0..1 + random.below(6) {
+            // Only where the layout still stands can a field be found; bytes can be changed anywhere.
+            if Table::decode(&case.table).is_some() {
+                tables::damage(random, &mut case.table);
+            } else if !case.table.is_empty() {
+                let place = random.below(case.table.len());
+                case.table[place] = random.byte();
+            }
+        }
+    }
+    for call in &mut case.calls {
+        let (bytes, most) = match call {
+            Call::Flow { flow, .. } => (flow, 16),
+            Call::Open { request, .. } => (request, 4),
+            Call::Execute { body, .. } | Call::Reverse { body, .. } | Call::Totals { body } => (body, 2),
+        };
+        if random.percent(70) {
+            for _ in 0..1 + random.below(most) {
+                flows::damage_bytes(random, bytes);
+            }
+        }
+    }
+    case
+}

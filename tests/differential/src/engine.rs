@@ -1,0 +1,160 @@
+//! What is compared: the five functions, as the C header has them.
+
+use reference::Notice;
+
+/// The five functions of `include/hondivole.h`, with slices for pointers and lengths. Each answers with document 01's code and writes
+/// all its results on every path.
+pub trait Engine {
+    /// What the engine is, in a few words.
+    fn name(&self) -> String;
+
+    /// Opens a table.
+    fn open(&self, request: &[u8], table: &mut [u8]) -> u64;
+
+    /// Takes a flow.
+    fn flow(
+        &self,
+        table: &mut [u8],
+        flow: &[u8],
+        outcomes: &mut [u8],
+        place: &mut u64,
+        orders: &mut u64,
+        accepted: &mut u64,
+    ) -> u64;
+
+    /// Takes a notice of execution.
+    fn execute(&self, table: &mut [u8], body: &[u8], notice: &Notice, cents: &mut u64) -> u64;
+
+    /// Takes a notice of reversal.
+    fn reverse(&self, table: &mut [u8], body: &[u8], notice: &Notice, cents: &mut u64) -> u64;
+
+    /// Reports a body's totals.
+    fn totals(&self, table: &[u8], body: &[u8], used: &mut u64, paid: &mut u64, collected: &mut u64, balance: &mut i64) -> u64;
+}
+
+/// The reference as an engine.
+pub struct Reference;
+
+impl Engine for Reference {
+    fn name(&self) -> String {
+        "the reference".into()
+    }
+
+    fn open(&self, request: &[u8], table: &mut [u8]) -> u64 {
+        reference::open(request, table)
+    }
+
+    fn flow(
+        &self,
+        table: &mut [u8],
+        flow: &[u8],
+        outcomes: &mut [u8],
+        place: &mut u64,
+        orders: &mut u64,
+        accepted: &mut u64,
+    ) -> u64 {
+        let answer = reference::flow(table, flow, outcomes);
+        (*place, *orders, *accepted) = (answer.place, answer.orders, answer.accepted);
+        answer.code
+    }
+
+    fn execute(&self, table: &mut [u8], body: &[u8], notice: &Notice, cents: &mut u64) -> u64 {
+        let answer = reference::execute(table, body, notice);
+        *cents = answer.cents;
+        answer.code
+    }
+
+    fn reverse(&self, table: &mut [u8], body: &[u8], notice: &Notice, cents: &mut u64) -> u64 {
+        let answer = reference::reverse(table, body, notice);
+        *cents = answer.cents;
+        answer.code
+    }
+
+    fn totals(&self, table: &[u8], body: &[u8], used: &mut u64, paid: &mut u64, collected: &mut u64, balance: &mut i64) -> u64 {
+        let answer = reference::totals(table, body);
+        (*used, *paid, *collected, *balance) = (answer.used, answer.paid, answer.collected, answer.balance);
+        answer.code
+    }
+}
+
+/// The library as an engine: its C functions.
+#[cfg(feature = "native")]
+pub struct Library;
+
+#[cfg(feature = "native")]
+impl Engine for Library {
+    fn name(&self) -> String {
+        "the library".into()
+    }
+
+    fn open(&self, request: &[u8], table: &mut [u8]) -> u64 {
+        // SAFETY: the pointers and lengths are those of slices that don't overlap.
+        unsafe { hondivole::ffi::hondivole_open(request.as_ptr(), request.len(), table.as_mut_ptr(), table.len()) }
+    }
+
+    fn flow(
+        &self,
+        table: &mut [u8],
+        flow: &[u8],
+        outcomes: &mut [u8],
+        place: &mut u64,
+        orders: &mut u64,
+        accepted: &mut u64,
+    ) -> u64 {
+        // SAFETY: the pointers and lengths are those of slices and numbers that don't overlap.
+        unsafe {
+            hondivole::ffi::hondivole_flow(
+                table.as_mut_ptr(),
+                table.len(),
+                flow.as_ptr(),
+                flow.len(),
+                outcomes.as_mut_ptr(),
+                outcomes.len(),
+                place,
+                orders,
+                accepted,
+            )
+        }
+    }
+
+    fn execute(&self, table: &mut [u8], body: &[u8], notice: &Notice, cents: &mut u64) -> u64 {
+        // SAFETY: the pointers and lengths are those of slices and of a number that don't overlap.
+        unsafe {
+            hondivole::ffi::hondivole_execute(
+                table.as_mut_ptr(),
+                table.len(),
+                body.as_ptr(),
+                body.len(),
+                notice.kind,
+                notice.esercizio,
+                notice.number,
+                notice.line,
+                cents,
+            )
+        }
+    }
+
+    fn reverse(&self, table: &mut [u8], body: &[u8], notice: &Notice, cents: &mut u64) -> u64 {
+        // SAFETY: the pointers and lengths are those of slices and of a number that don't overlap.
+        unsafe {
+            hondivole::ffi::hondivole_reverse(
+                table.as_mut_ptr(),
+                table.len(),
+                body.as_ptr(),
+                body.len(),
+                notice.kind,
+                notice.esercizio,
+                notice.number,
+                notice.line,
+                cents,
+            )
+        }
+    }
+
+    fn totals(&self, table: &[u8], body: &[u8], used: &mut u64, paid: &mut u64, collected: &mut u64, balance: &mut i64) -> u64 {
+        // SAFETY: the pointers and lengths are those of slices and numbers that don't overlap.
+        unsafe {
+            hondivole::ffi::hondivole_totals(table.as_ptr(), table.len(), body.as_ptr(), body.len(), used, paid, collected, balance)
+        }
+    }
+}

@@ -1,0 +1,23 @@
+//! The library against the reference.
+//!
+//! From a seed come cases: tables and calls, whole and damaged. Each is given to the reference and to the engine that is tried, and
+//! every answer, outcome byte and table byte is compared, with guards around each buffer. A case that differs is made as short as it
+//! can be while it still differs. See `main.rs` for the command line.
+
+pub mod case;
+pub mod cases;
+pub mod compare;
+pub mod engine;
+pub mod flows;
+pub mod isolation;
+pub mod pen;
+pub mod random;
+pub mod shrink;
+pub mod sweep;
+pub mod tables;
+pub mod wrong;
+
+pub use case::{Answer, Call, Case};
+pub use cases::Theme;
+pub use compare::{Difference, Yard};
+pub use engine::{Engine, Reference};

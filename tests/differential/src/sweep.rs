@@ -1,0 +1,150 @@
+//! Cases that leave nothing to chance: every byte of a flow, a table and a request set to every value in turn, every character in a text,
+//! every day and every second at the edges.
+
+use reference::markup::is_character;
+use reference::{Body, Date, Kind, Line, Notice, Order, State, Table};
+
+use crate::case::{Call, Case};
+use crate::tables;
+
+/// A table with an order in each state, for the bodies 000471 and 471.
+fn table() -> Table {
+    let order = |kind, number, state, lines: &[(bool, u64)]| Order {
+        kind,
+        state,
+        esercizio: 2021,
+        number,
+        date: Date { year: 2021, month: 3, day: 1 },
+        total: lines.iter().map(|line| line.1).sum(),
+        lines: lines.iter().map(|&(executed, amount)| Line { executed, amount }).collect(),
+    };
+    let first = vec![
+        order(Kind::Mandato, 12, State::Acquired, &[(false, 10_000), (false, 5_000)]),
+        order(Kind::Reversale, 12, State::Acquired, &[(true, 256), (false, 0), (true, 65_536)]),
+        order(Kind::Mandato, 13, State::Annulled, &[(false, 1)]),
+    ];
+    let second = vec![order(Kind::Mandato, 12, State::Acquired, &[(true, 7); 8])];
+    Table {
+        abi: *b"01234",
+        bodies: vec![
+            Body { code: b"000471".to_vec(), slots: 4, orders: first },
+            Body { code: b"471".to_vec(), slots: 1, orders: second },
+        ],
+    }
+}
+
+/// A flow that changes an order of the table, with parts that a case replaces.
+fn flow(created: &str, date: &str, progressivo: &str, name: &[u8], passed: &[u8]) -> Vec<u8> {
+    let mut flow = b"\xEF\xBB\xBF<?xml version=\"1.0\" encoding=\"UTF-8\"?>\n".to_vec();
+    flow.extend(b"<flusso_ordinativi><codice_ABI_BT>01234</codice_ABI_BT><identificativo_flusso>A1</identificativo_flusso>");
+    flow.extend(format!("<data_ora_creazione_flusso>{created}</data_ora_creazione_flusso>").bytes());
+    flow.extend(b"<codice_ente_BT>000471</codice_ente_BT><esercizio>2021</esercizio><x>");
+    flow.extend(passed);
+    flow.extend(b"</x><mandato><tipo_operazione>VARIAZIONE</tipo_operazione><numero_mandato>012</numero_mandato>");
+    flow.extend(format!("<data_mandato>{date}</data_mandato><importo_mandato>10.50</importo_mandato>").bytes());
+    flow.extend(format!("<informazioni_beneficiario><progressivo_beneficiario>{progressivo}</progressivo_beneficiario>").bytes());
+    flow.extend(b"<importo_beneficiario>10.50</importo_beneficiario><beneficiario><anagrafica_beneficiario>");
+    flow.extend(name);
+    flow.extend(b"</anagrafica_beneficiario></beneficiario></informazioni_beneficiario></mandato></flusso_ordinativi>\n");
+    flow
+}
+
+const CREATED: &str = "2021-03-01T09:30:00";
+const DATE: &str = "2021-12-31";
+
+/// All of them.
+pub fn cases() -> impl Iterator<Item = Case> {
+    let bytes = table().encode();
+    let with_flow = move |flow| Case { table: bytes.clone(), calls: vec![Call::Flow { flow, room: 16 }] };
+    bytes_of_a_table().chain(bytes_of_a_request()).chain(
+        dates().chain(times()).chain(numbers()).chain(characters()).chain(sequences()).chain(bytes_of_a_flow()).map(with_flow),
+    )
+}
+
+/// Every byte with every value in its place.
+fn replaced(bytes: Vec<u8>) -> impl Iterator<Item = Vec<u8>> {
+    (0..bytes.len() * 256).map(move |index| {
+        let mut changed = bytes.clone();
+        changed[index / 256] = index as u8;
+        changed
+    })
+}
+
+fn bytes_of_a_table() -> impl Iterator<Item = Case> {
+    let notice = Notice { kind: 2, esercizio: 2021, number: 12, line: 2 };
+    let calls = [
+        Call::Totals { body: b"000471".to_vec() },
+        Call::Execute { body: b"000471".to_vec(), notice },
+        Call::Reverse { body: b"000471".to_vec(), notice },
+        Call::Flow { flow: flow(CREATED, DATE, "1", b"R", b""), room: 16 },
+    ];
+    // One kind of call in turn: each of them looks at the whole table.
+    replaced(table().encode()).enumerate().map(move |(index, table)| Case { table, calls: vec![calls[index % 7 % 4].clone()] })
+}
+
+fn bytes_of_a_request() -> impl Iterator<Item = Case> {
+    let table = table();
+    replaced(tables::request(&table))
+        .map(move |request| Case { table: Vec::new(), calls: vec![Call::Open { request, room: table.length() }] })
+}
+
+fn bytes_of_a_flow() -> impl Iterator<Item = Vec<u8>> {
+    replaced(flow(CREATED, DATE, "1", "R&amp;\u{e0}]".as_bytes(), b"<y></y>"))
+}
+
+fn dates() -> impl Iterator<Item = Vec<u8>> {
+    let years = [1999, 2000, 2001, 2004, 2020, 2021, 2096, 2098, 2099, 2100];
+    let days = (0..14).flat_map(|month| (0..33).map(move |day| (month, day)));
+    days.flat_map(move |(month, day)| years.map(|year| format!("{year}-{month:02}-{day:02}"))).flat_map(|date| {
+        let created = format!("{date}T00:00:00");
+        [flow(CREATED, &date, "1", b"R", b""), flow(&created, DATE, "1", b"R", b"")]
+    })
+}
+
+fn times() -> impl Iterator<Item = Vec<u8>> {
+    (0..100).flat_map(|part| {
+        let times = [format!("{part:02}:59:59"), format!("23:{part:02}:59"), format!("23:59:{part:02}")];
+        times.map(|time| flow(&format!("{DATE}T{time}"), DATE, "1", b"R", b""))
+    })
+}
+
+fn numbers() -> impl Iterator<Item = Vec<u8>> {
+    (0..1001).flat_map(|number| [format!("{number}"), format!("{number:03}")]).map(|number| flow(CREATED, DATE, &number, b"R", b""))
+}
+
+/// Every character that a text may have, many to a flow; every other code point in a flow of its own.
+fn characters() -> impl Iterator<Item = Vec<u8>> {
+    let all: Vec<char> = ('\0'..=char::MAX).collect();
+    let (allowed, refused): (Vec<char>, Vec<char>) =
+        all.into_iter().filter(|character| !"<&".contains(*character)).partition(|&c| is_character(c));
+    let whole: Vec<String> = allowed.chunks(4_000).map(|characters| characters.iter().collect()).collect();
+    let surrogates = (0xD800..0xE000u32).map(|point| vec![0xED, 0x80 | (point >> 6 & 0x3F) as u8, 0x80 | (point & 0x3F) as u8]);
+    let refused = refused.into_iter().map(|character| character.to_string().into_bytes()).chain(surrogates);
+    let passed = whole.into_iter().map(String::into_bytes).chain(refused.clone());
+    let named = refused.map(|text| flow(CREATED, DATE, "1", &text, b""));
+    passed.map(|text| flow(CREATED, DATE, "1", b"R", &text)).chain(named)
+}
+
+/// Sequences of bytes at the edges of UTF-8.
+fn sequences() -> impl Iterator<Item = Vec<u8>> {
+    const EDGES: [u8; 9] = [0x7F, 0x80, 0x8F, 0x90, 0x9F, 0xA0, 0xBF, 0xC0, 0xFF];
+    let pairs = (0x80..=0xFF).flat_map(|first| EDGES.map(|second| (first, second)));
+    pairs.flat_map(|(first, second)| {
+        let texts: [&[u8]; 5] =
+            [&[first], &[first, second], &[first, second, 0x80], &[first, second, 0xBF, 0x80], &[first, 0x80, 0x80, second]];
+        texts.map(|text| flow(CREATED, DATE, "1", text, b""))
+    })
+}
+
+#[cfg(test)]
+mod tests {
+    use super::*;
+
+    #[test]
+    fn the_base_stands() {
+        let mut bytes = table().encode();
+        assert!(Table::decode(&bytes).is_some());
+        let base = flow(CREATED, DATE, "1", "R&amp;\u{e0}]".as_bytes(), b"<y></y>");
+        assert_eq!(reference::flow(&mut bytes, &base, &mut [0; 16]).accepted, 1);
+    }
+}

@@ -1,0 +1,213 @@
+//! Engines that are wrong on purpose: the comparison must find each of them.
+//!
+//! The first five are document 01's "Errors we have seen made".
+
+use reference::table::{ENTRY, HEAD, SLOT, number_at};
+use reference::{Notice, State, Table, markup};
+
+use crate::engine::{Engine, Reference};
+
+/// What an engine does wrong.
+#[derive(Clone, Copy, Debug, PartialEq, Eq)]
+pub enum Fault {
+    /// Codes are turned into integers: 000471 is 471.
+    CodesAsIntegers,
+    /// A changed order keeps old amounts in lines it no longer has.
+    StaleAmounts,
+    /// ANNULLO goes by number alone.
+    AnnulloByNumber,
+    /// "No slot" is answered because another body filled its own.
+    SlotsOfAnother,
+    /// A flow is half applied before a late field breaks.
+    HalfApplied,
+    /// Outcome bytes past the last order are cleared.
+    OutcomesCleared,
+    /// The place of a field is counted without the byte order mark.
+    PlaceWithoutMark,
+    /// The last bytes of an entry aren't looked at.
+    EntryRestIgnored,
+    /// Annulled orders are no used slots.
+    AnnulledNotUsed,
+    /// A refused notice tells the line's cents.
+    CentsOnRefusal,
+    /// Line numbers are cut to a byte.
+    LineCutToByte,
+}
+
+/// All of them.
+pub const FAULTS: [Fault; 11] = [
+    Fault::CodesAsIntegers,
+    Fault::StaleAmounts,
+    Fault::AnnulloByNumber,
+    Fault::SlotsOfAnother,
+    Fault::HalfApplied,
+    Fault::OutcomesCleared,
+    Fault::PlaceWithoutMark,
+    Fault::EntryRestIgnored,
+    Fault::AnnulledNotUsed,
+    Fault::CentsOnRefusal,
+    Fault::LineCutToByte,
+];
+
+/// The reference with one fault.
+pub struct Wrong(pub Fault);
+
+impl Wrong {
+    /// The code under which the wrong engine looks for this body.
+    fn code(&self, table: &[u8], code: &[u8]) -> Vec<u8> {
+        if self.0 == Fault::CodesAsIntegers
+            && let (Some(table), Some(value)) = (Table::decode(table), integer(code))
+            && let Some(body) = table.bodies.iter().find(|body| integer(&body.code) == Some(value))
+        {
+            return body.code.clone();
+        }
+        code.to_vec()
+    }
+
+    fn notice(&self, notice: &Notice) -> Notice {
+        match self.0 {
+            Fault::LineCutToByte => Notice { line: notice.line & 0xFF, ..*notice },
+            _ => *notice,
+        }
+    }
+
+    fn cents(&self, table: &[u8], body: &[u8], notice: &Notice, code: u64, cents: &mut u64) {
+        if self.0 == Fault::CentsOnRefusal && matches!(code, 21 | 22) {
+            let mut copy = table.to_vec();
+            let other_way = if code == 21 { reference::reverse } else { reference::execute };
+            *cents = other_way(&mut copy, body, notice).cents;
+        }
+    }
+
+    /// The table as the wrong engine reads it.
+    fn mended(&self, table: &[u8]) -> Vec<u8> {
+        let mut mended = table.to_vec();
+        if self.0 == Fault::EntryRestIgnored && table.len() > HEAD {
+            for entry in mended[HEAD..].chunks_mut(ENTRY).take(number_at(table, 0, 2) as usize) {
+                if let Some(rest) = entry.get_mut(24..) {
+                    rest.fill(0);
+                }
+            }
+        }
+        mended
+    }
+
+    /// The flow as the wrong engine reads it.
+    fn renamed(&self, table: &[u8], flow: &[u8]) -> Option<Vec<u8>> {
+        const TAG: &[u8] = b"<codice_ente_BT>";
+        let from = flow.windows(TAG.len()).position(|window| window == TAG)? + TAG.len();
+        let to = from + flow[from..].iter().position(|&byte| byte == b'<')?;
+        Some([&flow[..from], &self.code(table, &flow[from..to]), &flow[to..]].concat())
+    }
+}
+
+fn integer(code: &[u8]) -> Option<u64> {
+    std::str::from_utf8(code).ok()?.parse().ok()
+}
+
+impl Engine for Wrong {
+    fn name(&self) -> String {
+        format!("the wrong engine ({:?})", self.0)
+    }
+
+    fn open(&self, request: &[u8], table: &mut [u8]) -> u64 {
+        Reference.open(request, table)
+    }
+
+    fn flow(
+        &self,
+        table: &mut [u8],
+        flow: &[u8],
+        outcomes: &mut [u8],
+        place: &mut u64,
+        orders: &mut u64,
+        accepted: &mut u64,
+    ) -> u64 {
+        let before = table.to_vec();
+        let mut scratch = self.mended(table);
+        let code = Reference.flow(&mut scratch, flow, outcomes, place, orders, accepted);
+        if code == 0 {
+            table.copy_from_slice(&scratch);
+        }
+        match self.0 {
+            Fault::CodesAsIntegers if matches!(code, 0 | 7) => {
+                table.copy_from_slice(&before);
+                let renamed = self.renamed(table, flow).unwrap_or_default();
+                return Reference.flow(table, &renamed, outcomes, place, orders, accepted);
+            }
+            Fault::StaleAmounts if code == 0 => {
+                let slots = HEAD + ENTRY * number_at(table, 0, 2) as usize;
+                let pairs = table[slots..].chunks_mut(SLOT).zip(before[slots..].chunks(SLOT));
+                for (slot, old) in pairs {
+                    for line in usize::from(slot[2])..usize::from(old[2]) {
+                        let amount = 32 + 8 * line..40 + 8 * line;
+                        slot[amount.clone()].copy_from_slice(&old[amount]);
+                    }
+                }
+            }
+            Fault::AnnulloByNumber if code == 0 => {
+                let Some(mut changed) = Table::decode(table) else {
+                    return code;
+                };
+                for outcome in outcomes.chunks_mut(16).take(*orders as usize).filter(|outcome| outcome[2] == 19) {
+                    let number = number_at(outcome, 4, 4) as u32;
+                    let mut records = changed.bodies.iter_mut().flat_map(|body| &mut body.orders);
+                    let found = records.find(|record| record.number == number && !record.has_executed_line());
+                    if let Some(record) = found {
+                        record.state = State::Annulled;
+                        outcome[2] = 0;
+                        *accepted += 1;
+                    }
+                }
+                table.copy_from_slice(&changed.encode());
+            }
+            Fault::SlotsOfAnother if code == 0 && *orders == 1 && *accepted == 1 && outcomes[1] == 1 => {
+                let full =
+                    Table::decode(&before).is_some_and(|table| table.bodies.iter().any(|body| body.orders.len() == body.slots));
+                if full {
+                    table.copy_from_slice(&before);
+                    outcomes[2] = 15;
+                    *accepted = 0;
+                }
+            }
+            Fault::HalfApplied if code == 5 => {
+                let good = &flow[..*place as usize];
+                let ends = [&b"</mandato>"[..], b"</reversale>"].map(|tag| {
+                    let at = good.windows(tag.len()).rposition(|window| window == tag);
+                    at.map_or(0, |at| at + tag.len())
+                });
+                let cut = [&good[..ends[0].max(ends[1])], b"</flusso_ordinativi>"].concat();
+                reference::flow(table, &cut, &mut [0; 1024]);
+            }
+            Fault::OutcomesCleared if code == 0 => outcomes[16 * *orders as usize..].fill(0),
+            Fault::PlaceWithoutMark if code == 5 && markup::read(flow).is_some() && flow.starts_with(b"\xEF\xBB\xBF") => {
+                *place -= 3
+            }
+            _ => {}
+        }
+        code
+    }
+
+    fn execute(&self, table: &mut [u8], body: &[u8], notice: &Notice, cents: &mut u64) -> u64 {
+        let code = Reference.execute(table, &self.code(table, body), &self.notice(notice), cents);
+        self.cents(table, body, notice, code, cents);
+        code
+    }
+
+    fn reverse(&self, table: &mut [u8], body: &[u8], notice: &Notice, cents: &mut u64) -> u64 {
+        let code = Reference.reverse(table, &self.code(table, body), &self.notice(notice), cents);
+        self.cents(table, body, notice, code, cents);
+        code
+    }
+
+    fn totals(&self, table: &[u8], body: &[u8], used: &mut u64, paid: &mut u64, collected: &mut u64, balance: &mut i64) -> u64 {
+        let code = Reference.totals(&self.mended(table), &self.code(table, body), used, paid, collected, balance);
+        if self.0 == Fault::AnnulledNotUsed
+            && let Some(table) = Table::decode(table)
+            && let Some(body) = table.body(body)
+        {
+            *used = body.orders.iter().filter(|order| order.state == State::Acquired).count() as u64;
+        }
+        code
+    }
+}

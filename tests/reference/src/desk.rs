@@ -1,0 +1,267 @@
+//! The five calls.
+
+use crate::fields::{self, FlowOrder, Operation};
+use crate::table::{Body, Kind, Line, Order, State, Table, number_at};
+use crate::{LONGEST_FLOW, MOST_ORDERS, OUTCOME, markup, structure};
+
+/// The answer to a flow.
+#[derive(Clone, Copy, Debug, Default, PartialEq, Eq)]
+pub struct FlowAnswer {
+    /// 0, or the refusal's code.
+    pub code: u64,
+    /// The place of the field that breaks with code 5, else 0.
+    pub place: u64,
+    /// How many orders the flow holds.
+    pub orders: u64,
+    /// How many of them got outcome code 0.
+    pub accepted: u64,
+}
+
+/// What a notice of execution or reversal names, besides the body.
+#[derive(Clone, Copy, Debug, Default, PartialEq, Eq)]
+pub struct Notice {
+    /// 1 mandato, 2 reversale; anything else matches no order.
+    pub kind: u64,
+    /// The year of the books.
+    pub esercizio: u64,
+    /// The order's number.
+    pub number: u64,
+    /// The line, counted from 1.
+    pub line: u64,
+}
+
+/// The answer to a notice.
+#[derive(Clone, Copy, Debug, Default, PartialEq, Eq)]
+pub struct NoticeAnswer {
+    /// 0, or the refusal's code.
+    pub code: u64,
+    /// The line's amount, 0 on refusal.
+    pub cents: u64,
+}
+
+/// A body's totals.
+#[derive(Clone, Copy, Debug, Default, PartialEq, Eq)]
+pub struct Totals {
+    /// 0, 1 or 7.
+    pub code: u64,
+    /// The used slots.
+    pub used: u64,
+    /// Cents of executed mandato lines.
+    pub paid: u64,
+    /// Cents of executed reversale lines.
+    pub collected: u64,
+    /// Collected less paid.
+    pub balance: i64,
+}
+
+/// The step table: one row per operation, one column per situation of the order's record: absent; annulled; acquired with all lines
+/// waiting; acquired with a line executed.
+pub const STEPS: [[u8; 4]; 3] = [[0, 14, 14, 14], [16, 17, 0, 18], [16, 17, 0, 18]];
+
+/// Opens a table: writes it into a buffer of exactly the needed length, every slot empty. The answer is a code.
+pub fn open(request: &[u8], table: &mut [u8]) -> u64 {
+    let Some(opened) = opened(request) else {
+        return 9;
+    };
+    if table.len() != opened.length() {
+        return 10;
+    }
+    table.copy_from_slice(&opened.encode());
+    0
+}
+
+/// The table that a request asks for; `None` when something in it is wrong.
+fn opened(request: &[u8]) -> Option<Table> {
+    let (abi, rest) = request.split_at_checked(5)?;
+    let entries = rest.chunks_exact(20);
+    if !entries.remainder().is_empty() {
+        return None;
+    }
+    let mut bodies = Vec::new();
+    for entry in entries {
+        let (code, after) = entry[1..17].split_at_checked(usize::from(entry[0]))?;
+        if after.iter().any(|&byte| byte != 0) || entry[17] != 0 {
+            return None;
+        }
+        bodies.push(Body { code: code.to_vec(), slots: number_at(entry, 18, 2) as usize, orders: Vec::new() });
+    }
+    let table = Table { abi: abi.try_into().ok()?, bodies };
+    table.stands().then_some(table)
+}
+
+/// The request that opens a table for these bodies (code, slots). Nothing is checked; a code longer than 16 bytes is cut.
+pub fn request(abi: &[u8; 5], bodies: &[(&[u8], u16)]) -> Vec<u8> {
+    let mut request = abi.to_vec();
+    for (code, slots) in bodies {
+        let mut entry = [0; 20];
+        entry[0] = code.len().min(255) as u8;
+        for (place, byte) in entry[1..17].iter_mut().zip(*code) {
+            *place = *byte;
+        }
+        entry[18..].copy_from_slice(&slots.to_be_bytes());
+        request.extend(entry);
+    }
+    request
+}
+
+/// Takes a flow: serves its orders one after another and writes 16 outcome bytes for each.
+pub fn flow(table: &mut [u8], flow: &[u8], outcomes: &mut [u8]) -> FlowAnswer {
+    match taken(table, flow, outcomes.len()) {
+        Err((code, place)) => FlowAnswer { code, place: place as u64, ..FlowAnswer::default() },
+        Ok((changed, written)) => {
+            table.copy_from_slice(&changed.encode());
+            outcomes[..written.len()].copy_from_slice(&written);
+            let codes = written.chunks(OUTCOME).map(|outcome| outcome[2]);
+            FlowAnswer { code: 0, place: 0, orders: codes.len() as u64, accepted: codes.filter(|&code| code == 0).count() as u64 }
+        }
+    }
+}
+
+/// The table after the flow and the outcome bytes, or the refusal's code and place.
+fn taken(table: &[u8], flow: &[u8], room: usize) -> Result<(Table, Vec<u8>), (u64, usize)> {
+    let mut table = Table::decode(table).ok_or((1, 0))?;
+    if flow.len() > LONGEST_FLOW {
+        return Err((2, 0));
+    }
+    let root = markup::read(flow).ok_or((3, 0))?;
+    let raw = structure::read(&root).ok_or((4, 0))?;
+    let flow = fields::read(&raw).map_err(|place| (5, place))?;
+    if flow.abi != table.abi {
+        return Err((6, 0));
+    }
+    let body = table.body_mut(&flow.body).ok_or((7, 0))?;
+    debug_assert!((1..=MOST_ORDERS).contains(&flow.orders.len()));
+    if room < OUTCOME * flow.orders.len() {
+        return Err((8, 0));
+    }
+    let mut outcomes = Vec::new();
+    for order in &flow.orders {
+        let code = serve(body, flow.esercizio, order);
+        outcomes.extend([order.kind as u8, order.operation as u8, code, order.lines.len() as u8]);
+        outcomes.extend(order.number.to_be_bytes());
+        outcomes.extend(order.total.to_be_bytes());
+    }
+    Ok((table, outcomes))
+}
+
+/// Serves one order; the answer is its outcome code.
+fn serve(body: &mut Body, esercizio: u16, order: &FlowOrder) -> u8 {
+    if order.operation == Operation::Sostituzione {
+        return 11;
+    }
+    let numbers = order.lines.iter().map(|line| line.0);
+    if !numbers.eq(1..=order.lines.len() as u16) {
+        return 12;
+    }
+    if order.lines.iter().map(|line| line.1).sum::<u64>() != order.total {
+        return 13;
+    }
+    let record = body
+        .orders
+        .iter()
+        .position(|record| record.kind == order.kind && record.esercizio == esercizio && record.number == order.number);
+    let step = STEPS[order.operation as usize - 1][situation(record.map(|at| &body.orders[at]))];
+    if step != 0 {
+        return step;
+    }
+    let lines = order.lines.iter().map(|&(_, amount)| Line { executed: false, amount });
+    match record.map(|at| &mut body.orders[at]) {
+        None => {
+            if body.orders.len() == body.slots {
+                return 15;
+            }
+            body.orders.push(Order {
+                kind: order.kind,
+                state: State::Acquired,
+                esercizio,
+                number: order.number,
+                date: order.date,
+                total: order.total,
+                lines: lines.collect(),
+            });
+        }
+        Some(record) if order.operation == Operation::Variazione => {
+            record.date = order.date;
+            record.total = order.total;
+            record.lines = lines.collect();
+        }
+        Some(record) => {
+            // Every line of the record waits, so equal lines are equal amounts.
+            if record.total != order.total || !lines.eq(record.lines.iter().copied()) {
+                return 19;
+            }
+            record.state = State::Annulled;
+        }
+    }
+    0
+}
+
+/// The step table's column for a record.
+fn situation(record: Option<&Order>) -> usize {
+    match record {
+        None => 0,
+        Some(record) if record.state == State::Annulled => 1,
+        Some(record) if !record.has_executed_line() => 2,
+        Some(_) => 3,
+    }
+}
+
+/// Takes the bank's notice that a line is executed.
+pub fn execute(table: &mut [u8], body: &[u8], notice: &Notice) -> NoticeAnswer {
+    notified(table, body, notice, true)
+}
+
+/// Takes the bank's notice that an executed line is reversed.
+pub fn reverse(table: &mut [u8], body: &[u8], notice: &Notice) -> NoticeAnswer {
+    notified(table, body, notice, false)
+}
+
+fn notified(bytes: &mut [u8], body: &[u8], notice: &Notice, executed: bool) -> NoticeAnswer {
+    let refused = |code| NoticeAnswer { code, cents: 0 };
+    let Some(mut table) = Table::decode(bytes) else {
+        return refused(1);
+    };
+    let Some(body) = table.body_mut(body) else {
+        return refused(7);
+    };
+    let named = |order: &&mut Order| {
+        order.kind as u64 == notice.kind
+            && u64::from(order.esercizio) == notice.esercizio
+            && u64::from(order.number) == notice.number
+    };
+    let Some(order) = body.orders.iter_mut().find(named) else {
+        return refused(16);
+    };
+    if order.state == State::Annulled {
+        return refused(17);
+    }
+    if notice.line == 0 || notice.line > order.lines.len() as u64 {
+        return refused(20);
+    }
+    let line = &mut order.lines[notice.line as usize - 1];
+    if line.executed == executed {
+        return refused(if executed { 21 } else { 22 });
+    }
+    line.executed = executed;
+    let cents = line.amount;
+    bytes.copy_from_slice(&table.encode());
+    NoticeAnswer { code: 0, cents }
+}
+
+/// Reports a body's totals.
+pub fn totals(table: &[u8], body: &[u8]) -> Totals {
+    let refused = |code| Totals { code, ..Totals::default() };
+    let Some(table) = Table::decode(table) else {
+        return refused(1);
+    };
+    let Some(body) = table.body(body) else {
+        return refused(7);
+    };
+    let executed = |kind: Kind| -> u64 {
+        let orders = body.orders.iter().filter(|order| order.kind == kind);
+        let lines = orders.flat_map(|order| &order.lines);
+        lines.filter(|line| line.executed).map(|line| line.amount).sum()
+    };
+    let (paid, collected) = (executed(Kind::Mandato), executed(Kind::Reversale));
+    Totals { code: 0, used: body.orders.len() as u64, paid, collected, balance: collected as i64 - paid as i64 }
+}

@@ -1,0 +1,303 @@
+//! The fields: the exact form of each, and the values they stand for.
+
+use crate::markup::replaced;
+use crate::structure::{Field, RawFlow, RawLine, RawOrder};
+use crate::table::{Date, Kind};
+
+/// What an order asks for, numbered as in document 01's field table.
+#[derive(Clone, Copy, Debug, PartialEq, Eq)]
+pub enum Operation {
+    /// A new order.
+    Inserimento = 1,
+    /// A changed order.
+    Variazione = 2,
+    /// An order withdrawn.
+    Annullo = 3,
+    /// An order put in place of another; refused in the base.
+    Sostituzione = 4,
+}
+
+/// A flow whose fields all stand.
+#[derive(Clone, Debug, PartialEq, Eq)]
+pub struct Flow {
+    /// The bank.
+    pub abi: [u8; 5],
+    /// The body's code, byte by byte.
+    pub body: Vec<u8>,
+    /// The year of the books.
+    pub esercizio: u16,
+    /// The orders as written.
+    pub orders: Vec<FlowOrder>,
+}
+
+/// An order of a flow.
+#[derive(Clone, Debug, PartialEq, Eq)]
+pub struct FlowOrder {
+    /// Mandato or reversale.
+    pub kind: Kind,
+    /// What it asks for.
+    pub operation: Operation,
+    /// Its number.
+    pub number: u32,
+    /// Its date.
+    pub date: Date,
+    /// Its total in cents.
+    pub total: u64,
+    /// Its lines: progressivo and cents.
+    pub lines: Vec<(u16, u64)>,
+}
+
+/// Reads every field of the flow, in the order they stand in; `Err` has the place of the first that breaks.
+pub fn read(raw: &RawFlow) -> Result<Flow, usize> {
+    let abi = read_field(&raw.abi, abi)?;
+    read_field(&raw.identifier, identifier)?;
+    read_field(&raw.created, date_and_time)?;
+    let body = read_field(&raw.body, body_code)?;
+    let esercizio = read_field(&raw.esercizio, esercizio)?;
+    let orders = raw.orders.iter().map(read_order).collect::<Result<_, _>>()?;
+    Ok(Flow { abi, body, esercizio, orders })
+}
+
+fn read_order(raw: &RawOrder) -> Result<FlowOrder, usize> {
+    Ok(FlowOrder {
+        kind: raw.kind,
+        operation: read_field(&raw.operation, operation)?,
+        number: read_field(&raw.number, number)?,
+        date: read_field(&raw.date, date)?,
+        total: read_field(&raw.total, amount)?,
+        lines: raw.lines.iter().map(read_line).collect::<Result<_, _>>()?,
+    })
+}
+
+fn read_line(raw: &RawLine) -> Result<(u16, u64), usize> {
+    let progressivo = read_field(&raw.progressivo, progressivo)?;
+    let amount = read_field(&raw.amount, amount)?;
+    read_field(&raw.name, party_name)?;
+    Ok((progressivo, amount))
+}
+
+fn read_field<T>(field: &Field, form: fn(&[u8]) -> Option<T>) -> Result<T, usize> {
+    form(field.text).ok_or(field.at)
+}
+
+/// The number that `least` to `most` digits write; `None` for anything else.
+fn digits(text: &[u8], least: usize, most: usize) -> Option<u64> {
+    let fits = (least..=most).contains(&text.len()) && text.iter().all(u8::is_ascii_digit);
+    fits.then(|| text.iter().fold(0, |value, digit| value * 10 + u64::from(digit - b'0')))
+}
+
+/// `codice_ABI_BT`: five digits.
+pub fn abi(text: &[u8]) -> Option<[u8; 5]> {
+    digits(text, 5, 5)?;
+    text.try_into().ok()
+}
+
+/// `identificativo_flusso`: 1 to 35 of letters, digits, `-` `_` `.`.
+pub fn identifier(text: &[u8]) -> Option<()> {
+    let allowed = |byte: &u8| byte.is_ascii_alphanumeric() || b"-_.".contains(byte);
+    ((1..=35).contains(&text.len()) && text.iter().all(allowed)).then_some(())
+}
+
+/// `data_ora_creazione_flusso`: a date, `T`, and a time of the day.
+pub fn date_and_time(text: &[u8]) -> Option<()> {
+    let (day, time) = text.split_at_checked(10)?;
+    date(day)?;
+    let time = time.strip_prefix(b"T")?;
+    let parts: Vec<_> = time.split(|&byte| byte == b':').collect();
+    let [hours, minutes, seconds] = parts.try_into().ok()?;
+    let below = |text, bound| digits(text, 2, 2).is_some_and(|value| value < bound);
+    (below(hours, 24) && below(minutes, 60) && below(seconds, 60)).then_some(())
+}
+
+/// `codice_ente_BT`: 1 to 16 letters and digits.
+pub fn body_code(text: &[u8]) -> Option<Vec<u8>> {
+    let stands = (1..=16).contains(&text.len()) && text.iter().all(u8::is_ascii_alphanumeric);
+    stands.then(|| text.to_vec())
+}
+
+/// `esercizio`: four digits, 2000 to 2099.
+pub fn esercizio(text: &[u8]) -> Option<u16> {
+    let year = digits(text, 4, 4)?;
+    (2000..=2099).contains(&year).then_some(year as u16)
+}
+
+/// `tipo_operazione`.
+pub fn operation(text: &[u8]) -> Option<Operation> {
+    match text {
+        b"INSERIMENTO" => Some(Operation::Inserimento),
+        b"VARIAZIONE" => Some(Operation::Variazione),
+        b"ANNULLO" => Some(Operation::Annullo),
+        b"SOSTITUZIONE" => Some(Operation::Sostituzione),
+        _ => None,
+    }
+}
+
+/// `numero_...`: 1 to 7 digits, not 0.
+pub fn number(text: &[u8]) -> Option<u32> {
+    let value = digits(text, 1, 7)?;
+    (value > 0).then_some(value as u32)
+}
+
+/// `data_...`: YYYY-MM-DD, a real date of 2000 to 2099.
+pub fn date(text: &[u8]) -> Option<Date> {
+    let parts: Vec<_> = text.split(|&byte| byte == b'-').collect();
+    let [year, month, day] = parts.try_into().ok()?;
+    let date = Date { year: digits(year, 4, 4)? as u16, month: digits(month, 2, 2)? as u8, day: digits(day, 2, 2)? as u8 };
+    date.stands().then_some(date)
+}
+
+/// `importo_...`: 1 to 9 digits, a point, two digits, in cents.
+pub fn amount(text: &[u8]) -> Option<u64> {
+    let point = text.iter().position(|&byte| byte == b'.')?;
+    let (euros, cents) = (&text[..point], &text[point + 1..]);
+    if euros.len() > 1 && euros[0] == b'0' {
+        return None;
+    }
+    Some(digits(euros, 1, 9)? * 100 + digits(cents, 2, 2)?)
+}
+
+/// `progressivo_...`: 1 to 3 digits.
+pub fn progressivo(text: &[u8]) -> Option<u16> {
+    digits(text, 1, 3).map(|value| value as u16)
+}
+
+/// `anagrafica_...`: 1 to 140 bytes, counted after the five references are replaced.
+pub fn party_name(text: &[u8]) -> Option<()> {
+    (1..=140).contains(&replaced(text).len()).then_some(())
+}
+
+#[cfg(test)]
+mod tests {
+    use super::*;
+
+    #[test]
+    fn p1_to_p4_amounts() {
+        assert_eq!(amount(b"0.00"), Some(0), "P1");
+        assert_eq!(amount(b"999999999.99"), Some(99_999_999_999), "P2");
+        assert_eq!(amount(b"00.50"), None, "P3");
+        assert_eq!(amount(b"0.5"), None, "P4");
+        for broken in [
+            "",
+            ".",
+            ".50",
+            "1",
+            "1.",
+            "1.5",
+            "1.000",
+            "1,00",
+            "-1.00",
+            "+1.00",
+            "1000000000.00",
+            " 1.00",
+            "1.00 ",
+            "000.00",
+            "1.0a",
+            "1.1.1",
+            "1.-1",
+            "a.00",
+        ] {
+            assert_eq!(amount(broken.as_bytes()), None, "{broken}");
+        }
+    }
+
+    #[test]
+    fn p5_to_p7_numbers() {
+        assert_eq!(number(b"0000012"), Some(12), "P5");
+        assert_eq!(number(b"00000012"), None, "P6");
+        assert_eq!(number(b"0"), None, "P7");
+        assert_eq!(number(b"9999999"), Some(9_999_999));
+        for broken in ["", "0000000", "1a", " 1", "-1", "+1", "1.0"] {
+            assert_eq!(number(broken.as_bytes()), None, "{broken}");
+        }
+    }
+
+    #[test]
+    fn p8_and_p9_dates() {
+        assert!(date(b"2000-02-29").is_some(), "P8");
+        assert!(date(b"2021-02-29").is_none(), "P9");
+        for stands in ["2000-01-01", "2099-12-31", "2096-02-29", "2021-04-30"] {
+            assert!(date(stands.as_bytes()).is_some(), "{stands}");
+        }
+        for broken in [
+            "",
+            "1999-12-31",
+            "2100-01-01",
+            "2021-04-31",
+            "2021-00-01",
+            "2021-13-01",
+            "2021-01-00",
+            "2021-1-01",
+            "2021-01-1",
+            "2021/01/01",
+            "20210101",
+            "2021-01-01 ",
+            "2021-01-01-",
+            "02021-01-01",
+        ] {
+            assert!(date(broken.as_bytes()).is_none(), "{broken}");
+        }
+    }
+
+    #[test]
+    fn p10_a_code_is_no_number() {
+        assert_ne!(body_code(b"000471"), body_code(b"471"), "P10");
+        assert_eq!(body_code(b"000471"), Some(b"000471".to_vec()));
+        assert!(body_code(b"0123456789abcdeZ").is_some());
+        for broken in ["", "0123456789abcdefg", "4 71", "47-1", "471\0", "47\u{e0}"] {
+            assert!(body_code(broken.as_bytes()).is_none(), "{broken}");
+        }
+    }
+
+    #[test]
+    fn the_other_forms() {
+        assert_eq!(abi(b"01234"), Some(*b"01234"));
+        for broken in ["", "1234", "012345", "0123a", " 1234"] {
+            assert_eq!(abi(broken.as_bytes()), None, "{broken}");
+        }
+        assert!(identifier(&[b'-'; 35]).is_some());
+        for broken in [&b""[..], &[b'a'; 36], b"a b", b"a/b", b"\xC3\xA0"] {
+            assert!(identifier(broken).is_none());
+        }
+        assert!(date_and_time(b"2021-03-01T00:00:00").is_some());
+        assert!(date_and_time(b"2021-03-01T23:59:59").is_some());
+        for broken in [
+            "2021-03-01",
+            "2021-03-01T24:00:00",
+            "2021-03-01T23:60:00",
+            "2021-03-01T23:59:60",
+            "2021-03-01t09:30:00",
+            "2021-03-01 09:30:00",
+            "2021-03-01T09:30:00Z",
+            "2021-03-01T9:30:00",
+            "2021-03-01T09:30",
+            "2021-02-29T09:30:00",
+            "2021-03-01T09:30:00:00",
+            "",
+            "2021-03-01T09-30-00",
+        ] {
+            assert!(date_and_time(broken.as_bytes()).is_none(), "{broken}");
+        }
+        assert_eq!(esercizio(b"2000"), Some(2000));
+        assert_eq!(esercizio(b"2099"), Some(2099));
+        for broken in ["1999", "2100", "02021", "202", " 2021", "2021 ", ""] {
+            assert_eq!(esercizio(broken.as_bytes()), None, "{broken}");
+        }
+        assert_eq!(operation(b"ANNULLO"), Some(Operation::Annullo));
+        for broken in ["annullo", "ANNULL", "ANNULLO ", ""] {
+            assert_eq!(operation(broken.as_bytes()), None, "{broken}");
+        }
+        assert_eq!(progressivo(b"000"), Some(0));
+        assert_eq!(progressivo(b"001"), Some(1));
+        assert_eq!(progressivo(b"999"), Some(999));
+        for broken in ["", "0001", "1a"] {
+            assert_eq!(progressivo(broken.as_bytes()), None, "{broken}");
+        }
+        assert!(party_name(b" ").is_some());
+        assert!(party_name("&quot;".repeat(140).as_bytes()).is_some());
+        assert!(party_name("&quot;".repeat(141).as_bytes()).is_none());
+        assert!(party_name("\u{e0}".repeat(70).as_bytes()).is_some());
+        assert!(party_name("\u{e0}".repeat(71).as_bytes()).is_none());
+        assert!(party_name("\r\n".repeat(71).as_bytes()).is_none());
+        assert!(party_name(b"").is_none());
+    }
+}

@@ -1,0 +1,36 @@
+//! Document 01 written a second time.
+//!
+//! This crate answers the order desk's five calls from the words of document 01 and the readings of its open points, and from
+//! nothing else: it shares no line, no structure and no order of work with the library it is compared with. A flow is read into a
+//! tree with a stack of open elements, a table is decoded into plain structs (bodies with a list of orders), and a changed table is
+//! encoded afresh. Where clear and fast part ways, this crate is clear.
+//!
+//! ```
+//! use reference::{open, request, totals};
+//!
+//! let mut table = vec![0; 848];
+//! assert_eq!(open(&request(b"01234", &[(b"000471", 4), (b"471", 4)]), &mut table), 0);
+//! assert_eq!(totals(&table, b"471").code, 0);
+//! assert_eq!(totals(&table, b"0471").code, 7);
+//! ```
+
+pub mod desk;
+pub mod fields;
+pub mod markup;
+pub mod structure;
+pub mod table;
+
+pub use desk::{FlowAnswer, Notice, NoticeAnswer, Totals, execute, flow, open, request, reverse, totals};
+pub use table::{Body, Date, Kind, Line, Order, State, Table};
+
+/// The most bytes a flow has.
+pub const LONGEST_FLOW: usize = 32_768;
+
+/// The most orders a flow holds.
+pub const MOST_ORDERS: usize = 64;
+
+/// The most lines an order has.
+pub const MOST_LINES: usize = 8;
+
+/// The outcome bytes of one order.
+pub const OUTCOME: usize = 16;

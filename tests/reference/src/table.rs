@@ -1,0 +1,420 @@
+//! The table: plain structs, and their bytes.
+//!
+//! A table's bytes are valid when the structs decoded from them keep the rules and encode to the very same bytes again. The second half
+//! stands for every byte that a rule fixes: zeros, places, lengths, lines that aren't there, empty slots after the used ones.
+
+use std::collections::HashSet;
+
+use crate::MOST_LINES;
+use crate::fields::body_code;
+
+/// The most bytes a table has.
+pub const LONGEST: usize = 65_536;
+
+/// The bytes of the head.
+pub const HEAD: usize = 16;
+
+/// The bytes of a body's entry.
+pub const ENTRY: usize = 32;
+
+/// The bytes of a slot.
+pub const SLOT: usize = 96;
+
+/// The greatest amount in cents that a field can write.
+pub const GREATEST_AMOUNT: u64 = 99_999_999_999;
+
+/// An order table.
+#[derive(Clone, Debug, PartialEq, Eq)]
+pub struct Table {
+    /// The bank's five digits.
+    pub abi: [u8; 5],
+    /// The bodies, in contents order.
+    pub bodies: Vec<Body>,
+}
+
+/// A body and its records.
+#[derive(Clone, Debug, PartialEq, Eq)]
+pub struct Body {
+    /// The code, byte by byte.
+    pub code: Vec<u8>,
+    /// How many slots it has, used and empty.
+    pub slots: usize,
+    /// The used slots.
+    pub orders: Vec<Order>,
+}
+
+/// A record of the table.
+#[derive(Clone, Debug, PartialEq, Eq)]
+pub struct Order {
+    /// Mandato or reversale.
+    pub kind: Kind,
+    /// Acquired or annulled.
+    pub state: State,
+    /// The year of the books.
+    pub esercizio: u16,
+    /// The number.
+    pub number: u32,
+    /// The date.
+    pub date: Date,
+    /// The total in cents.
+    pub total: u64,
+    /// The lines that are there, 1 to 8.
+    pub lines: Vec<Line>,
+}
+
+/// A line of a record.
+#[derive(Clone, Copy, Debug, PartialEq, Eq)]
+pub struct Line {
+    /// Whether the bank has executed it; it waits otherwise.
+    pub executed: bool,
+    /// The amount in cents.
+    pub amount: u64,
+}
+
+/// A payment or a collection order.
+#[derive(Clone, Copy, Debug, PartialEq, Eq, Hash)]
+pub enum Kind {
+    /// A payment order.
+    Mandato = 1,
+    /// A collection order.
+    Reversale = 2,
+}
+
+/// The state of a record.
+#[derive(Clone, Copy, Debug, PartialEq, Eq)]
+pub enum State {
+    /// Taken in.
+    Acquired = 1,
+    /// Withdrawn.
+    Annulled = 2,
+}
+
+/// A date.
+#[derive(Clone, Copy, Debug, PartialEq, Eq)]
+pub struct Date {
+    /// 2000 to 2099.
+    pub year: u16,
+    /// 1 to 12.
+    pub month: u8,
+    /// 1 to the month's length.
+    pub day: u8,
+}
+
+impl Date {
+    /// Whether this is a real Gregorian date of the years 2000 to 2099.
+    pub fn stands(self) -> bool {
+        let leap = self.year % 4 == 0 && (self.year % 100 != 0 || self.year % 400 == 0);
+        let length = match self.month {
+            4 | 6 | 9 | 11 => 30,
+            2 if leap => 29,
+            2 => 28,
+            1..=12 => 31,
+            _ => 0,
+        };
+        (2000..=2099).contains(&self.year) && (1..=length).contains(&self.day)
+    }
+}
+
+impl Order {
+    /// Whether some line is executed.
+    pub fn has_executed_line(&self) -> bool {
+        self.lines.iter().any(|line| line.executed)
+    }
+
+    /// Whether the record keeps the rules that look at it alone.
+    fn stands(&self) -> bool {
+        (2000..=2099).contains(&self.esercizio)
+            && (1..=9_999_999).contains(&self.number)
+            && self.date.stands()
+            && self.total <= GREATEST_AMOUNT
+            && self.lines.iter().all(|line| line.amount <= GREATEST_AMOUNT)
+            && self.lines.iter().map(|line| line.amount).sum::<u64>() == self.total
+            && !(self.state == State::Annulled && self.has_executed_line())
+    }
+
+    fn encode(&self) -> Vec<u8> {
+        let mut slot = vec![self.kind as u8, self.state as u8, self.lines.len() as u8, 0];
+        slot.extend(self.esercizio.to_be_bytes());
+        slot.extend([0, 0]);
+        slot.extend(self.number.to_be_bytes());
+        slot.extend(self.date.year.to_be_bytes());
+        slot.extend([self.date.month, self.date.day]);
+        slot.extend(self.total.to_be_bytes());
+        let mut states = [0; MOST_LINES];
+        let mut amounts = [0; MOST_LINES];
+        for (index, line) in self.lines.iter().enumerate() {
+            states[index] = if line.executed { 2 } else { 1 };
+            amounts[index] = line.amount;
+        }
+        slot.extend(states);
+        slot.extend(amounts.map(u64::to_be_bytes).concat());
+        slot
+    }
+
+    /// The record in a slot that is not empty.
+    fn decode(slot: &[u8]) -> Option<Order> {
+        let kind = match slot[0] {
+            1 => Kind::Mandato,
+            2 => Kind::Reversale,
+            _ => return None,
+        };
+        let state = match slot[1] {
+            1 => State::Acquired,
+            2 => State::Annulled,
+            _ => return None,
+        };
+        let count = usize::from(slot[2]);
+        if !(1..=MOST_LINES).contains(&count) {
+            return None;
+        }
+        let lines = (0..count).map(|index| {
+            let executed = match slot[24 + index] {
+                1 => false,
+                2 => true,
+                _ => return None,
+            };
+            let amount = number_at(slot, 32 + 8 * index, 8);
+            Some(Line { executed, amount })
+        });
+        let order = Order {
+            kind,
+            state,
+            esercizio: number_at(slot, 4, 2) as u16,
+            number: number_at(slot, 8, 4) as u32,
+            date: Date { year: number_at(slot, 12, 2) as u16, month: slot[14], day: slot[15] },
+            total: number_at(slot, 16, 8),
+            lines: lines.collect::<Option<_>>()?,
+        };
+        order.stands().then_some(order)
+    }
+}
+
+impl Body {
+    fn stands(&self) -> bool {
+        let mut keys = HashSet::new();
+        body_code(&self.code).is_some()
+            && (1..=512).contains(&self.slots)
+            && self.orders.iter().all(|order| keys.insert((order.kind, order.esercizio, order.number)))
+    }
+}
+
+impl Table {
+    /// The length of the bytes.
+    pub fn length(&self) -> usize {
+        let slots: usize = self.bodies.iter().map(|body| body.slots).sum();
+        HEAD + ENTRY * self.bodies.len() + SLOT * slots
+    }
+
+    /// The body of this code.
+    pub fn body(&self, code: &[u8]) -> Option<&Body> {
+        self.bodies.iter().find(|body| body.code == code)
+    }
+
+    /// The body of this code, to be changed.
+    pub fn body_mut(&mut self, code: &[u8]) -> Option<&mut Body> {
+        self.bodies.iter_mut().find(|body| body.code == code)
+    }
+
+    /// Whether the table keeps every rule that the encoding alone does not.
+    pub fn stands(&self) -> bool {
+        let mut codes = HashSet::new();
+        (1..=16).contains(&self.bodies.len())
+            && self.abi.iter().all(u8::is_ascii_digit)
+            && self.length() <= LONGEST
+            && self.bodies.iter().all(Body::stands)
+            && self.bodies.iter().all(|body| codes.insert(&body.code))
+    }
+
+    /// The bytes of the table.
+    pub fn encode(&self) -> Vec<u8> {
+        let mut bytes = Vec::new();
+        bytes.extend((self.bodies.len() as u16).to_be_bytes());
+        bytes.extend(1u16.to_be_bytes());
+        bytes.extend((self.length() as u32).to_be_bytes());
+        bytes.extend(self.abi);
+        bytes.resize(HEAD, 0);
+        let mut place = HEAD + ENTRY * self.bodies.len();
+        for body in &self.bodies {
+            let end = bytes.len() + ENTRY;
+            bytes.push(body.code.len() as u8);
+            bytes.extend(&body.code);
+            bytes.resize(end - ENTRY + 18, 0);
+            bytes.extend((body.slots as u16).to_be_bytes());
+            bytes.extend((place as u32).to_be_bytes());
+            bytes.resize(end, 0);
+            place += SLOT * body.slots;
+        }
+        for body in &self.bodies {
+            let end = bytes.len() + SLOT * body.slots;
+            bytes.extend(body.orders.iter().flat_map(Order::encode));
+            bytes.resize(end, 0);
+        }
+        bytes
+    }
+
+    /// The table that these bytes are; `None` when they are no valid table.
+    pub fn decode(bytes: &[u8]) -> Option<Table> {
+        let (head, mut rest) = bytes.split_at_checked(HEAD)?;
+        let count = number_at(head, 0, 2) as usize;
+        let mut bodies = Vec::new();
+        for _ in 0..count {
+            let entry;
+            (entry, rest) = rest.split_at_checked(ENTRY)?;
+            bodies.push(Body {
+                code: entry[1..17].get(..usize::from(entry[0]))?.to_vec(),
+                slots: number_at(entry, 18, 2) as usize,
+                orders: Vec::new(),
+            });
+        }
+        for body in &mut bodies {
+            let slots;
+            (slots, rest) = rest.split_at_checked(SLOT * body.slots)?;
+            for slot in slots.chunks(SLOT).take_while(|slot| slot[0] != 0) {
+                body.orders.push(Order::decode(slot)?);
+            }
+        }
+        let table = Table { abi: head[8..13].try_into().ok()?, bodies };
+        (table.stands() && table.encode() == bytes).then_some(table)
+    }
+}
+
+/// The number that `length` bytes at `at` write, the highest byte first.
+pub fn number_at(bytes: &[u8], at: usize, length: usize) -> u64 {
+    let bytes = &bytes[at..at + length];
+    bytes.iter().fold(0, |value, &byte| value << 8 | u64::from(byte))
+}
+
+#[cfg(test)]
+mod tests {
+    use super::*;
+
+    fn body(code: &[u8], slots: usize) -> Body {
+        Body { code: code.to_vec(), slots, orders: Vec::new() }
+    }
+
+    fn two_bodies() -> Table {
+        Table { abi: *b"01234", bodies: vec![body(b"000471", 4), body(b"471", 4)] }
+    }
+
+    fn with_order() -> Table {
+        let mut table = two_bodies();
+        table.bodies[1].orders.push(Order {
+            kind: Kind::Mandato,
+            state: State::Acquired,
+            esercizio: 2021,
+            number: 12,
+            date: Date { year: 2021, month: 3, day: 1 },
+            total: 15_000,
+            lines: vec![Line { executed: false, amount: 10_000 }, Line { executed: false, amount: 5_000 }],
+        });
+        table
+    }
+
+    #[test]
+    fn the_layout_example() {
+        let bytes = two_bodies().encode();
+        assert_eq!(bytes.len(), 848);
+        assert_eq!(&bytes[..16], b"\0\x02\0\x01\0\0\x03\x5001234\0\0\0");
+        assert_eq!(&bytes[16..40], b"\x06000471\0\0\0\0\0\0\0\0\0\0\0\0\x04\0\0\0\x50");
+        assert_eq!(&bytes[48..72], b"\x03471\0\0\0\0\0\0\0\0\0\0\0\0\0\0\0\x04\0\0\x01\xD0");
+        assert_eq!(number_at(&bytes, 68, 4), 464);
+        assert_eq!(Table::decode(&bytes), Some(two_bodies()));
+    }
+
+    #[test]
+    fn a_record_at_its_place() {
+        let bytes = with_order().encode();
+        let slot = &bytes[464..560];
+        assert_eq!(&slot[..16], b"\x01\x01\x02\0\x07\xE5\0\0\0\0\0\x0C\x07\xE5\x03\x01");
+        assert_eq!(number_at(slot, 16, 8), 15_000);
+        assert_eq!(&slot[24..32], &[1, 1, 0, 0, 0, 0, 0, 0]);
+        assert_eq!(number_at(slot, 32, 8), 10_000);
+        assert_eq!(number_at(slot, 40, 8), 5_000);
+        assert!(slot[48..].iter().all(|&byte| byte == 0));
+        assert_eq!(Table::decode(&bytes), Some(with_order()));
+    }
+
+    #[test]
+    fn every_byte_of_a_table_with_its_lowest_bit_changed() {
+        // The digits of the ABI, the characters of the codes, and the record's esercizio, number, year and month (2 for 3).
+        let free = |at: usize| match at {
+            8..=12 | 17..=22 | 49..=51 => true,
+            _ if at < 464 => false,
+            _ => matches!(at - 464, 5 | 9..=11 | 13 | 14),
+        };
+        let bytes = with_order().encode();
+        for at in 0..bytes.len() {
+            let mut changed = bytes.clone();
+            changed[at] ^= 1;
+            assert_eq!(Table::decode(&changed).is_some(), free(at), "byte {at}");
+        }
+    }
+
+    #[test]
+    fn what_is_not_valid() {
+        let not_valid = |change: fn(&mut Vec<u8>)| {
+            let mut bytes = with_order().encode();
+            change(&mut bytes);
+            assert_eq!(Table::decode(&bytes), None);
+        };
+        not_valid(Vec::clear);
+        not_valid(|bytes| bytes.truncate(15));
+        not_valid(|bytes| bytes.push(0));
+        not_valid(|bytes| bytes.truncate(847));
+        not_valid(|bytes| bytes[464] = 3);
+        not_valid(|bytes| bytes[465] = 3);
+        not_valid(|bytes| bytes[466] = 0);
+        not_valid(|bytes| bytes[466] = 9);
+        not_valid(|bytes| bytes[464 + 24] = 0);
+        not_valid(|bytes| bytes[464 + 26] = 1);
+        not_valid(|bytes| bytes[464 + 95] = 1);
+        not_valid(|bytes| bytes[464 + 4..464 + 6].copy_from_slice(&1999u16.to_be_bytes()));
+        not_valid(|bytes| bytes[464 + 8..464 + 12].fill(0));
+        not_valid(|bytes| bytes[464 + 9] = 0x99);
+        not_valid(|bytes| bytes[464 + 15] = 32);
+        not_valid(|bytes| bytes[847] = 1);
+        // An annulled order has every line waiting.
+        not_valid(|bytes| {
+            bytes[465] = 2;
+            bytes[464 + 24] = 2;
+        });
+        // An empty slot before a used one.
+        not_valid(|bytes| bytes.copy_within(464..560, 560 + 96));
+        // Two records of one body with the same key.
+        not_valid(|bytes| bytes.copy_within(464..560, 560));
+        // A sum that is right only when it wraps.
+        not_valid(|bytes| {
+            bytes[464 + 32..464 + 40].copy_from_slice(&u64::MAX.to_be_bytes());
+            bytes[464 + 40..464 + 48].copy_from_slice(&15_001u64.to_be_bytes());
+        });
+    }
+
+    #[test]
+    fn codes_and_counts() {
+        let stands = |table: &Table| Table::decode(&table.encode()).is_some();
+        let mut table = two_bodies();
+        table.bodies[1].code = b"000471".to_vec();
+        assert!(!stands(&table));
+        table.bodies[1].code = b"47-1".to_vec();
+        assert!(!stands(&table));
+        table.bodies[1].code = b"0000000000000471".to_vec();
+        assert!(stands(&table));
+        table.bodies[1].slots = 0;
+        assert!(!stands(&table));
+        table.bodies[1].slots = 513;
+        assert!(!stands(&table));
+        table.bodies[0].slots = 168;
+        table.bodies[1].slots = 512;
+        assert!(stands(&table));
+        table.bodies[0].slots = 169;
+        assert!(stands(&table), "80 + 96 * 681 = 65,456");
+        table.bodies[0].slots = 170;
+        assert!(!stands(&table), "80 + 96 * 682 = 65,552");
+        table.bodies.clear();
+        assert!(!stands(&table));
+        table.bodies = (0..17u8).map(|index| body(&[b'a' + index], 1)).collect();
+        assert!(!stands(&table));
+        table.bodies.pop();
+        assert!(stands(&table));
+    }
+}
