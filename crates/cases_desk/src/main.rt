@@ -1,0 +1,344 @@
+// Cases of the desk, as a script of calls on one table. A line of the input has a call, a name, its arguments and what document 01 says it answers, by hand;
+// a line of the output has what the code answers beside it, and says `touched` where outcome bytes that should stay did not. Calls: open (request, length),
+// flow (flow, room), execute and reverse (body, kind, esercizio, number, line), totals (body), poke (place, byte: damages the table), long (a flow of so
+// many zero bytes).
+use casebook::say;
+use casebook::say_number;
+use desk::FlowAnswer;
+use notices::NoticeAnswer;
+use opening::Opened;
+ghost use mathlib.Core.Path.{_≡_};
+ghost use Prim.Native.Nat.{_+_, _≤_, _<_};
+ghost use lib.ListN.{length};
+
+// Where column k of the line from a up to e begins.
+fn column(s: &[u8], a: usize, e: usize, k: usize) -> usize
+    requires { ⌜ (a ≤ e) × (e ≤ length (now s)) ⌝ }
+    ensures { λ r. ⌜ (a ≤ r) × (r ≤ e) ⌝ }
+{
+    let mut at = a;
+    let mut left = k;
+    while 0 < left {
+        at = casebook::after(casebook::find(s, at, e, 9), e);
+        left -= 1;
+    }
+    at
+}
+
+fn wide(x: u8) -> u64
+    ensures { λ r. ⌜ r < 256 ⌝ }
+{
+    x as u64
+}
+
+// The number v followed by a digit, as far as there is room.
+fn more(v: u64, b: u8) -> u64 {
+    if 1000000000000000000 < v {
+        return v;
+    }
+    v * 10 + wide(b) % 16
+}
+
+// Column k as a number.
+fn number(s: &[u8], a: usize, e: usize, k: usize) -> u64
+    requires { ⌜ (a ≤ e) × (e ≤ length (now s)) ⌝ }
+{
+    let from = column(s, a, e, k);
+    let to = casebook::find(s, from, e, 9);
+    let mut i = from;
+    let mut v: u64 = 0;
+    while i < to {
+        v = more(v, s[i]);
+        i += 1;
+    }
+    v
+}
+
+fn say_next(n: u64) {
+    say(b" ");
+    say_number(n);
+}
+
+// The outcome of one order: kind, operation, number, lines, total, code.
+fn say_order(out: &[u8], at: usize)
+    requires { ⌜ at + 16 ≤ length (now out) ⌝ }
+{
+    say(b",");
+    say_next(wide(out[at]));
+    say_next(wide(out[at + 1]));
+    say_next(words::read4(out, at + 4));
+    say_next(wide(out[at + 3]));
+    say_next(words::read8(out, at + 8));
+    say_next(wide(out[at + 2]));
+}
+
+// Says so if out, which was all zero, has something else from a place on.
+fn say_touched(out: &[u8], from: usize) {
+    let mut i = from;
+    while i < out.len() {
+        if out[i] != 0 {
+            return say(b", touched");
+        }
+        i += 1;
+    }
+}
+
+fn say_orders(out: &[u8], n: usize) {
+    let mut left = n;
+    let mut at: usize = 0;
+    while 0 < left {
+        if out.len() - at < 16 {
+            return;
+        }
+        say_order(out, at);
+        at += 16;
+        left -= 1;
+    }
+    say_touched(out, at)
+}
+
+fn say_answer(code: u64, place: u64, orders: u64, accepted: u64) {
+    say_number(code);
+    say_next(place);
+    say_next(orders);
+    say_next(accepted);
+}
+
+// A refusal, which leaves the outcomes as they were.
+fn say_refused(code: u64, place: u64, out: &[u8]) {
+    say_answer(code, place, 0, 0);
+    say_touched(out, 0);
+}
+
+fn say_flow(a: FlowAnswer, out: &[u8]) {
+    match a {
+        FlowAnswer::InvalidTable => say_refused(1, 0, out),
+        FlowAnswer::TooLong => say_refused(2, 0, out),
+        FlowAnswer::BrokenMarkup => say_refused(3, 0, out),
+        FlowAnswer::BrokenStructure => say_refused(4, 0, out),
+        FlowAnswer::BrokenField(p) => say_refused(5, p as u64, out),
+        FlowAnswer::OtherBank => say_refused(6, 0, out),
+        FlowAnswer::UnknownBody => say_refused(7, 0, out),
+        FlowAnswer::NoRoom => say_refused(8, 0, out),
+        FlowAnswer::Taken(n, k) => {
+            say_answer(0, 0, n as u64, k as u64);
+            say_orders(out, n);
+        }
+    }
+}
+
+// A flow's call with at most so many bytes of out for its outcomes.
+fn run_within(t: &mut [u8], flow: &[u8], room: u64, out: &mut [u8]) {
+    let all = out.len() as u64;
+    if all <= room {
+        let a = desk::take_flow(t, flow, out);
+        return say_flow(a, out);
+    }
+    let a = desk::take_flow(t, flow, &mut out[..room as usize]);
+    say_flow(a, out)
+}
+
+fn run_flow(t: &mut [u8], flow: &[u8], room: u64) {
+    let mut out = [0u8; 1024];
+    run_within(t, flow, room, &mut out);
+}
+
+fn say_notice(a: NoticeAnswer) {
+    match a {
+        NoticeAnswer::InvalidTable => say(b"1 0"),
+        NoticeAnswer::UnknownBody => say(b"7 0"),
+        NoticeAnswer::Done(cents) => {
+            say(b"0 ");
+            say_number(cents);
+        }
+        NoticeAnswer::Declined(c) => {
+            say_number(wide(c));
+            say(b" 0");
+        }
+    }
+}
+
+fn say_opened(o: Opened) {
+    match o {
+        Opened::Open => say(b"0"),
+        Opened::WrongRequest => say(b"9"),
+        Opened::WrongLength => say(b"10"),
+    }
+}
+
+// Collected less paid, which may be below zero.
+fn say_balance(paid: u64, collected: u64, balance: i64) {
+    say(b" ");
+    if balance < 0 {
+        say(b"-");
+    }
+    if paid <= collected {
+        say_number(collected - paid);
+    } else {
+        say_number(paid - collected);
+    }
+}
+
+fn run_totals(t: &[u8], body: &[u8]) {
+    let a = notices::totals(t, body);
+    say_number(a.code);
+    say_next(a.used);
+    say_next(a.paid);
+    say_next(a.collected);
+    say_balance(a.paid, a.collected, a.balance);
+}
+
+// Opens a table in the first bytes of t: the length that it was given.
+fn run_open(t: &mut [u8], request: &[u8], n: u64) -> usize
+    ensures { λ r. ⌜ r ≤ length (now (t .exit)) ⌝ }
+{
+    if 65536 < n {
+        return 0;
+    }
+    let k = n as usize;
+    if t.len() < k {
+        return 0;
+    }
+    say_opened(opening::open_table(request, &mut t[..k]));
+    k
+}
+
+fn run_poke(t: &mut [u8], at: u64, b: u64) {
+    let n = t.len() as u64;
+    if n <= at {
+        return say(b"none");
+    }
+    t[at as usize] = (b % 256) as u8;
+    say(b"done")
+}
+
+// A flow of the first n bytes of f.
+fn run_front(t: &mut [u8], f: &[u8], n: u64) {
+    let all = f.len() as u64;
+    if all <= n {
+        return run_flow(t, f, 1024);
+    }
+    run_flow(t, &f[..n as usize], 1024)
+}
+
+// A flow of so many zero bytes.
+fn run_long(t: &mut [u8], n: u64) {
+    let f = [0u8; 32769];
+    run_front(t, &f, n);
+}
+
+// The calls that name a body, its code being column 2.
+fn run_body(s: &[u8], a: usize, e: usize, kind: &[u8], t: &mut [u8])
+    requires { ⌜ (a ≤ e) × (e ≤ length (now s)) × (length (now s) ≤ 131072) ⌝ }
+{
+    let from = column(s, a, e, 2);
+    let to = casebook::find(s, from, e, 9);
+    let mut code = [0u8; 64];
+    let n = casebook::unescape(s, from, to, &mut code);
+    if scan::same(kind, b"totals") {
+        return run_totals(t, &code[..n]);
+    }
+    let k = number(s, a, e, 3);
+    let year = number(s, a, e, 4);
+    let order = number(s, a, e, 5);
+    let line = number(s, a, e, 6);
+    if scan::same(kind, b"execute") {
+        return say_notice(notices::execute(t, &code[..n], k, year, order, line));
+    }
+    say_notice(notices::reverse(t, &code[..n], k, year, order, line))
+}
+
+// The calls on the table whose argument is column 2.
+fn run_call(s: &[u8], a: usize, e: usize, kind: &[u8], t: &mut [u8])
+    requires { ⌜ (a ≤ e) × (e ≤ length (now s)) × (length (now s) ≤ 131072) ⌝ }
+{
+    if scan::same(kind, b"poke") {
+        return run_poke(t, number(s, a, e, 2), number(s, a, e, 3));
+    }
+    if scan::same(kind, b"long") {
+        return run_long(t, number(s, a, e, 2));
+    }
+    if !scan::same(kind, b"flow") {
+        return run_body(s, a, e, kind, t);
+    }
+    let from = column(s, a, e, 2);
+    let to = casebook::find(s, from, e, 9);
+    let mut f = [0u8; 4096];
+    let n = casebook::unescape(s, from, to, &mut f);
+    run_flow(t, &f[..n], number(s, a, e, 3))
+}
+
+// One line: the length of the table from there on.
+fn run_line(s: &[u8], a: usize, e: usize, t: &mut [u8], len: usize) -> usize
+    requires { ⌜ (a ≤ e) × (e ≤ length (now s)) × (length (now s) ≤ 131072) × (len ≤ length (now t)) ⌝ }
+    ensures { λ r. ⌜ r ≤ length (now (t .exit)) ⌝ }
+{
+    let b = casebook::find(s, a, e, 9);
+    if !scan::same(&s[a..b], b"open") {
+        run_call(s, a, e, &s[a..b], &mut t[..len]);
+        return len;
+    }
+    let from = column(s, a, e, 2);
+    let to = casebook::find(s, from, e, 9);
+    let mut request = [0u8; 512];
+    let n = casebook::unescape(s, from, to, &mut request);
+    let k = number(s, a, e, 3);
+    run_open(t, &request[..n], k)
+}
+
+// Where the last column of the line from a up to e begins.
+fn last_column(s: &[u8], a: usize, e: usize) -> usize
+    requires { ⌜ (a ≤ e) × (e ≤ length (now s)) ⌝ }
+    ensures { λ r. ⌜ (a ≤ r) × (r ≤ e) ⌝ }
+{
+    let mut i = e;
+    while a < i {
+        if s[i - 1] == 9 {
+            return i;
+        }
+        i -= 1;
+    }
+    i
+}
+
+fn say_name(s: &[u8], a: usize, e: usize)
+    requires { ⌜ (a ≤ e) × (e ≤ length (now s)) ⌝ }
+{
+    let from = column(s, a, e, 1);
+    let to = casebook::find(s, from, e, 9);
+    say(&s[from..to]);
+    say(b": ");
+}
+
+fn say_expected(s: &[u8], a: usize, e: usize)
+    requires { ⌜ (a ≤ e) × (e ≤ length (now s)) ⌝ }
+{
+    let from = last_column(s, a, e);
+    say(b"; expected ");
+    say(&s[from..e]);
+    say(b"\n");
+}
+
+fn run_lines(s: &[u8], t: &mut [u8])
+    requires { ⌜ length (now s) ≤ 131072 ⌝ }
+{
+    let mut at = 0;
+    let mut len: usize = 0;
+    while at < s.len() {
+        let e = casebook::find(s, at, s.len(), 10);
+        say_name(s, at, e);
+        len = run_line(s, at, e, t, len);
+        say_expected(s, at, e);
+        if s.len() <= e {
+            return;
+        }
+        at = e + 1;
+    }
+}
+
+fn main() {
+    let mut input = [0u8; 131072];
+    let n = io::read_full(libc::STDIN_FILENO, &mut input);
+    let mut table = [0u8; 65536];
+    run_lines(&input[..n], &mut table);
+}
