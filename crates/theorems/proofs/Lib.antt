@@ -5,3 +5,4 @@ pub mod Marked
 pub mod NoSecond
 pub mod Reordering
 pub mod Wrong
+pub mod Refusals
