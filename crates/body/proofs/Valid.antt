@@ -9,9 +9,9 @@ use lib.ListN.{length, getD}
 use lib.Dec.{eqb, leb}
 use borrow.Author.Tests.{leb-true, eqb-true, eq-eqb}
 use Rattle.scan.specs.Bytes.{between}
-use Rattle.scan.proofs.Laws.{both}
+use Rattle.scan.proofs.Laws.{both, in-range}
 use Rattle.calendar.specs.Calendar.{isDate}
-use Rattle.calendar.proofs.Laws.{in-range, Ranges, date-ranges}
+use Rattle.calendar.proofs.Laws.{Ranges, date-ranges}
 use Rattle.record.specs.declared.Record.{Record}
 use Rattle.record.proofs.Back.{Sized}
 use Rattle.body.specs.Body.{maxCents, lineOk, allFrom, sum, rangesOk, recordOk}

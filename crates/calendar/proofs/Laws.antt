@@ -3,15 +3,11 @@ use mathlib.Core.Path.{_≡_}
 use mathlib.Core.Bool.{Bool, true, false, cond, _||_}
 use Prim.Native.Nat.{ℕ, _≤_}
 use native.Mathlib.Omega.{arith}
-use lib.Dec.{leb, eqb}
-use borrow.Author.Tests.{leb-true}
+use lib.Dec.{eqb}
 use Rattle.scan.specs.Bytes.{between}
-use Rattle.scan.proofs.Laws.{both}
+use Rattle.scan.proofs.Laws.{both, in-range}
 use Rattle.calendar.specs.declared.Date.{Date}
 use Rattle.calendar.specs.Calendar.{leap, monthLength, isDate}
-
-pub in-range : (lo hi b : ℕ) → between lo hi b ≡ true → (lo ≤ b) × (b ≤ hi)
-in-range lo hi b e = let h = both (leb lo b) (leb b hi) e in (leb-true lo b (h .0), leb-true b hi (h .1))
 
 pub month-at-most : (y m : ℕ) → monthLength y m ≤ 31
 unfolding monthLength

@@ -2,11 +2,11 @@
 // code says beside it.
 use casebook::say;
 use casebook::say_number;
-use fields::Asked;
-use fields::Day;
+use codes::Asked;
+use dates::Day;
+use digits::Number;
 use fields::Form;
 use fields::Judged;
-use fields::Number;
 ghost use Prim.Native.Nat.{_≤_, _<_};
 ghost use lib.ListN.{length};
 
@@ -53,7 +53,7 @@ fn say_asked(a: Asked) {
     match a {
         Asked::Operazione(o) => {
             say(b"stands ");
-            say_number(fields::operation_number(o) as u64);
+            say_number(codes::operation_number(o) as u64);
         }
         Asked::NoOperation => say(b"breaks"),
     }
@@ -62,41 +62,41 @@ fn say_asked(a: Asked) {
 // The forms that give a value.
 fn say_valued(form: &[u8], t: &[u8]) {
     if scan::same(form, b"esercizio") {
-        return say_value(fields::esercizio_of(t));
+        return say_value(digits::esercizio_of(t));
     }
     if scan::same(form, b"numero") {
-        return say_value(fields::numero_of(t));
+        return say_value(digits::numero_of(t));
     }
     if scan::same(form, b"importo") {
-        return say_value(fields::importo_of(t));
+        return say_value(digits::importo_of(t));
     }
     if scan::same(form, b"progressivo") {
-        return say_value(fields::progressivo_of(t));
+        return say_value(digits::progressivo_of(t));
     }
     if scan::same(form, b"data") {
-        return say_day(fields::data_of(t));
+        return say_day(dates::data_of(t));
     }
     if scan::same(form, b"tipo_operazione") {
-        return say_asked(fields::tipo_operazione(t));
+        return say_asked(codes::tipo_operazione(t));
     }
     say(b"is no form");
 }
 
 fn say_seen(form: &[u8], t: &[u8]) {
     if scan::same(form, b"codice_ABI_BT") {
-        return say_bool(fields::codice_abi(t));
+        return say_bool(codes::codice_abi(t));
     }
     if scan::same(form, b"identificativo_flusso") {
-        return say_bool(fields::identificativo_flusso(t));
+        return say_bool(codes::identificativo_flusso(t));
     }
     if scan::same(form, b"data_ora_creazione_flusso") {
-        return say_bool(fields::data_ora(t));
+        return say_bool(dates::data_ora(t));
     }
     if scan::same(form, b"codice_ente_BT") {
-        return say_bool(fields::codice_ente(t));
+        return say_bool(codes::codice_ente(t));
     }
     if scan::same(form, b"anagrafica") {
-        return say_bool(fields::anagrafica_of(t));
+        return say_bool(names::anagrafica_of(t));
     }
     say_valued(form, t)
 }

@@ -2,7 +2,7 @@
 // orders are served one after another.
 use children::Next;
 use children::Parent;
-use fields::Number;
+use digits::Number;
 use flow::Verdict;
 use ranges::Found;
 use rules::Judged;
@@ -89,7 +89,7 @@ fn year_of(f: &[u8], from: usize, past: &[u16]) -> u64
     requires { ⌜ (from ≤ length (now f)) × Noted (now f) (now past) ⌝ }
     ensures { λ r. ⌜ r ≡ headerFrom (now (f .entry)) from .esercizio ⌝ }
 {
-    match fields::esercizio_of(orders::field_text(f, from, Parent::FlussoOrdinativi, 4, past)) {
+    match digits::esercizio_of(orders::field_text(f, from, Parent::FlussoOrdinativi, 4, past)) {
         Number::Value(v) => v,
         Number::NoNumber => 0,
     }

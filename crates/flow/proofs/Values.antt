@@ -17,12 +17,16 @@ use Rattle.fields.specs.declared.Form.{Form}
 use Rattle.fields.specs.declared.Form.the-variants.{CodiceAbi, Identificativo, DataOra, CodiceEnte, Esercizio, TipoOperazione, Numero, Data, Importo, Progressivo}
 use Rattle.fields.specs.declared.Judged.{Judged}
 use Rattle.fields.specs.declared.Judged.the-variants.{Stands, Breaks}
-use Rattle.fields.specs.declared.Number.{Number}
-use Rattle.fields.specs.declared.Number.the-variants.{Value, NoNumber}
-use Rattle.fields.specs.declared.Day.{Day}
-use Rattle.fields.specs.declared.Day.the-variants.{On, NoDay}
-use Rattle.fields.specs.Fields.{judged, isNumber, isDay, codiceAbi, codiceEnte, esercizio, numero, dataOf, importo, fieldStands}
-use Rattle.fields.proofs.Laws.{esercizio-range, numero-range, importo-range, data-real}
+use Rattle.digits.specs.declared.Number.{Number}
+use Rattle.digits.specs.declared.Number.the-variants.{Value, NoNumber}
+use Rattle.dates.specs.declared.Day.{Day}
+use Rattle.dates.specs.declared.Day.the-variants.{On, NoDay}
+use Rattle.codes.specs.Codes.{codiceAbi, codiceEnte}
+use Rattle.digits.specs.Digits.{esercizio, numero, importo}
+use Rattle.dates.specs.Dates.{dataOf}
+use Rattle.fields.specs.Fields.{judged, isNumber, isDay, fieldStands}
+use Rattle.digits.proofs.Laws.{esercizio-range, numero-range, importo-range}
+use Rattle.dates.proofs.Laws.{data-real}
 use Rattle.children.specs.declared.Parent.{Parent}
 use Rattle.children.specs.declared.Parent.the-variants.{FlussoOrdinativi, Mandato, Reversale, InformazioniBeneficiario, InformazioniVersante}
 use Rattle.children.specs.declared.Holds.{Holds}

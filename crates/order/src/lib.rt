@@ -1,6 +1,6 @@
 // An order as a flow writes it. The reader of flows makes it and the rules judge it; neither knows the other.
 use calendar::Date;
-use fields::Operation;
+use codes::Operation;
 
 // A line of an order: its progressivo and its cents.
 pub struct Line {

@@ -14,7 +14,9 @@ use Rattle.scan.specs.Bytes.{part, isWhite}
 use Rattle.scan.proofs.Laws.{both, run-within}
 use Rattle.tokens.specs.Tokens.{whiteAt}
 use Rattle.fields.specs.declared.Form.{Form}
-use Rattle.fields.specs.Fields.{tipoOperazione, numero, dataOf, importo, progressivo}
+use Rattle.codes.specs.Codes.{tipoOperazione}
+use Rattle.digits.specs.Digits.{numero, importo, progressivo}
+use Rattle.dates.specs.Dates.{dataOf}
 use Rattle.children.specs.declared.Parent.{Parent}
 use Rattle.children.specs.declared.Parent.the-variants.{FlussoOrdinativi, Mandato, Reversale, InformazioniBeneficiario, InformazioniVersante, Beneficiario, Versante}
 use Rattle.children.specs.declared.Holds.{Holds}

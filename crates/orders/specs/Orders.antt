@@ -7,15 +7,17 @@ use lib.Dec.{eqb}
 use Rattle.scan.specs.Bytes.{part}
 use Rattle.tokens.specs.Tokens.{whiteAt}
 use Rattle.calendar.specs.declared.Date.{Date}
-use Rattle.fields.specs.declared.Number.{Number}
-use Rattle.fields.specs.declared.Number.the-variants.{Value, NoNumber}
-use Rattle.fields.specs.declared.Day.{Day}
-use Rattle.fields.specs.declared.Day.the-variants.{On, NoDay}
-use Rattle.fields.specs.declared.Operation.{Operation}
-use Rattle.fields.specs.declared.Operation.the-variants.{Sostituzione}
-use Rattle.fields.specs.declared.Asked.{Asked}
-use Rattle.fields.specs.declared.Asked.the-variants.{Operazione, NoOperation}
-use Rattle.fields.specs.Fields.{esercizio, tipoOperazione, numero, dataOf, importo, progressivo}
+use Rattle.digits.specs.declared.Number.{Number}
+use Rattle.digits.specs.declared.Number.the-variants.{Value, NoNumber}
+use Rattle.dates.specs.declared.Day.{Day}
+use Rattle.dates.specs.declared.Day.the-variants.{On, NoDay}
+use Rattle.codes.specs.declared.Operation.{Operation}
+use Rattle.codes.specs.declared.Operation.the-variants.{Sostituzione}
+use Rattle.codes.specs.declared.Asked.{Asked}
+use Rattle.codes.specs.declared.Asked.the-variants.{Operazione, NoOperation}
+use Rattle.codes.specs.Codes.{tipoOperazione}
+use Rattle.digits.specs.Digits.{esercizio, numero, importo, progressivo}
+use Rattle.dates.specs.Dates.{dataOf}
 use Rattle.children.specs.declared.Parent.the-variants.{FlussoOrdinativi, Mandato, Reversale, InformazioniBeneficiario, InformazioniVersante, Beneficiario, Versante}
 use Rattle.children.specs.declared.Holds.{Holds}
 use Rattle.children.specs.declared.Holds.the-variants.{Text, Rows}

@@ -5,10 +5,10 @@ use children::Holds;
 use children::Kept;
 use children::Next;
 use children::Parent;
-use fields::Asked;
-use fields::Day;
-use fields::Number;
-use fields::Operation;
+use codes::Asked;
+use codes::Operation;
+use dates::Day;
+use digits::Number;
 use order::Line;
 use order::Lines;
 use order::Order;
@@ -134,9 +134,9 @@ fn line_from(s: &[u8], from: usize, parent: Parent, past: &[u16]) -> Line
     ensures { λ r. ⌜ r ≡ lineBy (now (s .entry)) (keptFrom parent (now (s .entry)) from) ⌝ }
 {
     let a = first_named(s, from, parent, past).child;
-    let progressivo = value_of(fields::progressivo_of(text_of(s, a)));
+    let progressivo = value_of(digits::progressivo_of(text_of(s, a)));
     let b = first_named(s, a.after, parent, past).child;
-    let amount = value_of(fields::importo_of(text_of(s, b)));
+    let amount = value_of(digits::importo_of(text_of(s, b)));
     Line {
         progressivo,
         amount,
@@ -203,13 +203,13 @@ fn order_from(s: &[u8], from: usize, parent: Parent, past: &[u16]) -> Order
     ensures { λ r. ⌜ (r ≡ orderBy (kindOf (Rows parent)) (now (s .entry)) (keptFrom parent (now (s .entry)) from)) × (r .lines .count ≤ 8) ⌝ }
 {
     let a = first_named(s, from, parent, past).child;
-    let operation = operation_of(fields::tipo_operazione(text_of(s, a)));
+    let operation = operation_of(codes::tipo_operazione(text_of(s, a)));
     let b = first_named(s, a.after, parent, past).child;
-    let number = value_of(fields::numero_of(text_of(s, b)));
+    let number = value_of(digits::numero_of(text_of(s, b)));
     let c = first_named(s, b.after, parent, past).child;
-    let date = date_of(fields::data_of(text_of(s, c)));
+    let date = date_of(dates::data_of(text_of(s, c)));
     let d = first_named(s, c.after, parent, past).child;
-    let total = value_of(fields::importo_of(text_of(s, d)));
+    let total = value_of(digits::importo_of(text_of(s, d)));
     let lines = lines_from(s, d.after, parent, past);
     let kind = kind_of(parent);
     Order {

@@ -3,7 +3,7 @@ ghost use mathlib.Core.Path.{_≡_};
 ghost use Prim.Native.Nat.{_+_, _≤_, _<_};
 ghost use lib.ListN.{length};
 ghost use Rattle.scan.specs.Bytes.{part, all};
-ghost use Rattle.ranges.specs.Ranges.{zeros, isOf, isNothing};
+ghost use Rattle.ranges.specs.Ranges.{zeros, isIdentifying, isOf, isNothing};
 
 // Where a search found what it looked for.
 pub enum Found {
@@ -11,10 +11,11 @@ pub enum Found {
     Nothing,
 }
 
-// What the bytes of a code may be.
+// What the bytes of a code or an identifier may be.
 pub enum Class {
     Digits,
     Alphanumeric,
+    Identifying,
 }
 
 pub fn is_nothing(f: Found) -> bool
@@ -46,12 +47,28 @@ pub fn are_zero(t: &[u8], a: usize, e: usize) -> bool
     sum == 0
 }
 
+fn is_identifying(b: u8) -> bool
+    ensures { λ r. ⌜ r ≡ isIdentifying b ⌝ }
+{
+    if scan::is_alnum(b) {
+        return true;
+    }
+    if b == 45 {
+        return true;
+    }
+    if b == 95 {
+        return true;
+    }
+    b == 46
+}
+
 fn is_of(c: Class, b: u8) -> bool
     ensures { λ r. ⌜ r ≡ isOf c b ⌝ }
 {
     match c {
         Class::Digits => scan::is_digit(b),
         Class::Alphanumeric => scan::is_alnum(b),
+        Class::Identifying => is_identifying(b),
     }
 }
 

@@ -9,9 +9,8 @@ use lib.Seq.{take-nil, getD-set-same, getD-set-other}
 use lib.Dec.{eqb, leb, ltb}
 use borrow.Author.Tests.{lt-ltb, le-ltb, le-leb, ltb-true, ltb-false, ne-eqb, eqb-true, eqb-false}
 use Rattle.scan.specs.Bytes.{between}
-use Rattle.scan.proofs.Laws.{both}
+use Rattle.scan.proofs.Laws.{both, in-range}
 use Rattle.calendar.specs.Calendar.{isDate}
-use Rattle.calendar.proofs.Laws.{in-range}
 use Rattle.order.specs.declared.Line.{Line}
 use Rattle.order.specs.declared.Order.{Order}
 use Rattle.record.specs.declared.Record.{Record}

@@ -13,8 +13,8 @@ use Rattle.body.proofs.Laws.{same-test}
 use Rattle.order.specs.declared.Line.{Line}
 use Rattle.order.specs.declared.Order.{Order}
 use Rattle.record.specs.declared.Record.{Record}
-use Rattle.fields.specs.declared.Operation.{Operation}
-use Rattle.fields.specs.declared.Operation.the-variants.{Inserimento, Variazione, Annullo, Sostituzione}
+use Rattle.codes.specs.declared.Operation.{Operation}
+use Rattle.codes.specs.declared.Operation.the-variants.{Inserimento, Variazione, Annullo, Sostituzione}
 use Rattle.rules.specs.declared.Situation.{Situation}
 use Rattle.rules.specs.declared.Situation.the-variants.{Absent, Annulled, Waiting, Executed}
 use Rattle.rules.specs.declared.Noticed.the-variants.{Moved, Unmoved}

@@ -7,8 +7,8 @@ use lib.Dec.{eqb, leb, ltb}
 use Rattle.ranges.specs.declared.Found.{Found}
 use Rattle.ranges.specs.declared.Found.the-variants.{At, Nothing}
 use Rattle.calendar.specs.declared.Date.{Date}
-use Rattle.fields.specs.declared.Operation.{Operation}
-use Rattle.fields.specs.declared.Operation.the-variants.{Inserimento, Variazione, Annullo, Sostituzione}
+use Rattle.codes.specs.declared.Operation.{Operation}
+use Rattle.codes.specs.declared.Operation.the-variants.{Inserimento, Variazione, Annullo, Sostituzione}
 use Rattle.order.specs.declared.Line.{Line}
 use Rattle.order.specs.declared.Lines.{Lines}
 use Rattle.order.specs.declared.Order.{Order}

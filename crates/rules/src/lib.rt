@@ -1,5 +1,5 @@
 // The rules for one order or one notice, over values: lines, the step table, what is written. Nothing here touches a table.
-use fields::Operation;
+use codes::Operation;
 use order::Line;
 use order::Lines;
 use order::Order;

@@ -12,7 +12,7 @@ use lib.Dec.{leb, eqb, eqb·zero-suc}
 use borrow.Author.Tests.{eq-eqb, ne-eqb, eqb-true, leb-true, leb-false, le-leb, lt-leb}
 use Rattle.scan.specs.declared.Walk.{Walk}
 use Rattle.scan.specs.declared.Walk.the-variants.{Past, Broken}
-use Rattle.scan.specs.Bytes.{byteAt, part, isLetter, isDigit, isAlnum, isNameByte, isWhite, run, runEnd, startsWith, hasAt}
+use Rattle.scan.specs.Bytes.{byteAt, part, between, isLetter, isDigit, isAlnum, isNameByte, isWhite, run, runEnd, startsWith, hasAt}
 use Rattle.scan.specs.Characters.{isChar, sized, isTail, charSize, charSizeAt, pastOr, charAt}
 
 -- a run goes on over a byte of its kind, and ends at another one and at the end of the flow
@@ -55,9 +55,20 @@ pub both : (a b : Bool) → (a && b) ≡ true → (a ≡ true) × (b ≡ true)
 both true b e = (refl, e)
 both false b e = let z : _≡_ {A = ℕ} 0 1 = cc in absurd (omega arith)
 
+pub in-range : (lo hi b : ℕ) → between lo hi b ≡ true → (lo ≤ b) × (b ≤ hi)
+in-range lo hi b e = let h = both (leb lo b) (leb b hi) e in (leb-true lo b (h .0), leb-true b hi (h .1))
+
 pub cond-past : (b : Bool) (x : Walk) (p : ℕ) {q : ℕ} → cond b x (Broken p) ≡ Past q → (b ≡ true) × (x ≡ Past q)
 cond-past true x p e = (refl, e)
 cond-past false x p e = never e
+
+-- A CHAIN OF TESTS, each read from the answer of the function that made it
+module _ {A : Type 0} (x y : A) {b r : Bool} (e : r ≡ b) where
+  pub then-is : r ≡ true → cond b x y ≡ x
+  then-is h = rw (sym e ∙ h)
+
+  pub else-is : {z : A} → r ≡ false → y ≡ z → cond b x y ≡ z
+  else-is h k = rw (sym e ∙ h) k
 
 -- from p to a later position of s
 pub record Advance (s : List ℕ) (p q : ℕ) : Type 0 where

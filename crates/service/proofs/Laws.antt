@@ -9,8 +9,8 @@ use lib.Dec.{ltb}
 use borrow.Author.Tests.{ltb-true, lt-ltb, le-ltb}
 use Rattle.words.specs.Numbers.{put, bytes4, bytes8}
 use Rattle.words.proofs.Laws.{put-put}
-use Rattle.fields.specs.Fields.{operationNumber}
-use Rattle.fields.specs.declared.Operation.the-variants.{Variazione, Annullo}
+use Rattle.codes.specs.Codes.{operationNumber}
+use Rattle.codes.specs.declared.Operation.the-variants.{Variazione, Annullo}
 use Rattle.ranges.specs.declared.Found.{Found}
 use Rattle.ranges.specs.declared.Found.the-variants.{At, Nothing}
 use Rattle.order.specs.declared.Order.{Order}

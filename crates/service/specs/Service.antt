@@ -5,7 +5,7 @@ use mathlib.Core.List.{List, [], _∷_, _++_}
 use lib.ListN.{length}
 use lib.Dec.{ltb}
 use Rattle.words.specs.Numbers.{put, bytes4, bytes8}
-use Rattle.fields.specs.Fields.{operationNumber}
+use Rattle.codes.specs.Codes.{operationNumber}
 use Rattle.ranges.specs.declared.Found.{Found}
 use Rattle.ranges.specs.declared.Found.the-variants.{At, Nothing}
 use Rattle.order.specs.declared.Order.{Order}

@@ -1,5 +1,5 @@
 // One order or one notice served on a body of a table's bytes: judged first, then stored.
-use fields::Operation;
+use codes::Operation;
 use order::Order;
 use ranges::Found;
 use record::Key;
@@ -12,7 +12,7 @@ ghost use Prim.Native.Nat.{ℕ, _+_, _*_, _≤_, _<_};
 ghost use lib.ListN.{length};
 ghost use lib.Dec.{ltb};
 ghost use Rattle.words.specs.Numbers.{put};
-ghost use Rattle.fields.specs.declared.Operation.the-variants.{Annullo};
+ghost use Rattle.codes.specs.declared.Operation.the-variants.{Annullo};
 ghost use Rattle.record.specs.Slot.{slotSize};
 ghost use Rattle.body.specs.Body.{recordsAt, bodyOk};
 ghost use Rattle.rules.specs.declared.Judged.the-variants.{Accepted, Refused};
@@ -155,7 +155,7 @@ pub fn put_outcome(out: &mut [u8], at: usize, o: Order, code: u8)
     let operation = o.operation;
     let head = [
         o.kind,
-        fields::operation_number(operation),
+        codes::operation_number(operation),
         code,
         ls.count as u8,
     ];

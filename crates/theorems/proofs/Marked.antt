@@ -4,7 +4,8 @@ use mathlib.Core.Bool.{true}
 use Rattle.scan.specs.Bytes.{isLetter, isDigit, isAlnum, all as allBytes, startsWith, hasAt, textIs}
 use Rattle.words.specs.Numbers.{be2, be4, be8, put}
 use Rattle.calendar.specs.Calendar.{leap, monthLength, isDate}
-use Rattle.fields.specs.Fields.{digitsAfter, digits, numero, dataOf, zeroInFront, importo}
+use Rattle.digits.specs.Digits.{digitsAfter, digits, numero, zeroInFront, importo}
+use Rattle.dates.specs.Dates.{dataOf}
 use Rattle.ranges.specs.Ranges.{zeros}
 use Rattle.record.specs.Slot.{recordAt, restZero, flat8, recordBytes, keyIs}
 use Rattle.body.specs.Body.{usedAt, slotsAt, lineThere, lineAbsent, lineOk, allFrom, sum, rangesOk, recordOk, findIn, distinct, slotOk, slotsOk, bodyOk}

@@ -11,7 +11,7 @@ use lib.ListN.{getD}
 use Rattle.scan.specs.Bytes.{bytes, part, isLetter, isDigit, isAlnum, all as allBytes, startsWith, hasAt, textIs}
 use Rattle.words.specs.Numbers.{be2, be4, be8, put}
 use Rattle.calendar.specs.Calendar.{leap, monthLength, isDate}
-use Rattle.fields.specs.Fields.{digitsAfter, digits}
+use Rattle.digits.specs.Digits.{digitsAfter, digits}
 use Rattle.ranges.specs.Ranges.{zeros}
 use Rattle.record.specs.Slot.{slotSize, recordAt, restZero, flat8, recordBytes, keyIs}
 use Rattle.body.specs.Body.{usedAt, slotsAt, lineThere, lineAbsent, lineOk, allFrom, sum, rangesOk, recordOk, findIn, distinct, slotOk, slotsOk, bodyOk}

@@ -6,10 +6,11 @@ use mathlib.Core.List.{List, [], _∷_, _++_}
 use lib.ListN.{getD, replicate}
 use lib.Dec.{eqb}
 use Rattle.scan.specs.Bytes.{bytes}
-use Rattle.fields.specs.declared.Number.{Number}
-use Rattle.fields.specs.declared.Number.the-variants.{Value, NoNumber}
-use Rattle.fields.specs.declared.Operation.the-variants.{Inserimento}
-use Rattle.fields.specs.Fields.{importo, numero, dataOf, isOn}
+use Rattle.digits.specs.declared.Number.{Number}
+use Rattle.digits.specs.declared.Number.the-variants.{Value, NoNumber}
+use Rattle.codes.specs.declared.Operation.the-variants.{Inserimento}
+use Rattle.digits.specs.Digits.{importo, numero}
+use Rattle.dates.specs.Dates.{dataOf, isOn}
 use Rattle.ranges.specs.declared.Found.{Found}
 use Rattle.ranges.specs.declared.Found.the-variants.{At, Nothing}
 use Rattle.entries.specs.Entry.{slotsOf, placeOf}

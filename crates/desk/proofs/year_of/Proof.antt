@@ -1,5 +1,5 @@
 use mathlib.Core.Path.{sym, ap, _∙_}
-use Rattle.fields.specs.Fields.{esercizio}
+use Rattle.digits.specs.Digits.{esercizio}
 use Rattle.orders.specs.Orders.{valueOf}
 use borrow.Author.Needs.{needs}
 use Rattle.desk.proofs.year_of.Statement.{statement}

@@ -1,5 +1,5 @@
 use mathlib.Core.Path.{_≡_, sym, ap}
-use Rattle.fields.specs.declared.Day.the-variants.{NoDay}
+use Rattle.dates.specs.declared.Day.the-variants.{NoDay}
 use Rattle.orders.specs.Orders.{dateOf}
 use borrow.Author.Needs.{needs}
 use Rattle.orders.proofs.date_of.Statement.{statement}

@@ -1,6 +1,6 @@
 use mathlib.Core.Path.{sym, ap, _∙_}
 use native.Mathlib.Omega.{arith}
-use Rattle.fields.specs.Fields.{progressivo, importo}
+use Rattle.digits.specs.Digits.{progressivo, importo}
 use Rattle.children.specs.Kept.{keptFrom}
 use Rattle.orders.specs.Orders.{valueOf}
 use Rattle.orders.proofs.Laws.{found, found-some, line-made}

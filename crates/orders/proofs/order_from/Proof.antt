@@ -1,6 +1,8 @@
 use mathlib.Core.Path.{sym, ap, _∙_}
 use native.Mathlib.Omega.{arith}
-use Rattle.fields.specs.Fields.{tipoOperazione, numero, dataOf, importo}
+use Rattle.codes.specs.Codes.{tipoOperazione}
+use Rattle.digits.specs.Digits.{numero, importo}
+use Rattle.dates.specs.Dates.{dataOf}
 use Rattle.children.specs.declared.Holds.the-variants.{Rows}
 use Rattle.children.specs.Kept.{keptFrom}
 use Rattle.orders.specs.Orders.{operationOf, valueOf, dateOf, kindOf}

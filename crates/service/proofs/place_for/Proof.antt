@@ -1,6 +1,6 @@
 use mathlib.Core.Path.{sym, ap, _∙_}
 use borrow.Author.Needs.{needs}
-use Rattle.fields.specs.declared.Operation.{Operation}
+use Rattle.codes.specs.declared.Operation.{Operation}
 use Rattle.body.specs.Body.{recordsAt}
 use Rattle.rules.specs.Rules.{placed}
 use Rattle.service.proofs.Laws.{varied-found}

@@ -1,0 +1,39 @@
+-- The forms whose text stays bytes (document 01, "The fields"). A text is taken as it stands in the flow: nothing is trimmed.
+use Prim.Native.Nat.{ℕ}
+use mathlib.Core.List.{List}
+use mathlib.Core.Bool.{Bool, cond, _&&_}
+use lib.ListN.{length}
+use lib.Dec.{eqb}
+use Rattle.scan.specs.Bytes.{bytes, between, isDigit, isAlnum, all, textIs}
+use Rattle.ranges.specs.Ranges.{isIdentifying}
+use Rattle.codes.specs.declared.Operation.{Operation}
+use Rattle.codes.specs.declared.Operation.the-variants.{Inserimento, Variazione, Annullo, Sostituzione}
+use Rattle.codes.specs.declared.Asked.{Asked}
+use Rattle.codes.specs.declared.Asked.the-variants.{Operazione, NoOperation}
+
+-- codice_ABI_BT: five digits, compared as digits
+unfoldable pub codiceAbi : List ℕ → Bool
+codiceAbi t = eqb (length t) 5 && all isDigit t
+
+-- identificativo_flusso: 1 to 35 of letters, digits, - _ .
+unfoldable pub identificativo : List ℕ → Bool
+identificativo t = between 1 35 (length t) && all isIdentifying t
+
+-- codice_ente_BT: 1 to 16 letters and digits
+unfoldable pub codiceEnte : List ℕ → Bool
+codiceEnte t = between 1 16 (length t) && all isAlnum t
+
+-- tipo_operazione: INSERIMENTO, VARIAZIONE, ANNULLO, SOSTITUZIONE
+unfoldable pub tipoOperazione : List ℕ → Asked
+tipoOperazione t =
+    cond (textIs (bytes "INSERIMENTO") t) (Operazione Inserimento)
+    (cond (textIs (bytes "VARIAZIONE") t) (Operazione Variazione)
+    (cond (textIs (bytes "ANNULLO") t) (Operazione Annullo)
+    (cond (textIs (bytes "SOSTITUZIONE") t) (Operazione Sostituzione) NoOperation)))
+
+-- an operation's number, 1 to 4 in the field table's order (document 01, "Answers", outcome byte 1)
+abbrev pub operationNumber : Operation → ℕ
+operationNumber Inserimento = 1
+operationNumber Variazione = 2
+operationNumber Annullo = 3
+operationNumber Sostituzione = 4

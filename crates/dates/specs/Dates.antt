@@ -1,0 +1,47 @@
+-- The forms that write a date (document 01, "The fields"). A text is taken as it stands in the flow: nothing is trimmed.
+use Prim.Native.Nat.{ℕ}
+use mathlib.Core.List.{List}
+use mathlib.Core.Bool.{Bool, true, false, cond, _&&_}
+use lib.ListN.{length}
+use lib.Dec.{leb, eqb}
+use Rattle.scan.specs.Bytes.{byte, byteAt, part}
+use Rattle.calendar.specs.declared.Date.{Date}
+use Rattle.calendar.specs.Calendar.{isDate}
+use Rattle.digits.specs.declared.Number.{Number}
+use Rattle.digits.specs.declared.Number.the-variants.{Value, NoNumber}
+use Rattle.digits.specs.Digits.{digits}
+use Rattle.dates.specs.declared.Day.{Day}
+use Rattle.dates.specs.declared.Day.the-variants.{On, NoDay}
+
+abbrev pub onDate : Date → Day
+onDate d = cond (isDate d) (On d) NoDay
+
+abbrev pub dayOf : Number → Number → Number → Day
+dayOf (Value y) (Value m) (Value d) = onDate (record { year = y; month = m; day = d })
+dayOf (Value y) (Value m) NoNumber = NoDay
+dayOf (Value y) NoNumber d = NoDay
+dayOf NoNumber m d = NoDay
+
+-- data: YYYY-MM-DD, a real Gregorian date, years 2000 to 2099
+unfoldable pub dataOf : List ℕ → Day
+dataOf t =
+    cond (eqb (length t) 10 && (eqb (byteAt t 4) (byte "-") && eqb (byteAt t 7) (byte "-")))
+    (dayOf (digits 4 4 (part t 0 4)) (digits 2 2 (part t 5 7)) (digits 2 2 (part t 8 10)))
+    NoDay
+
+-- hh 00 to 23, mm and ss 00 to 59
+unfoldable pub clock : Number → Number → Number → Bool
+clock (Value h) (Value m) (Value s) = leb h 23 && (leb m 59 && leb s 59)
+clock (Value h) (Value m) NoNumber = false
+clock (Value h) NoNumber s = false
+clock NoNumber m s = false
+
+abbrev pub isOn : Day → Bool
+isOn (On d) = true
+isOn NoDay = false
+
+-- data_ora_creazione_flusso: YYYY-MM-DDThh:mm:ss
+unfoldable pub dataOra : List ℕ → Bool
+dataOra t =
+    eqb (length t) 19 && (isOn (dataOf (part t 0 10)) && (eqb (byteAt t 10) (byte "T") && (eqb (byteAt t 13) (byte ":")
+    && (eqb (byteAt t 16) (byte ":") && clock (digits 2 2 (part t 11 13)) (digits 2 2 (part t 14 16)) (digits 2 2 (part t 17 19))))))

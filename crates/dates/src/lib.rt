@@ -1,0 +1,111 @@
+// The forms that write a date: data_mandato, data_reversale and data_ora_creazione_flusso.
+use calendar::Date;
+use digits::Number;
+ghost use mathlib.Core.Path.{_≡_};
+ghost use Rattle.dates.specs.Dates.{onDate, dayOf, dataOf, clock, isOn, dataOra};
+
+pub enum Day {
+    On(Date),
+    NoDay,
+}
+
+fn on_date(d: Date) -> Day
+    ensures { λ r. ⌜ r ≡ onDate d ⌝ }
+{
+    if calendar::is_date(d) {
+        Day::On(d)
+    } else {
+        Day::NoDay
+    }
+}
+
+fn day_of(y: Number, m: Number, d: Number) -> Day
+    ensures { λ r. ⌜ r ≡ dayOf y m d ⌝ }
+{
+    let Number::Value(year) = y else {
+        return Day::NoDay;
+    };
+    let Number::Value(month) = m else {
+        return Day::NoDay;
+    };
+    let Number::Value(day) = d else {
+        return Day::NoDay;
+    };
+    on_date(Date { year, month, day })
+}
+
+// data_mandato, data_reversale
+pub fn data_of(t: &[u8]) -> Day
+    ensures { λ r. ⌜ r ≡ dataOf (now (t .entry)) ⌝ }
+{
+    if t.len() != 10 {
+        return Day::NoDay;
+    }
+    if t[4] != 45 {
+        return Day::NoDay;
+    }
+    if t[7] != 45 {
+        return Day::NoDay;
+    }
+    day_of(
+        digits::four_digits(&t[0..4]),
+        digits::two_digits(&t[5..7]),
+        digits::two_digits(&t[8..10]),
+    )
+}
+
+fn clock_stands(h: Number, m: Number, s: Number) -> bool
+    ensures { λ r. ⌜ r ≡ clock h m s ⌝ }
+{
+    let Number::Value(hour) = h else {
+        return false;
+    };
+    let Number::Value(minute) = m else {
+        return false;
+    };
+    let Number::Value(second) = s else {
+        return false;
+    };
+    if 23 < hour {
+        return false;
+    }
+    if 59 < minute {
+        return false;
+    }
+    second <= 59
+}
+
+fn is_on(d: Day) -> bool
+    ensures { λ r. ⌜ r ≡ isOn d ⌝ }
+{
+    match d {
+        Day::On(_) => true,
+        Day::NoDay => false,
+    }
+}
+
+// data_ora_creazione_flusso
+pub fn data_ora(t: &[u8]) -> bool
+    ensures { λ r. ⌜ r ≡ dataOra (now (t .entry)) ⌝ }
+{
+    if t.len() != 19 {
+        return false;
+    }
+    if !is_on(data_of(&t[0..10])) {
+        return false;
+    }
+    if t[10] != 84 {
+        return false;
+    }
+    if t[13] != 58 {
+        return false;
+    }
+    if t[16] != 58 {
+        return false;
+    }
+    clock_stands(
+        digits::two_digits(&t[11..13]),
+        digits::two_digits(&t[14..16]),
+        digits::two_digits(&t[17..19]),
+    )
+}

@@ -1,0 +1,18 @@
+use mathlib.Core.Path.{ap, _∙_}
+use Rattle.digits.specs.Digits.{within, esercizio}
+use borrow.Author.Needs.{needs}
+use Rattle.digits.proofs.esercizio_of.Statement.{statement}
+use Rattle.digits.proofs.esercizio_of.Tie as tie
+
+digits-of-requires : tie.Need-digits-of-requires
+digits-of-requires c κs = search needs
+
+number-within-requires : tie.Need-number-within-requires
+number-within-requires c κs = search needs
+
+returns : tie.Need-returns
+unfolding esercizio
+returns c = c .number-within .ensures ∙ ap (within 2000 2099) (c .before .digits-of .ensures)
+
+pub esercizio-of-spec : {M : Type 1} → statement M
+esercizio-of-spec = tie.close (tie.spec digits-of-requires number-within-requires returns)

@@ -1,0 +1,18 @@
+use mathlib.Core.Path.{ap, _∙_}
+use Rattle.digits.specs.Digits.{within, numero}
+use borrow.Author.Needs.{needs}
+use Rattle.digits.proofs.numero_of.Statement.{statement}
+use Rattle.digits.proofs.numero_of.Tie as tie
+
+digits-of-requires : tie.Need-digits-of-requires
+digits-of-requires c κs = search needs
+
+number-within-requires : tie.Need-number-within-requires
+number-within-requires c κs = search needs
+
+returns : tie.Need-returns
+unfolding numero
+returns c = c .number-within .ensures ∙ ap (within 1 9999999) (c .before .digits-of .ensures)
+
+pub numero-of-spec : {M : Type 1} → statement M
+numero-of-spec = tie.close (tie.spec digits-of-requires number-within-requires returns)

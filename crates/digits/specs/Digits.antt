@@ -1,0 +1,51 @@
+-- The forms that write a number in digits (document 01, "The fields"). A text is taken as it stands in the flow: nothing is trimmed.
+use Prim.Native.Nat.{ℕ, _+_, _*_, _-_}
+use mathlib.Core.List.{List, [], _∷_}
+use mathlib.Core.Bool.{Bool, cond, not, _&&_}
+use lib.ListN.{length}
+use lib.Dec.{eqb}
+use Rattle.scan.specs.Bytes.{byte, byteAt, part, between, isDigit}
+use Rattle.digits.specs.declared.Number.{Number}
+use Rattle.digits.specs.declared.Number.the-variants.{Value, NoNumber}
+
+-- a number of lo to hi
+abbrev pub within : ℕ → ℕ → Number → Number
+within lo hi (Value v) = cond (between lo hi v) (Value v) NoNumber
+within lo hi NoNumber = NoNumber
+
+-- the number v followed by the digits t
+unfoldable pub digitsAfter : ℕ → List ℕ → Number
+digitsAfter v [] = Value v
+digitsAfter v (b ∷ t) = cond (isDigit b) (digitsAfter (v * 10 + (b - byte "0")) t) NoNumber
+
+-- the number that a text of lo to hi digits writes, highest digit first
+unfoldable pub digits : ℕ → ℕ → List ℕ → Number
+digits lo hi t = cond (between lo hi (length t)) (digitsAfter 0 t) NoNumber
+
+-- esercizio: four digits, 2000 to 2099
+unfoldable pub esercizio : List ℕ → Number
+esercizio t = within 2000 2099 (digits 4 4 t)
+
+-- numero: 1 to 7 digits, value 1 to 9,999,999; leading zeros don't count
+unfoldable pub numero : List ℕ → Number
+numero t = within 1 9999999 (digits 1 7 t)
+
+abbrev pub inCents : Number → Number → Number
+inCents (Value w) (Value c) = Value (w * 100 + c)
+inCents (Value w) NoNumber = NoNumber
+inCents NoNumber c = NoNumber
+
+-- a zero in front that isn't the only digit before the point
+unfoldable pub zeroInFront : List ℕ → Bool
+zeroInFront t = eqb (byteAt t 0) (byte "0") && not (eqb (length t) 4)
+
+-- importo: 1 to 9 digits, a point, two digits; no zero in front unless it is the only digit there; held in cents
+unfoldable pub importo : List ℕ → Number
+importo t =
+    cond (between 4 12 (length t) && (eqb (byteAt t (length t - 3)) (byte ".") && not (zeroInFront t)))
+    (inCents (digits 1 9 (part t 0 (length t - 3))) (digits 2 2 (part t (length t - 2) (length t))))
+    NoNumber
+
+-- progressivo: 1 to 3 digits, as a number; leading zeros don't count
+unfoldable pub progressivo : List ℕ → Number
+progressivo t = digits 1 3 t
