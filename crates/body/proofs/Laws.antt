@@ -1,136 +1,23 @@
--- Laws of a body's slots and of a record's lines, one at a time: what the loops of this crate cite.
-use Prim.Native.Nat.{ℕ, zero, suc, _+_, _-_, _*_, _≤_, _<_}
-use mathlib.Core.Bool.{Bool, true, false, _&&_, not, cond}
-use mathlib.Core.List.{List, [], _∷_, _++_}
+-- Laws of a valid body and of its totals, one slot at a time.
+use Prim.Native.Nat.{ℕ, zero, suc, _+_, _*_, _≤_, _<_}
+use mathlib.Core.Bool.{Bool, true, false, _&&_, cond}
+use mathlib.Core.List.{List, [], _∷_}
 use mathlib.Core.Path.{_≡_, refl, sym, ap, _∙_}
 use native.Mathlib.Omega.{arith}
-use native.Mathlib.Nat.{not-suc-le-zero}
 use native.Mathlib.Numerals.{add-one}
 use lib.ListN.{length, getD, drop, drop-of-length-le}
 use lib.Seq.{drop-cons}
-use lib.Dec.{eqb, leb}
-use borrow.Author.Tests.{eq-eqb, ne-eqb, eqb-true, eqb-false, leb-true}
+use lib.Dec.{eqb}
+use borrow.Author.Tests.{eq-eqb, ne-eqb}
 use Rattle.scan.proofs.Laws.{both}
-use Rattle.record.specs.Slot.{slotSize, recordAt, restZero, keyIs, keyOf}
+use Rattle.record.specs.Slot.{slotSize, recordAt, restZero}
 use Rattle.record.specs.declared.Record.{Record}
-use Rattle.record.specs.declared.Key.{Key}
-use Rattle.ranges.specs.Ranges.{zeros, isNothing}
-use Rattle.ranges.specs.declared.Found.{Found}
-use Rattle.ranges.specs.declared.Found.the-variants.{At, Nothing}
-use Rattle.body.proofs.Valid.{ok-bounds, ok-sum}
-use Rattle.body.specs.Body.{usedAt, slotsAt, recordsAt, maxCents, lineOk, allFrom, sum, rangesOk, recordOk, findIn, distinct, slotOk, slotsOk, bodyOk, executedIn, executed, centsOf}
-
--- TESTS OF ONE AFTER THE OTHER
-
-pub and-stop : (a b : Bool) {x : Bool} → x ≡ (a && b) → a ≡ false → x ≡ false
-and-stop a b e f = e ∙ ap (λ (y : Bool). y && b) f
-
-pub and-go : (a b : Bool) {x : Bool} → x ≡ (a && b) → a ≡ true → x ≡ b
-and-go a b e f = e ∙ ap (λ (y : Bool). y && b) f
-
-pub and-eq : {a b c d x : Bool} → x ≡ (a && b) → a ≡ c → b ≡ d → x ≡ (c && d)
-and-eq e p q = e ∙ (λ i. p i && q i)
-
--- THE RECORDS OF A BODY
-
--- an empty slot ends the used ones
-pub used-end : (t : List ℕ) (at n : ℕ) → getD t at 0 ≡ 0 → usedAt t at n ≡ 0
-unfolding usedAt
-used-end t at zero e = refl
-used-end t at (suc n) e = rw (eq-eqb _ _ e)
-
-pub used-none : (t : List ℕ) (at n : ℕ) → n ≡ 0 → usedAt t at n ≡ 0
-unfolding usedAt
-used-none t at n q = rw q
-
-pub used-le : (t : List ℕ) (at n : ℕ) → usedAt t at n ≤ n
-unfolding usedAt
-used-le t at zero = omega arith
-used-le t at (suc n) = go (eqb (getD t at 0) 0) (used-le t (at + slotSize) n) where
-  go : (b : Bool) → usedAt t (at + slotSize) n ≤ n → cond b 0 (suc (usedAt t (at + slotSize) n)) ≤ suc n
-  go true h = omega arith
-  go false h = omega arith
-
-module _ (t : List ℕ) (at n m : ℕ) (q : n ≡ suc m) where
-  pub used-more : (getD t at 0 ≡ 0 → ⊥) → usedAt t at n ≡ suc (usedAt t (at + slotSize) m)
-  unfolding usedAt
-  used-more z = rw (q, ne-eqb _ _ z)
-
-  pub slots-more : slotsAt t at n ≡ recordAt t at ∷ slotsAt t (at + slotSize) m
-  unfolding slotsAt
-  slots-more = rw q
-
-  pub records-more : (getD t at 0 ≡ 0 → ⊥) → recordsAt t at n ≡ recordAt t at ∷ recordsAt t (at + slotSize) m
-  unfolding slotsAt
-  records-more z = ap (slotsAt t at) (used-more z)
-
-module _ (t : List ℕ) (at n : ℕ) where
-  pub slots-none : n ≡ 0 → slotsAt t at n ≡ []
-  unfolding slotsAt
-  slots-none q = rw q
-
-  pub records-end : getD t at 0 ≡ 0 → recordsAt t at n ≡ []
-  unfolding slotsAt
-  records-end z = ap (slotsAt t at) (used-end t at n z)
-
-  pub records-none : n ≡ 0 → recordsAt t at n ≡ []
-  unfolding slotsAt
-  records-none q = ap (slotsAt t at) (used-none t at n q)
-
--- THE SEARCH
-
-module _ {rs rest : List Record} {r : Record} (e : rs ≡ r ∷ rest) (i : ℕ) (k : Key) where
-  pub find-first : keyIs r k ≡ true → findIn rs i k ≡ At i
-  unfolding findIn
-  find-first h = rw (e, h)
-
-  pub find-later : keyIs r k ≡ false → findIn rs i k ≡ findIn rest (i + 1) k
-  unfolding findIn
-  find-later h = rw (e, h)
-
-pub find-nil : {rs : List Record} → rs ≡ [] → (i : ℕ) (k : Key) → findIn rs i k ≡ Nothing
-unfolding findIn
-find-nil e i k = rw e
-
-pub distinct-more : {rs rest : List Record} {r : Record} → rs ≡ r ∷ rest → distinct rs ≡ (isNothing (findIn rest 0 (keyOf r)) && distinct rest)
-unfolding distinct
-distinct-more e = rw e
-
-pub distinct-nil : {rs : List Record} → rs ≡ [] → distinct rs ≡ true
-unfolding distinct
-distinct-nil e = rw e
-
--- A VALID RECORD
-
-pub all-more : (f : ℕ → Bool) (k n m : ℕ) → n ≡ suc m → allFrom f k n ≡ (f k && allFrom f (k + 1) m)
-unfolding allFrom
-all-more f k n m q = rw q
-
-pub all-done : (f : ℕ → Bool) (k n : ℕ) → n ≡ 0 → allFrom f k n ≡ true
-unfolding allFrom
-all-done f k n q = rw q
-
-pub same-test : (a b c d : ℕ) → (a ≡ b → c ≡ d) → (c ≡ d → a ≡ b) → eqb a b ≡ eqb c d
-same-test a b c d f g = split (eqb a b) refl where
-  split : (x : Bool) → eqb a b ≡ x → eqb a b ≡ eqb c d
-  split true e = e ∙ sym (eq-eqb c d (f (eqb-true a b e)))
-  split false e = e ∙ sym (ne-eqb c d (λ q. eqb-false a b e (g q)))
-
--- a sum, compared with what is left of the total
-module _ (a : List ℕ) (i rest : ℕ) where
-  pub sum-more : i < length a → sum (drop i a) ≡ getD a i 0 + sum (drop (i + 1) a)
-  unfolding sum
-  sum-more h = rw (add-one, drop-cons a i 0)
-
-  pub sum-over : i < length a → rest < getD a i 0 → eqb (sum (drop i a)) rest ≡ false
-  sum-over h p = ne-eqb (sum (drop i a)) rest (λ q. omega (arith, sum-more h))
-
-  pub sum-go : i < length a → getD a i 0 ≤ rest → eqb (sum (drop i a)) rest ≡ eqb (sum (drop (i + 1) a)) (rest - getD a i 0)
-  sum-go h p = same-test (sum (drop i a)) rest (sum (drop (i + 1) a)) (rest - getD a i 0) (λ q. omega (arith, sum-more h)) (λ q. omega (arith, sum-more h))
-
-  pub sum-done : length a ≤ i → eqb (sum (drop i a)) rest ≡ eqb 0 rest
-  unfolding sum
-  sum-done h = rw (drop-of-length-le a h)
+use Rattle.ranges.specs.Ranges.{zeros}
+use Rattle.valid.specs.Valid.{sum, recordOk}
+use Rattle.valid.proofs.Valid.{ok-bounds, ok-sum}
+use Rattle.slots.specs.Slots.{usedAt, slotsAt, distinct}
+use Rattle.slots.proofs.Laws.{used-more}
+use Rattle.body.specs.Body.{slotOk, slotsOk, bodyOk, executedIn, executed, centsOf}
 
 -- A VALID BODY
 

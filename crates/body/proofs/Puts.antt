@@ -15,13 +15,16 @@ use Rattle.record.specs.declared.Record.{Record}
 use Rattle.record.proofs.Back.{same-record, agree-before, agree-after, length-record, record-put, rest-put}
 use Rattle.ranges.specs.Ranges.{isNothing}
 use Rattle.ranges.specs.declared.Found.the-variants.{Nothing}
-use Rattle.body.specs.Body.{usedAt, slotsAt, recordsAt, recordOk, findIn, distinct, slotOk, bodyOk}
-use Rattle.body.proofs.Valid.{Valid, valid-sized, ok-used}
-use Rattle.body.proofs.Laws.{used-le}
-use Rattle.body.proofs.Zeros.{zeros-get, get-zeros}
+use Rattle.valid.specs.Valid.{recordOk}
+use Rattle.slots.specs.Slots.{usedAt, slotsAt, recordsAt, findIn, distinct}
+use Rattle.body.specs.Body.{slotOk, bodyOk}
+use Rattle.valid.proofs.Valid.{Valid, valid-sized, ok-used}
+use Rattle.slots.proofs.Laws.{used-le}
+use Rattle.ranges.proofs.Laws.{zeros-get, get-zeros}
 use Rattle.body.proofs.Same.{slots-agree, slot-ok-agree}
-use Rattle.body.proofs.Search.{distinct-set, distinct-add}
-use Rattle.body.proofs.Slots.{length-slots, get-slot, slots-snoc, slots-each, each-slots, used-is, used-kind, used-empty, Parts, parts, together}
+use Rattle.slots.proofs.Search.{distinct-set, distinct-add}
+use Rattle.slots.proofs.Index.{length-slots, get-slot, slots-snoc, used-is, used-kind, used-empty}
+use Rattle.body.proofs.Slots.{slots-each, each-slots, Parts, parts, together}
 
 -- A VALID RECORD IN SLOT i
 

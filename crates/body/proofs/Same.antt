@@ -10,9 +10,11 @@ use Rattle.words.proofs.Laws.{Agree, on, at-it}
 use Rattle.record.specs.Slot.{slotSize, recordAt, restZero}
 use Rattle.record.proofs.Back.{same-record, same-rest}
 use Rattle.ranges.specs.Ranges.{zeros}
-use Rattle.body.specs.Body.{usedAt, slotsAt, recordsAt, recordOk, distinct, slotOk, slotsOk, bodyOk}
-use Rattle.body.proofs.Laws.{used-le}
-use Rattle.body.proofs.Zeros.{zeros-get, get-zeros}
+use Rattle.valid.specs.Valid.{recordOk}
+use Rattle.slots.specs.Slots.{usedAt, slotsAt, recordsAt, distinct}
+use Rattle.body.specs.Body.{slotOk, slotsOk, bodyOk}
+use Rattle.slots.proofs.Laws.{used-le}
+use Rattle.ranges.proofs.Laws.{zeros-get, get-zeros}
 
 pub turned : {s t : List ℕ} {p q m : ℕ} → Agree s p t q m → Agree t q s p m
 turned h = record { same = λ i b. sym (h .same i b) }

@@ -15,7 +15,8 @@ use Rattle.ranges.specs.declared.Found.{Found}
 use Rattle.ranges.specs.declared.Found.the-variants.{At, Nothing}
 use Rattle.record.specs.declared.Key.{Key}
 use Rattle.record.specs.Slot.{slotSize}
-use Rattle.body.specs.Body.{recordsAt, usedAt, centsOf, bodyOk}
+use Rattle.slots.specs.Slots.{recordsAt, usedAt}
+use Rattle.body.specs.Body.{centsOf, bodyOk}
 use Rattle.entries.specs.Entry.{entrySize, slotsOf, placeOf}
 use Rattle.table.specs.Table.{maxLength, tableOk, bodyOf, entryOf}
 use Rattle.table.proofs.Laws.{head, table, body-same}

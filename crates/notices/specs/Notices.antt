@@ -6,7 +6,8 @@ use mathlib.Core.List.{List}
 use Rattle.ranges.specs.declared.Found.{Found}
 use Rattle.ranges.specs.declared.Found.the-variants.{At, Nothing}
 use Rattle.record.specs.declared.Key.{Key}
-use Rattle.body.specs.Body.{recordsAt, usedAt, centsOf}
+use Rattle.slots.specs.Slots.{recordsAt, usedAt}
+use Rattle.body.specs.Body.{centsOf}
 use Rattle.entries.specs.Entry.{slotsOf, placeOf}
 use Rattle.table.specs.Table.{tableOk, bodyOf, entryOf}
 use Rattle.rules.specs.declared.Noticed.{Noticed}

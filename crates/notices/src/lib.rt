@@ -150,7 +150,7 @@ fn body_totals(t: &[u8], base: usize, n: usize) -> TotalsAnswer
     requires { ⌜ (base + slotSize * n ≤ length (now t)) × (n ≤ 512) × (bodyOk (now t) base n ≡ true) ⌝ }
     ensures { λ r. ⌜ r ≡ bodyTotals (now (t .entry)) base n ⌝ }
 {
-    let used = body::used_slots(t, base, n) as u64;
+    let used = slots::used_slots(t, base, n) as u64;
     let paid = body::cents_of(t, base, n, 1);
     let collected = body::cents_of(t, base, n, 2);
     let balance = difference(collected, paid);

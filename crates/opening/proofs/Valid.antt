@@ -13,9 +13,10 @@ use Rattle.words.specs.Numbers.{be2, be4, bytes2, bytes4}
 use Rattle.words.proofs.Laws.{Agree, on, same2, same4, be2-bytes, be4-bytes}
 use Rattle.record.specs.Slot.{slotSize}
 use Rattle.ranges.specs.Ranges.{zeros}
-use Rattle.body.specs.Body.{usedAt, slotsAt, slotsOk, distinct, bodyOk}
-use Rattle.body.proofs.Laws.{used-end}
-use Rattle.body.proofs.Zeros.{get-zeros}
+use Rattle.slots.specs.Slots.{usedAt, slotsAt, distinct}
+use Rattle.body.specs.Body.{slotsOk, bodyOk}
+use Rattle.slots.proofs.Laws.{used-end}
+use Rattle.ranges.proofs.Laws.{get-zeros}
 use Rattle.entries.specs.Entry.{entrySize, requestSize, slotsOf, placeOf, formsOk, codesFrom}
 use Rattle.entries.proofs.Laws.{forms-split}
 use Rattle.entries.proofs.Same.{part-agree, slots-agree, form-agree, Rows, codes-rows, slots-rows}

@@ -1,16 +1,18 @@
 -- Laws of tests over a range, an index at a time.
 use mathlib.Core.Path.{_≡_, refl, sym, ap, _∙_}
 use mathlib.Core.List.{List, [], _∷_}
-use mathlib.Core.Bool.{Bool, true, false, cond, _&&_, and-false}
-use Prim.Native.Nat.{ℕ, zero, suc, _+_, _-_, _≤_, _<_}
+use mathlib.Core.Bool.{Bool, true, false, _&&_}
+use Prim.Native.Nat.{ℕ, zero, suc, _+_, _*_, _-_, _≤_, _<_}
 use native.Mathlib.Numerals.{add-one}
 use native.Mathlib.Omega.{arith}
-use lib.ListN.{length, getD, take, drop}
-use lib.Seq.{drop-cons}
-use lib.Dec.{eqb}
-use borrow.Author.Tests.{eq-eqb, ne-eqb, eqb-true, eqb-false}
-use Rattle.ranges.specs.Ranges.{zeros}
+use lib.ListN.{length, getD, take, drop, length-take}
+use lib.Seq.{drop-cons, getD-take, getD-drop}
+use lib.Dec.{eqb, leb}
+use borrow.Author.Tests.{eq-eqb, eqb-true, leb-true, leb-false}
 use Rattle.scan.specs.Bytes.{part, all}
+use Rattle.scan.proofs.Laws.{both}
+use Rattle.words.specs.Numbers.{be2, be4, be8}
+use Rattle.ranges.specs.Ranges.{zeros}
 
 -- the part from i up to e begins with the byte at i
 part-cons : (t : List ℕ) (i e : ℕ) → i < e → i < length t → part t i e ≡ getD t i 0 ∷ part t (i + 1) e
@@ -31,22 +33,108 @@ module _ (p : ℕ → Bool) (t : List ℕ) (i e : ℕ) where
   unfolding all
   all-done h = let n : e - i ≡ 0 = omega arith in rw n
 
--- a sum of bytes is zero where each of them is: one byte more
-module _ (t : List ℕ) (i e sum : ℕ) (h : i < e) (k : i < length t) where
-  pub zero-step : (eqb (sum + getD t i 0) 0 && zeros t (i + 1) e) ≡ (eqb sum 0 && zeros t i e)
-  unfolding zeros
-  zero-step = go (eqb (getD t i 0) 0) refl
-    where
-      go : (b : Bool) → eqb (getD t i 0) 0 ≡ b → (eqb (sum + getD t i 0) 0 && zeros t (i + 1) e) ≡ (eqb sum 0 && zeros t i e)
-      go true f =
-          let z = eqb-true (getD t i 0) 0 f in
-          let n : sum + getD t i 0 ≡ sum = omega arith in
-          rw (all-more (λ b. eqb b 0) t i e h k f, n)
-      go false f =
-          let z = eqb-false (getD t i 0) 0 f in
-          let n : eqb (sum + getD t i 0) 0 ≡ false = ne-eqb (sum + getD t i 0) 0 (λ (y : sum + getD t i 0 ≡ 0). z (omega arith)) in
-          rw (all-not (λ b. eqb b 0) t i e h k f, n, and-false)
+-- BYTES THAT ARE ALL ZERO, by index: past the end a list reads as 0, so no length is asked
 
-pub zero-none : (t : List ℕ) (i e : ℕ) → e ≤ i → zeros t i e ≡ true
-unfolding zeros
-zero-none t i e h = all-done (λ b. eqb b 0) t i e h
+all-get : (p : ℕ → Bool) (l : List ℕ) → p 0 ≡ true → all p l ≡ true → (i : ℕ) → p (getD l i 0) ≡ true
+unfolding all
+all-get p [] z e i = z
+all-get p (x ∷ l) z e zero = both (p x) (all p l) e .0
+all-get p (x ∷ l) z e (suc i) = all-get p l z (both (p x) (all p l) e .1) i
+
+get-all : (p : ℕ → Bool) (l : List ℕ) → ((i : ℕ) → i < length l → p (getD l i 0) ≡ true) → all p l ≡ true
+unfolding all
+get-all p [] h = refl
+get-all p (x ∷ l) h =
+    let a : p x ≡ true = h 0 (omega arith) in
+    let b : all p l ≡ true = get-all p l (λ i b. h (suc i) (omega arith)) in
+    λ i. a i && b i
+
+part-get : (t : List ℕ) (a e i : ℕ) → i < e - a → getD (part t a e) i 0 ≡ getD t (a + i) 0
+part-get t a e i h = getD-take (e - a) (drop a t) i 0 h ∙ getD-drop a t i 0
+
+module _ (t : List ℕ) (a e : ℕ) where
+  pub zeros-get : zeros t a e ≡ true → (i : ℕ) → a ≤ i → i < e → getD t i 0 ≡ 0
+  unfolding zeros
+  zeros-get z i l u =
+      let q : a + (i - a) ≡ i = omega arith in
+      ap (λ (x : ℕ). getD t x 0) (sym q) ∙ sym (part-get t a e (i - a) (omega arith))
+      ∙ eqb-true _ 0 (all-get (λ b. eqb b 0) (part t a e) refl z (i - a))
+
+  pub get-zeros : ((i : ℕ) → a ≤ i → i < e → getD t i 0 ≡ 0) → zeros t a e ≡ true
+  unfolding zeros
+  get-zeros h =
+      get-all (λ b. eqb b 0) (part t a e)
+      (λ i b. let l : i < e - a = omega (arith, length-take (e - a) (drop a t)) in eq-eqb _ 0 (part-get t a e i l ∙ h (a + i) (omega arith) (omega arith)))
+
+-- two answers of one question are the same where each follows from the other
+same : (a b : Bool) → (a ≡ true → b ≡ true) → (b ≡ true → a ≡ true) → a ≡ b
+same true b f g = sym (f refl)
+same false true f g = g refl
+same false false f g = refl
+
+-- zero up to m and from there on
+module _ (t : List ℕ) (a m e : ℕ) (h : a ≤ m) (k : m ≤ e) where
+  pub zeros-past : zeros t a m ≡ true → zeros t a e ≡ zeros t m e
+  zeros-past z =
+      same (zeros t a e) (zeros t m e)
+      (λ w. get-zeros t m e (λ i l u. zeros-get t a e w i (omega arith) u))
+      (λ w. get-zeros t a e (λ i l u. go i l u w (leb (suc i) m) refl))
+    where
+      go : (i : ℕ) → a ≤ i → i < e → zeros t m e ≡ true → (b : Bool) → leb (suc i) m ≡ b → getD t i 0 ≡ 0
+      go i l u w true f = zeros-get t a m z i l (leb-true (suc i) m f)
+      go i l u w false f = zeros-get t m e w i (omega (arith, leb-false (suc i) m f)) u
+
+  pub zeros-not : zeros t a m ≡ false → zeros t a e ≡ false
+  zeros-not z =
+      same (zeros t a e) false
+      (λ w. let y = get-zeros t a m (λ i l u. zeros-get t a e w i l (omega arith)) in sym z ∙ y)
+      (λ w. let v : _≡_ {A = ℕ} 0 1 = cc in absurd (omega arith))
+
+pub zeros-none : (t : List ℕ) (a e : ℕ) → e ≤ a → zeros t a e ≡ true
+zeros-none t a e h = get-zeros t a e (λ i l u. absurd (omega arith))
+
+-- eight bytes are zero where the number in them is
+module _ (t : List ℕ) (a : ℕ) where
+  pub eight-zero : be8 t a ≡ 0 → zeros t a (a + 8) ≡ true
+  unfolding be8 be4 be2
+  eight-zero z = get-zeros t a (a + 8) (λ i l u. go (i - a) (omega arith) i (omega arith))
+    where
+      at : (i j : ℕ) → i ≡ j → getD t j 0 ≡ 0 → getD t i 0 ≡ 0
+      at i j q h = ap (λ (x : ℕ). getD t x 0) q ∙ h
+
+      go : (k : ℕ) → k < 8 → (i : ℕ) → i ≡ a + k → getD t i 0 ≡ 0
+      go zero h i q = at i (a) (omega arith) (omega arith)
+      go (suc zero) h i q = at i (a + 1) (omega arith) (omega arith)
+      go (suc (suc zero)) h i q = at i (a + 2) (omega arith) (omega arith)
+      go (suc (suc (suc zero))) h i q = at i (a + 2 + 1) (omega arith) (omega arith)
+      go (suc (suc (suc (suc zero)))) h i q = at i (a + 4) (omega arith) (omega arith)
+      go (suc (suc (suc (suc (suc zero))))) h i q = at i (a + 4 + 1) (omega arith) (omega arith)
+      go (suc (suc (suc (suc (suc (suc zero)))))) h i q = at i (a + 4 + 2) (omega arith) (omega arith)
+      go (suc (suc (suc (suc (suc (suc (suc zero))))))) h i q = at i (a + 4 + 2 + 1) (omega arith) (omega arith)
+      go (suc (suc (suc (suc (suc (suc (suc (suc k)))))))) h i q = absurd (omega arith)
+
+  pub eight-not : (be8 t a ≡ 0 → ⊥) → zeros t a (a + 8) ≡ false
+  unfolding be8 be4 be2
+  eight-not n =
+      same (zeros t a (a + 8)) false
+      (λ w. absurd (n (
+      let b0 = zeros-get t a (a + 8) w a (omega arith) (omega arith) in
+      let b1 = zeros-get t a (a + 8) w (a + 1) (omega arith) (omega arith) in
+      let b2 = zeros-get t a (a + 8) w (a + 2) (omega arith) (omega arith) in
+      let b3 = zeros-get t a (a + 8) w (a + 2 + 1) (omega arith) (omega arith) in
+      let b4 = zeros-get t a (a + 8) w (a + 4) (omega arith) (omega arith) in
+      let b5 = zeros-get t a (a + 8) w (a + 4 + 1) (omega arith) (omega arith) in
+      let b6 = zeros-get t a (a + 8) w (a + 4 + 2) (omega arith) (omega arith) in
+      let b7 = zeros-get t a (a + 8) w (a + 4 + 2 + 1) (omega arith) (omega arith) in
+      omega arith)))
+      (λ w. let v : _≡_ {A = ℕ} 0 1 = cc in absurd (omega arith))
+
+-- eight bytes at a time: one step on, and the way out
+module _ (t : List ℕ) (at n : ℕ) (h : 0 < n) where
+  pub eights-more : be8 t at ≡ 0 → zeros t at (at + 8 * n) ≡ zeros t (at + 8) (at + 8 + 8 * (n - 1))
+  eights-more z =
+      let q : at + 8 * n ≡ at + 8 + 8 * (n - 1) = omega arith in
+      rw (← q) (zeros-past t at (at + 8) (at + 8 * n) (omega arith) (omega arith) (eight-zero t at z))
+
+  pub eights-not : (be8 t at ≡ 0 → ⊥) → zeros t at (at + 8 * n) ≡ false
+  eights-not z = zeros-not t at (at + 8) (at + 8 * n) (omega arith) (omega arith) (eight-not t at z)

@@ -7,7 +7,7 @@ use Rattle.scan.specs.Bytes.{byte, part, all, isDigit, isAlnum}
 use Rattle.ranges.specs.declared.Found.{Found}
 use Rattle.ranges.specs.declared.Found.the-variants.{At, Nothing}
 use Rattle.ranges.specs.declared.Class.{Class}
-use Rattle.ranges.specs.declared.Class.the-variants.{Digits, Alphanumeric, Identifying}
+use Rattle.ranges.specs.declared.Class.the-variants.{Digits, Alphanumeric, Identifying, Zero}
 
 -- the bytes from a up to e are zero
 unfoldable pub zeros : List ℕ → ℕ → ℕ → Bool
@@ -22,6 +22,7 @@ abbrev pub isOf : Class → ℕ → Bool
 isOf Digits b = isDigit b
 isOf Alphanumeric b = isAlnum b
 isOf Identifying b = isIdentifying b
+isOf Zero b = eqb b 0
 
 -- nothing was found
 abbrev pub isNothing : Found → Bool

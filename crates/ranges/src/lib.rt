@@ -1,6 +1,6 @@
 // Tests of the bytes from one index of a buffer up to another, and the answer of a search.
 ghost use mathlib.Core.Path.{_≡_};
-ghost use Prim.Native.Nat.{_+_, _≤_, _<_};
+ghost use Prim.Native.Nat.{_+_, _*_, _≤_};
 ghost use lib.ListN.{length};
 ghost use Rattle.scan.specs.Bytes.{part, all};
 ghost use Rattle.ranges.specs.Ranges.{zeros, isIdentifying, isOf, isNothing};
@@ -11,11 +11,12 @@ pub enum Found {
     Nothing,
 }
 
-// What the bytes of a code or an identifier may be.
+// What the bytes of a code, an identifier or an empty place may be.
 pub enum Class {
     Digits,
     Alphanumeric,
     Identifying,
+    Zero,
 }
 
 pub fn is_nothing(f: Found) -> bool
@@ -25,26 +26,6 @@ pub fn is_nothing(f: Found) -> bool
         Found::At(_) => false,
         Found::Nothing => true,
     }
-}
-
-fn wide(x: u8) -> u64
-    ensures { λ r. ⌜ (r ≡ x) × (r < 256) ⌝ }
-{
-    x as u64
-}
-
-// Whether the bytes from a up to e are zero. Their sum is taken to the end: an exit at each byte would cost twice the time.
-pub fn are_zero(t: &[u8], a: usize, e: usize) -> bool
-    requires { ⌜ (a ≤ e) × (e ≤ length (now t)) × (length (now t) ≤ 65536) ⌝ }
-    ensures { λ r. ⌜ r ≡ zeros (now (t .entry)) a e ⌝ }
-{
-    let mut i = a;
-    let mut sum: u64 = 0;
-    while i < e {
-        sum += wide(t[i]);
-        i += 1;
-    }
-    sum == 0
 }
 
 fn is_identifying(b: u8) -> bool
@@ -69,6 +50,7 @@ fn is_of(c: Class, b: u8) -> bool
         Class::Digits => scan::is_digit(b),
         Class::Alphanumeric => scan::is_alnum(b),
         Class::Identifying => is_identifying(b),
+        Class::Zero => b == 0,
     }
 }
 
@@ -85,4 +67,33 @@ pub fn are_of(t: &[u8], a: usize, e: usize, c: Class) -> bool
         i += 1;
     }
     true
+}
+
+// Whether n times eight bytes from a on are zero, looked at eight at a time.
+fn eights_zero(t: &[u8], a: usize, n: usize) -> bool
+    requires { ⌜ a + 8 * n ≤ length (now t) ⌝ }
+    ensures { λ r. ⌜ r ≡ zeros (now (t .entry)) a (a + 8 * n) ⌝ }
+{
+    let mut at = a;
+    let mut left = n;
+    while 0 < left {
+        if words::read8(t, at) != 0 {
+            return false;
+        }
+        at += 8;
+        left -= 1;
+    }
+    true
+}
+
+// Whether the bytes from a up to e are zero.
+pub fn are_zero(t: &[u8], a: usize, e: usize) -> bool
+    requires { ⌜ (a ≤ e) × (e ≤ length (now t)) ⌝ }
+    ensures { λ r. ⌜ r ≡ zeros (now (t .entry)) a e ⌝ }
+{
+    let n = (e - a) / 8;
+    if !eights_zero(t, a, n) {
+        return false;
+    }
+    are_of(t, a + 8 * n, e, Class::Zero)
 }

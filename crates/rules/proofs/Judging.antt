@@ -14,8 +14,8 @@ use Rattle.codes.specs.declared.Operation.the-variants.{Inserimento, Variazione
 use Rattle.order.specs.declared.Order.{Order}
 use Rattle.record.specs.declared.Record.{Record}
 use Rattle.record.specs.declared.Key.{Key}
-use Rattle.body.specs.Body.{findIn}
-use Rattle.body.proofs.Search.{found-below}
+use Rattle.slots.specs.Slots.{findIn}
+use Rattle.slots.proofs.Search.{found-below}
 use Rattle.rules.specs.declared.Situation.{Situation}
 use Rattle.rules.specs.declared.Situation.the-variants.{Absent, Annulled, Waiting, Executed}
 use Rattle.rules.specs.declared.Judged.{Judged}

@@ -16,9 +16,10 @@ use Rattle.order.specs.declared.Order.{Order}
 use Rattle.record.specs.declared.Record.{Record}
 use Rattle.record.specs.Slot.{keyOf}
 use Rattle.ranges.specs.declared.Found.the-variants.{At}
-use Rattle.body.specs.Body.{findIn, maxCents, lineThere, lineAbsent, lineOk, sum, rangesOk}
-use Rattle.body.proofs.Valid.{Valid, ok-bounds, ok-line, ok-sum, ok-amount, ok-tests, ok-from}
-use Rattle.body.proofs.Search.{found-below, found-key}
+use Rattle.valid.specs.Valid.{maxCents, lineThere, lineAbsent, lineOk, sum, rangesOk}
+use Rattle.slots.specs.Slots.{findIn}
+use Rattle.valid.proofs.Valid.{Valid, ok-bounds, ok-line, ok-sum, ok-amount, ok-tests, ok-from}
+use Rattle.slots.proofs.Search.{found-below, found-key}
 use Rattle.rules.specs.declared.Judged.the-variants.{Accepted}
 use Rattle.rules.specs.Rules.{linesOf, numberedFrom, sumOf, lineCode, amountsOf, waitingFor, waiting, anyExecuted, keyFor, nth, noRecord, judgeOrder, annulled, written}
 use Rattle.rules.proofs.Laws.{noLine}

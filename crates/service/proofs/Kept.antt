@@ -13,11 +13,13 @@ use Rattle.order.specs.declared.Order.{Order}
 use Rattle.record.specs.declared.Record.{Record}
 use Rattle.record.specs.Slot.{slotSize, recordAt, recordBytes, keyOf}
 use Rattle.record.proofs.Back.{agree-before, agree-after, length-record}
-use Rattle.body.specs.Body.{recordsAt, bodyOk, findIn}
+use Rattle.slots.specs.Slots.{recordsAt, findIn}
+use Rattle.body.specs.Body.{bodyOk}
 use Rattle.body.proofs.Puts.{records-set, keeps-ok, records-add, adds-ok}
-use Rattle.body.proofs.Search.{found-key}
-use Rattle.body.proofs.Slots.{length-records, valid-at}
-use Rattle.body.proofs.Valid.{Valid}
+use Rattle.slots.proofs.Search.{found-key}
+use Rattle.slots.proofs.Index.{length-records}
+use Rattle.body.proofs.Slots.{valid-at}
+use Rattle.valid.proofs.Valid.{Valid}
 use Rattle.rules.specs.declared.Judged.{Judged}
 use Rattle.rules.specs.declared.Judged.the-variants.{Accepted, Refused}
 use Rattle.rules.specs.Rules.{keyFor, nth, noRecord, judgeOrder, written}

@@ -17,11 +17,13 @@ use Rattle.order.specs.declared.Order.{Order}
 use Rattle.record.specs.declared.Record.{Record}
 use Rattle.record.specs.declared.Key.{Key}
 use Rattle.record.specs.Slot.{slotSize, recordAt, recordBytes}
-use Rattle.body.specs.Body.{usedAt, recordsAt, bodyOk, findIn}
-use Rattle.body.proofs.Laws.{used-le}
-use Rattle.body.proofs.Search.{found-below}
-use Rattle.body.proofs.Slots.{length-records, get-record, valid-at}
-use Rattle.body.proofs.Valid.{ok-bounds}
+use Rattle.slots.specs.Slots.{usedAt, recordsAt, findIn}
+use Rattle.body.specs.Body.{bodyOk}
+use Rattle.slots.proofs.Laws.{used-le}
+use Rattle.slots.proofs.Search.{found-below}
+use Rattle.slots.proofs.Index.{length-records, get-record}
+use Rattle.body.proofs.Slots.{valid-at}
+use Rattle.valid.proofs.Valid.{ok-bounds}
 use Rattle.rules.specs.declared.Situation.{Situation}
 use Rattle.rules.specs.declared.Judged.{Judged}
 use Rattle.rules.specs.declared.Judged.the-variants.{Accepted, Refused}

@@ -15,13 +15,17 @@ use Rattle.record.specs.declared.Record.{Record}
 use Rattle.record.specs.declared.Key.{Key}
 use Rattle.record.specs.Slot.{slotSize, eightAt, be8s, dateAt, recordAt, restZero, keyOf}
 use Rattle.record.proofs.Back.{same-record, agree-before, agree-after}
-use Rattle.body.specs.Body.{usedAt, slotsAt, recordsAt, recordOk, distinct, slotOk, bodyOk}
-use Rattle.body.proofs.Laws.{used-le, slot-rest}
+use Rattle.valid.specs.Valid.{recordOk}
+use Rattle.slots.specs.Slots.{usedAt, slotsAt, recordsAt, distinct}
+use Rattle.body.specs.Body.{slotOk, bodyOk}
+use Rattle.slots.proofs.Laws.{used-le}
+use Rattle.body.proofs.Laws.{slot-rest}
 use Rattle.body.proofs.Same.{slot-ok-agree}
-use Rattle.body.proofs.Search.{distinct-set}
-use Rattle.body.proofs.Slots.{length-slots, get-slot, slots-each, each-slots, used-is, used-kind, used-empty, parts, together, valid-at}
-use Rattle.body.proofs.Valid.{Valid, ok-used, ok-bounds}
-use Rattle.body.proofs.Zeros.{zeros-get, get-zeros}
+use Rattle.slots.proofs.Search.{distinct-set}
+use Rattle.slots.proofs.Index.{length-slots, get-slot, used-is, used-kind, used-empty}
+use Rattle.body.proofs.Slots.{slots-each, each-slots, parts, together, valid-at}
+use Rattle.valid.proofs.Valid.{Valid, ok-used, ok-bounds}
+use Rattle.ranges.proofs.Laws.{zeros-get, get-zeros}
 use Rattle.scan.proofs.Laws.{both}
 use Rattle.rules.specs.declared.Noticed.{Noticed}
 use Rattle.rules.specs.declared.Noticed.the-variants.{Moved, Unmoved}

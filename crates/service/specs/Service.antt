@@ -12,7 +12,7 @@ use Rattle.order.specs.declared.Order.{Order}
 use Rattle.record.specs.declared.Record.{Record}
 use Rattle.record.specs.declared.Key.{Key}
 use Rattle.record.specs.Slot.{slotSize, recordAt, recordBytes}
-use Rattle.body.specs.Body.{recordsAt}
+use Rattle.slots.specs.Slots.{recordsAt}
 use Rattle.rules.specs.declared.Judged.{Judged}
 use Rattle.rules.specs.declared.Judged.the-variants.{Accepted, Refused}
 use Rattle.rules.specs.declared.Noticed.{Noticed}

@@ -14,7 +14,8 @@ ghost use lib.Dec.{ltb};
 ghost use Rattle.words.specs.Numbers.{put};
 ghost use Rattle.codes.specs.declared.Operation.the-variants.{Annullo};
 ghost use Rattle.record.specs.Slot.{slotSize};
-ghost use Rattle.body.specs.Body.{recordsAt, bodyOk};
+ghost use Rattle.slots.specs.Slots.{recordsAt};
+ghost use Rattle.body.specs.Body.{bodyOk};
 ghost use Rattle.rules.specs.declared.Judged.the-variants.{Accepted, Refused};
 ghost use Rattle.rules.specs.Rules.{situationOf, placed, stepped, sostituzione, movedTo};
 ghost use Rattle.service.specs.Service.{foundIn, atFound, orderComes, orderLeaves, outcomeBytes, noticeComes, noticeLeaves};
@@ -35,7 +36,7 @@ fn first_empty(t: &[u8], base: usize, n: usize) -> Judged
     requires { ⌜ base + slotSize * n ≤ length (now t) ⌝ }
     ensures { λ r. ⌜ r ≡ cond (ltb (length (recordsAt (now (t .entry)) base n)) n) (Accepted (length (recordsAt (now (t .entry)) base n))) (Refused 15) ⌝ }
 {
-    let used = body::used_slots(t, base, n);
+    let used = slots::used_slots(t, base, n);
     if used < n {
         Judged::Accepted(used)
     } else {
@@ -126,7 +127,7 @@ pub fn judge_order(t: &[u8], base: usize, n: usize, year: u64, o: Order) -> Judg
         esercizio: year,
         number: o.number,
     };
-    stepped_at(t, base, n, o, body::find(t, base, n, key))
+    stepped_at(t, base, n, o, slots::find(t, base, n, key))
 }
 
 // Serves an order: its record is stored where it is accepted.
@@ -182,7 +183,7 @@ pub fn judge_notice(
     requires { ⌜ (base + slotSize * n ≤ length (now t)) × (bodyOk (now t) base n ≡ true) ⌝ }
     ensures { λ r. ⌜ r ≡ noticeComes (now (t .entry)) base n executing key line ⌝ }
 {
-    match body::find(t, base, n, key) {
+    match slots::find(t, base, n, key) {
         Found::At(i) => rules::notice_in(
             executing,
             line,

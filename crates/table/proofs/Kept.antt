@@ -13,7 +13,8 @@ use Rattle.words.specs.Numbers.{put}
 use Rattle.words.proofs.Laws.{Agree, same2, same4, length-put}
 use Rattle.record.specs.Slot.{slotSize}
 use Rattle.record.proofs.Back.{agree-before, agree-after}
-use Rattle.body.specs.Body.{recordsAt, bodyOk}
+use Rattle.slots.specs.Slots.{recordsAt}
+use Rattle.body.specs.Body.{bodyOk}
 use Rattle.body.proofs.Same.{records-agree, body-agree}
 use Rattle.entries.specs.Entry.{entrySize, requestSize, slotsOf, placeOf, codesFrom, findCode}
 use Rattle.entries.proofs.Same.{part-agree, zeros-agree, slots-agree, place-agree, form-agree, Rows, codes-rows}

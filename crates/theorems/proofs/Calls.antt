@@ -16,7 +16,8 @@ use Rattle.ranges.specs.declared.Found.{Found}
 use Rattle.ranges.specs.declared.Found.the-variants.{At, Nothing}
 use Rattle.record.specs.declared.Key.{Key}
 use Rattle.record.specs.declared.Record.{Record}
-use Rattle.body.specs.Body.{recordsAt, centsOf, findIn}
+use Rattle.slots.specs.Slots.{recordsAt, findIn}
+use Rattle.body.specs.Body.{centsOf}
 use Rattle.body.proofs.Same.{used-agree, records-agree}
 use Rattle.entries.specs.Entry.{requestSize, codesFrom, findCode}
 use Rattle.entries.proofs.Codes.{found-below}

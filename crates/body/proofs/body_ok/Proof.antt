@@ -5,7 +5,9 @@ use borrow.Author.Tests.{not-true, not-false}
 use Rattle.record.specs.Slot.{slotSize}
 use Rattle.ranges.specs.Ranges.{zeros}
 use Rattle.body.specs.Body.{slotsOk}
-use Rattle.body.proofs.Laws.{and-stop, and-go, used-le, body-tests}
+use Rattle.valid.proofs.Laws.{and-stop, and-go}
+use Rattle.slots.proofs.Laws.{used-le}
+use Rattle.body.proofs.Laws.{body-tests}
 use borrow.Author.Needs.{needs}
 use Rattle.body.proofs.body_ok.Statement.{statement}
 use Rattle.body.proofs.body_ok.Tie as tie

@@ -1,7 +1,8 @@
 use mathlib.Core.Path.{sym, ap, _∙_}
 use mathlib.Core.Bool.{true}
 use native.Mathlib.Omega.{arith}
-use Rattle.body.specs.Body.{recordOk, executed}
+use Rattle.valid.specs.Valid.{recordOk}
+use Rattle.body.specs.Body.{executed}
 use Rattle.body.proofs.Laws.{cents-other, cents-same}
 use borrow.Author.Needs.{needs}
 use Rattle.body.proofs.cents_at.Statement.{statement}

@@ -4,8 +4,10 @@ use mathlib.Core.Path.{_≡_, refl, sym, ap, _∙_}
 use mathlib.Core.Bool.{true}
 use native.Mathlib.Omega.{arith}
 use Rattle.record.specs.Slot.{slotSize}
-use Rattle.body.specs.Body.{recordsAt, usedAt, slotsOk, centsOf}
-use Rattle.body.proofs.Laws.{records-end, records-none, records-more, valid-first, cents-more, cents-nil, ok-slots}
+use Rattle.slots.specs.Slots.{recordsAt, usedAt}
+use Rattle.body.specs.Body.{slotsOk, centsOf}
+use Rattle.slots.proofs.Laws.{records-end, records-none, records-more}
+use Rattle.body.proofs.Laws.{valid-first, cents-more, cents-nil, ok-slots}
 use Rattle.body.proofs.cents_of.Statement.{statement}
 use Rattle.body.proofs.cents_of.Tie as tie
 

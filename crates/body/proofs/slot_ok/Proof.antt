@@ -1,8 +1,9 @@
 use mathlib.Core.Path.{sym, ap, _∙_}
 use borrow.Author.Tests.{not-true, not-false}
 use Rattle.record.specs.Slot.{restZero}
-use Rattle.body.specs.Body.{recordOk}
-use Rattle.body.proofs.Laws.{and-stop, and-go, slot-rest}
+use Rattle.valid.specs.Valid.{recordOk}
+use Rattle.valid.proofs.Laws.{and-stop, and-go}
+use Rattle.body.proofs.Laws.{slot-rest}
 use borrow.Author.Needs.{needs}
 use Rattle.body.proofs.slot_ok.Statement.{statement}
 use Rattle.body.proofs.slot_ok.Tie as tie

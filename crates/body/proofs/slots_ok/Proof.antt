@@ -5,7 +5,8 @@ use native.Mathlib.Omega.{arith}
 use borrow.Author.Tests.{not-true, not-false}
 use Rattle.record.specs.Slot.{slotSize}
 use Rattle.body.specs.Body.{slotOk, slotsOk}
-use Rattle.body.proofs.Laws.{and-stop, and-go, slots-ok-more, slots-ok-none}
+use Rattle.valid.proofs.Laws.{and-stop, and-go}
+use Rattle.body.proofs.Laws.{slots-ok-more, slots-ok-none}
 use Rattle.body.proofs.slots_ok.Statement.{statement}
 use Rattle.body.proofs.slots_ok.Tie as tie
 

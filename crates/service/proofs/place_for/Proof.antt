@@ -1,7 +1,7 @@
 use mathlib.Core.Path.{sym, ap, _∙_}
 use borrow.Author.Needs.{needs}
 use Rattle.codes.specs.declared.Operation.{Operation}
-use Rattle.body.specs.Body.{recordsAt}
+use Rattle.slots.specs.Slots.{recordsAt}
 use Rattle.rules.specs.Rules.{placed}
 use Rattle.service.proofs.Laws.{varied-found}
 use borrow.Author.Needs.{needs}

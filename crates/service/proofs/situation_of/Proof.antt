@@ -2,7 +2,7 @@ use mathlib.Core.Path.{sym, ap, _∙_}
 use native.Mathlib.Omega.{arith}
 use borrow.Author.Needs.{needs}
 use Rattle.rules.specs.Rules.{situationOf}
-use Rattle.body.specs.Body.{recordsAt}
+use Rattle.slots.specs.Slots.{recordsAt}
 use Rattle.service.proofs.Laws.{found-held, situation-at}
 use borrow.Author.Needs.{needs}
 use Rattle.service.proofs.situation_of.Statement.{statement}

@@ -1,6 +1,6 @@
 use mathlib.Core.Path.{sym, _∙_}
 use borrow.Author.Needs.{needs}
-use Rattle.body.specs.Body.{recordsAt}
+use Rattle.slots.specs.Slots.{recordsAt}
 use Rattle.service.proofs.Laws.{step-stops, step-goes}
 use borrow.Author.Needs.{needs}
 use Rattle.service.proofs.stepped_at.Statement.{statement}

@@ -1,0 +1,55 @@
+-- Laws of tests one after the other, and of a record's lines, one at a time.
+use Prim.Native.Nat.{ℕ, zero, suc, _+_, _-_, _≤_, _<_}
+use mathlib.Core.Bool.{Bool, true, false, _&&_}
+use mathlib.Core.List.{List}
+use mathlib.Core.Path.{_≡_, refl, sym, ap, _∙_}
+use native.Mathlib.Omega.{arith}
+use native.Mathlib.Numerals.{add-one}
+use lib.ListN.{length, getD, drop, drop-of-length-le}
+use lib.Seq.{drop-cons}
+use lib.Dec.{eqb}
+use borrow.Author.Tests.{eq-eqb, ne-eqb, eqb-true, eqb-false}
+use Rattle.valid.specs.Valid.{allFrom, sum}
+
+-- TESTS OF ONE AFTER THE OTHER
+
+pub and-stop : (a b : Bool) {x : Bool} → x ≡ (a && b) → a ≡ false → x ≡ false
+and-stop a b e f = e ∙ ap (λ (y : Bool). y && b) f
+
+pub and-go : (a b : Bool) {x : Bool} → x ≡ (a && b) → a ≡ true → x ≡ b
+and-go a b e f = e ∙ ap (λ (y : Bool). y && b) f
+
+pub and-eq : {a b c d x : Bool} → x ≡ (a && b) → a ≡ c → b ≡ d → x ≡ (c && d)
+and-eq e p q = e ∙ (λ i. p i && q i)
+
+-- A VALID RECORD
+
+pub all-more : (f : ℕ → Bool) (k n m : ℕ) → n ≡ suc m → allFrom f k n ≡ (f k && allFrom f (k + 1) m)
+unfolding allFrom
+all-more f k n m q = rw q
+
+pub all-done : (f : ℕ → Bool) (k n : ℕ) → n ≡ 0 → allFrom f k n ≡ true
+unfolding allFrom
+all-done f k n q = rw q
+
+pub same-test : (a b c d : ℕ) → (a ≡ b → c ≡ d) → (c ≡ d → a ≡ b) → eqb a b ≡ eqb c d
+same-test a b c d f g = split (eqb a b) refl where
+  split : (x : Bool) → eqb a b ≡ x → eqb a b ≡ eqb c d
+  split true e = e ∙ sym (eq-eqb c d (f (eqb-true a b e)))
+  split false e = e ∙ sym (ne-eqb c d (λ q. eqb-false a b e (g q)))
+
+-- a sum, compared with what is left of the total
+module _ (a : List ℕ) (i rest : ℕ) where
+  pub sum-more : i < length a → sum (drop i a) ≡ getD a i 0 + sum (drop (i + 1) a)
+  unfolding sum
+  sum-more h = rw (add-one, drop-cons a i 0)
+
+  pub sum-over : i < length a → rest < getD a i 0 → eqb (sum (drop i a)) rest ≡ false
+  sum-over h p = ne-eqb (sum (drop i a)) rest (λ q. omega (arith, sum-more h))
+
+  pub sum-go : i < length a → getD a i 0 ≤ rest → eqb (sum (drop i a)) rest ≡ eqb (sum (drop (i + 1) a)) (rest - getD a i 0)
+  sum-go h p = same-test (sum (drop i a)) rest (sum (drop (i + 1) a)) (rest - getD a i 0) (λ q. omega (arith, sum-more h)) (λ q. omega (arith, sum-more h))
+
+  pub sum-done : length a ≤ i → eqb (sum (drop i a)) rest ≡ eqb 0 rest
+  unfolding sum
+  sum-done h = rw (drop-of-length-le a h)

@@ -1,0 +1,47 @@
+-- A valid record (document 01, "The table").
+use Prim.Native.Nat.{ℕ, zero, suc, _+_}
+use mathlib.Core.Bool.{Bool, true, _&&_, cond}
+use mathlib.Core.List.{List, [], _∷_}
+use lib.ListN.{getD}
+use lib.Dec.{eqb, leb, ltb}
+use Rattle.scan.specs.Bytes.{between}
+use Rattle.calendar.specs.Calendar.{isDate}
+use Rattle.record.specs.declared.Record.{Record}
+
+-- the greatest amount, of 1 to 9 digits, a point and two digits
+abbrev pub maxCents : ℕ
+maxCents = 99999999999
+
+-- a line that is there is waiting or executed; "an annulled order has every line waiting"
+unfoldable pub lineThere : Bool → ℕ → ℕ → Bool
+lineThere annulled state amount = between 1 (cond annulled 1 2) state && leb amount maxCents
+
+-- "lines that aren't there have state and amount zero"
+unfoldable pub lineAbsent : ℕ → ℕ → Bool
+lineAbsent state amount = eqb state 0 && eqb amount 0
+
+-- the record's line k, counted from 0
+unfoldable pub lineOk : Record → ℕ → Bool
+lineOk r k =
+    cond (ltb k (r .lines))
+    (lineThere (eqb (r .state) 2) (getD (r .states) k 0) (getD (r .amounts) k 0))
+    (lineAbsent (getD (r .states) k 0) (getD (r .amounts) k 0))
+
+-- f holds of the m numbers from k on
+unfoldable pub allFrom : (ℕ → Bool) → ℕ → ℕ → Bool
+allFrom f k zero = true
+allFrom f k (suc m) = f k && allFrom f (k + 1) m
+
+unfoldable pub sum : List ℕ → ℕ
+sum [] = 0
+sum (a ∷ rest) = a + sum rest
+
+-- "fields lie in the ranges above"
+unfoldable pub rangesOk : Record → Bool
+rangesOk r =
+    between 1 2 (r .kind) && (between 1 2 (r .state) && (between 1 8 (r .lines) && (between 2000 2099 (r .esercizio)
+    && (between 1 9999999 (r .number) && (isDate (r .date) && leb (r .total) maxCents)))))
+
+-- a record that is valid by itself: ranges, its eight lines, and "line amounts sum to the total"
+unfoldable pub recordOk : Record → Bool
+recordOk r = rangesOk r && (allFrom (lineOk r) 0 8 && eqb (sum (r .amounts)) (r .total))
