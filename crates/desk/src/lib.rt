@@ -143,7 +143,21 @@ fn for_bank(t: &mut [u8], f: &[u8], at: usize, out: &mut [u8], past: &[u16]) -> 
     for_body(t, f, from, out, past)
 }
 
-// Takes a flow. Every byte of table and outcomes is determined, and none changes where the flow is refused.
+// Reads a flow that is not too long, noting in `past` where its elements end, and serves it.
+fn take_noted(t: &mut [u8], f: &[u8], out: &mut [u8], past: &mut [u16]) -> FlowAnswer
+    requires { ⌜ (tableOk (now t) ≡ true) × (length (now f) ≤ maxFlow) × Noted (now f) (now past) ⌝ }
+    ensures { λ r. ⌜ (r ≡ flowAnswer (now (t .entry)) (flowReads (now (t .entry)) (now (f .entry)) (length (now (out .entry))))) × (now (t .exit) ≡ flowTable (now (t .entry)) (flowReads (now (t .entry)) (now (f .entry)) (length (now (out .entry))))) × (now (out .exit) ≡ flowOutcomes (now (t .entry)) (now (out .entry)) (flowReads (now (t .entry)) (now (f .entry)) (length (now (out .entry))))) ⌝ }
+{
+    match flow::verdict_of(f, past) {
+        Verdict::MarkupBreaks(_) => FlowAnswer::BrokenMarkup,
+        Verdict::StructureBreaks => FlowAnswer::BrokenStructure,
+        Verdict::FieldBreaks(p) => FlowAnswer::BrokenField(p),
+        Verdict::Stands(at) => for_bank(t, f, at, out, past),
+    }
+}
+
+// Takes a flow. Every byte of table and outcomes is determined, and none changes where the flow is refused. A short flow needs few notes, and
+// their zeros are a good part of its time.
 pub fn take_flow(t: &mut [u8], f: &[u8], out: &mut [u8]) -> FlowAnswer
     ensures { λ r. ⌜ (r ≡ flowAnswer (now (t .entry)) (flowReads (now (t .entry)) (now (f .entry)) (length (now (out .entry))))) × (now (t .exit) ≡ flowTable (now (t .entry)) (flowReads (now (t .entry)) (now (f .entry)) (length (now (out .entry))))) × (now (out .exit) ≡ flowOutcomes (now (t .entry)) (now (out .entry)) (flowReads (now (t .entry)) (now (f .entry)) (length (now (out .entry))))) ⌝ }
 {
@@ -153,11 +167,10 @@ pub fn take_flow(t: &mut [u8], f: &[u8], out: &mut [u8]) -> FlowAnswer
     if 32768 < f.len() {
         return FlowAnswer::TooLong;
     }
-    let mut past = [0u16; 32769];
-    match flow::verdict_of(f, &mut past) {
-        Verdict::MarkupBreaks(_) => FlowAnswer::BrokenMarkup,
-        Verdict::StructureBreaks => FlowAnswer::BrokenStructure,
-        Verdict::FieldBreaks(p) => FlowAnswer::BrokenField(p),
-        Verdict::Stands(at) => for_bank(t, f, at, out, &past),
+    if f.len() < 4096 {
+        let mut few = [0u16; 4096];
+        return take_noted(t, f, out, &mut few);
     }
+    let mut past = [0u16; 32769];
+    take_noted(t, f, out, &mut past)
 }

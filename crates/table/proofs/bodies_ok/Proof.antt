@@ -37,7 +37,7 @@ body-ok-requires c κs =
     let t = c .before .before .before .before .before .args .t .now in
     let p = c .before .place-of .ensures .0 in
     let s = c .slots-of .ensures .0 in
-    (omega (arith, lay-room t (l .at) (l .left) (placeOf t (l .at)) (omega arith) (l .inv .1 (omega arith))), omega arith)
+    omega (arith, lay-room t (l .at) (l .left) (placeOf t (l .at)) (omega arith) (l .inv .1 (omega arith)))
 
 returns : tie.Need-returns Inv-loop μ-loop
 returns c =
