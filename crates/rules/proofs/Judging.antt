@@ -21,7 +21,8 @@ use Rattle.rules.specs.declared.Situation.the-variants.{Absent, Annulled
 use Rattle.rules.specs.declared.Judged.{Judged}
 use Rattle.rules.specs.declared.Judged.the-variants.{Accepted, Refused}
 use Rattle.rules.specs.declared.Noticed.the-variants.{Moved, Unmoved}
-use Rattle.rules.specs.Rules.{linesOf, lineCode, anyExecuted, situationIn, situationOf, stepOf, sostituzione, keyFor, nth, noRecord, placed, unless, stepped, judgeOrder, sameOrder, lineMoves, moveOr, noticeIn, noticeAt, judgeNotice}
+use Rattle.lines.specs.Lines.{linesOf, lineCode}
+use Rattle.rules.specs.Rules.{anyExecuted, situationIn, situationOf, stepOf, sostituzione, keyFor, nth, noRecord, placed, unless, stepped, judgeOrder, sameOrder, lineMoves, moveOr, noticeIn, noticeAt, judgeNotice}
 
 -- two constructors are never equal
 abbrev clash : Type 0

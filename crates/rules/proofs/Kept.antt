@@ -21,8 +21,9 @@ use Rattle.slots.specs.Slots.{findIn}
 use Rattle.valid.proofs.Valid.{Valid, ok-bounds, ok-line, ok-sum, ok-amount, ok-tests, ok-from}
 use Rattle.slots.proofs.Search.{found-below, found-key}
 use Rattle.rules.specs.declared.Judged.the-variants.{Accepted}
-use Rattle.rules.specs.Rules.{linesOf, numberedFrom, sumOf, lineCode, amountsOf, waitingFor, waiting, anyExecuted, keyFor, nth, noRecord, judgeOrder, annulled, written}
-use Rattle.rules.proofs.Laws.{noLine}
+use Rattle.lines.specs.Lines.{linesOf, numberedFrom, sumOf, lineCode}
+use Rattle.lines.proofs.Laws.{noLine}
+use Rattle.rules.specs.Rules.{amountsOf, waitingFor, waiting, anyExecuted, keyFor, nth, noRecord, judgeOrder, annulled, written}
 use Rattle.rules.proofs.Judging.{Stands, inserting, varying, annulling, accepted, accepted-lines}
 
 within : (lo hi b : ℕ) → (lo ≤ b) × (b ≤ hi) → between lo hi b ≡ true

@@ -1,15 +1,14 @@
 -- Laws of the rules, one way out of the code at a time: what the proofs of this crate cite.
 use Prim.Native.Nat.{ℕ, zero, suc, _+_, _-_, _≤_, _<_}
-use mathlib.Core.Bool.{Bool, true, false, _&&_, cond, and-false}
+use mathlib.Core.Bool.{Bool, true, false, and-false}
 use mathlib.Core.List.{List, [], _∷_, map}
 use mathlib.Core.Path.{_≡_, refl, sym, ap, _∙_}
 use native.Mathlib.Omega.{arith}
 use native.Mathlib.Numerals.{add-one}
-use lib.ListN.{length, take, drop, getD, drop-of-length-le, length-map}
-use lib.Seq.{drop-cons, getD-take, length-take-le}
-use lib.Dec.{eqb}
+use lib.ListN.{length, drop, getD, drop-of-length-le, length-map}
+use lib.Seq.{drop-cons}
 use borrow.Author.Tests.{eq-eqb, ne-eqb, le-leb, lt-leb}
-use Rattle.valid.proofs.Laws.{same-test}
+use Rattle.lines.proofs.Laws.{noLine}
 use Rattle.order.specs.declared.Line.{Line}
 use Rattle.order.specs.declared.Order.{Order}
 use Rattle.record.specs.declared.Record.{Record}
@@ -18,17 +17,13 @@ use Rattle.codes.specs.declared.Operation.the-variants.{Inserimento, Variazione
 use Rattle.rules.specs.declared.Situation.{Situation}
 use Rattle.rules.specs.declared.Situation.the-variants.{Absent, Annulled, Waiting, Executed}
 use Rattle.rules.specs.declared.Noticed.the-variants.{Moved, Unmoved}
-use Rattle.rules.specs.Rules.{numberedFrom, sumOf, lineCode, amountsOf, anyExecuted, situationIn, columnOf, rowOf, stepOf, sameList, sameOrder, lineMoves, moveOr, noticeIn}
+use Rattle.rules.specs.Rules.{amountsOf, anyExecuted, situationIn, columnOf, rowOf, stepOf, sameList, sameOrder, lineMoves, moveOr, noticeIn}
 
 -- A LIST OF EIGHT
 
 -- what is known of an array of structs in a struct is known of it field by field
 pub unmapped : {A B : Type 0} (f : A → B) (l : List A) (n : ℕ) → length (map f l) ≡ n → length l ≡ n
 unmapped f l n e = sym (length-map l f) ∙ e
-
--- what stands past the end of an array of lines
-abbrev pub noLine : Line
-noLine = record { progressivo = 0; amount = 0 }
 
 -- front by front
 front : {A : Type 0} (e : List A) (i : ℕ) (d : A) {x : List A} → i < length e → drop (suc i) e ≡ x → drop i e ≡ getD e i d ∷ x
@@ -46,57 +41,6 @@ pub amounts-eight : (e : List Line) → length e ≡ 8
     ∷ getD e 4 noLine .amount ∷ getD e 5 noLine .amount ∷ getD e 6 noLine .amount ∷ getD e 7 noLine .amount ∷ []) ≡ amountsOf e
 unfolding amountsOf
 amounts-eight e h = sym (ap amountsOf (eight e noLine h))
-
--- THE LINES
-
--- the answer that the lines from i on determine: what is left of the total, and whether the lines before fitted into it
-abbrev pub codeFrom : Bool → ℕ → ℕ → List Line → ℕ
-codeFrom sums rest i ls = cond (numberedFrom (i + 1) ls) (cond (sums && eqb (sumOf ls) rest) 0 13) 12
-
-pub code-starts : (ls : List Line) (total : ℕ) → codeFrom true total 0 ls ≡ lineCode ls total
-unfolding lineCode
-code-starts ls total = refl
-
-module _ (sums : Bool) (rest i : ℕ) (each : List Line) (n : ℕ) (fits : n ≤ length each) where
-  abbrev line : Line
-  line = getD each i noLine
-
-  abbrev from : List Line
-  from = drop i (take n each)
-
-  abbrev next : List Line
-  next = drop (i + 1) (take n each)
-
-  line-next : i < n → from ≡ line ∷ next
-  line-next h = rw (add-one, ← getD-take n each i noLine h) (drop-cons (take n each) i noLine (omega (arith, length-take-le n each fits)))
-
-  pub code-misnumbered : i < n → (line .progressivo ≡ i + 1 → ⊥) → codeFrom sums rest i from ≡ 12
-  unfolding numberedFrom
-  code-misnumbered h e = rw (line-next h, ne-eqb _ _ e)
-
-  module _ {sums′ : Bool} {rest′ : ℕ} (h : i < n) (e : line .progressivo ≡ i + 1) where
-    pub code-fits : line .amount ≤ rest → rest′ ≡ rest - line .amount → sums′ ≡ sums → codeFrom sums′ rest′ (i + 1) next ≡ codeFrom sums rest i from
-    unfolding numberedFrom sumOf
-    code-fits l r s =
-        rw (line-next h, eq-eqb _ _ e, r, s, same-test (line .amount + sumOf next) rest (sumOf next) (rest - line .amount) (λ q. omega arith) (λ q. omega arith))
-
-    pub code-over : rest < line .amount → rest′ ≡ 0 → sums′ ≡ false → codeFrom sums′ rest′ (i + 1) next ≡ codeFrom sums rest i from
-    unfolding numberedFrom sumOf
-    code-over l r s = rw (line-next h, eq-eqb _ _ e, s, ne-eqb (line .amount + sumOf next) rest (λ q. omega arith), and-false)
-
-  code-ends : n ≤ i → codeFrom sums rest i from ≡ cond (sums && eqb 0 rest) 0 13
-  unfolding numberedFrom sumOf
-  code-ends h = let l : length (take n each) ≤ i = omega (arith, length-take-le n each fits) in rw (drop-of-length-le (take n each) l)
-
-  module _ (h : n ≤ i) where
-    pub ends-over : sums ≡ false → codeFrom sums rest i from ≡ 13
-    ends-over s = code-ends h ∙ rw s
-
-    pub ends-exact : sums ≡ true → rest ≡ 0 → codeFrom sums rest i from ≡ 0
-    ends-exact s e = code-ends h ∙ rw (s, e)
-
-    pub ends-short : sums ≡ true → (rest ≡ 0 → ⊥) → codeFrom sums rest i from ≡ 13
-    ends-short s e = code-ends h ∙ rw (s, ne-eqb 0 rest (λ q. e (sym q)))
 
 -- A LIST, FROM i ON
 

@@ -1,8 +1,8 @@
 -- The rules (document 01, "Answers"): what an order or a notice comes to, over one body's records.
-use Prim.Native.Nat.{ℕ, zero, suc, _+_, _-_}
+use Prim.Native.Nat.{ℕ, zero, suc, _-_}
 use mathlib.Core.Bool.{Bool, true, false, _&&_, _||_, not, cond}
 use mathlib.Core.List.{List, [], _∷_, _++_}
-use lib.ListN.{length, getD, take, replicate}
+use lib.ListN.{length, getD, replicate}
 use lib.Dec.{eqb, leb, ltb}
 use Rattle.ranges.specs.declared.Found.{Found}
 use Rattle.ranges.specs.declared.Found.the-variants.{At, Nothing}
@@ -10,11 +10,11 @@ use Rattle.calendar.specs.declared.Date.{Date}
 use Rattle.codes.specs.declared.Operation.{Operation}
 use Rattle.codes.specs.declared.Operation.the-variants.{Inserimento, Variazione, Annullo, Sostituzione}
 use Rattle.order.specs.declared.Line.{Line}
-use Rattle.order.specs.declared.Lines.{Lines}
 use Rattle.order.specs.declared.Order.{Order}
 use Rattle.record.specs.declared.Record.{Record}
 use Rattle.record.specs.declared.Key.{Key}
 use Rattle.slots.specs.Slots.{findIn}
+use Rattle.lines.specs.Lines.{linesOf, lineCode}
 use Rattle.rules.specs.declared.Situation.{Situation}
 use Rattle.rules.specs.declared.Situation.the-variants.{Absent, Annulled, Waiting, Executed}
 use Rattle.rules.specs.declared.Judged.{Judged}
@@ -23,23 +23,6 @@ use Rattle.rules.specs.declared.Noticed.{Noticed}
 use Rattle.rules.specs.declared.Noticed.the-variants.{Moved, Unmoved}
 
 -- THE LINES of an order
-
--- one order's lines, as many as it has
-abbrev pub linesOf : Lines → List Line
-linesOf ls = take (ls .count) (ls .each)
-
--- numbered n, n + 1, n + 2 and so on
-unfoldable pub numberedFrom : ℕ → List Line → Bool
-numberedFrom n [] = true
-numberedFrom n (l ∷ ls) = eqb (l .progressivo) n && numberedFrom (n + 1) ls
-
-unfoldable pub sumOf : List Line → ℕ
-sumOf [] = 0
-sumOf (l ∷ ls) = l .amount + sumOf ls
-
--- "12 lines not numbered 1, 2, 3 and so on; 13 line amounts don't sum to the total"; 0 where both hold
-unfoldable pub lineCode : List Line → ℕ → ℕ
-lineCode ls total = cond (numberedFrom 1 ls) (cond (eqb (sumOf ls) total) 0 13) 12
 
 -- eight amounts
 unfoldable pub amountsOf : List Line → List ℕ

@@ -1,6 +1,5 @@
-// The rules for one order or one notice, over values: lines, the step table, what is written. Nothing here touches a table.
+// The rules for one order or one notice, over values: the step table, what is written. Nothing here touches a table.
 use codes::Operation;
-use order::Line;
 use order::Lines;
 use order::Order;
 use record::Record;
@@ -8,7 +7,7 @@ ghost use mathlib.Core.Path.{_≡_};
 ghost use mathlib.Core.Bool.{_&&_};
 ghost use Prim.Native.Nat.{ℕ, _+_, _-_, _≤_, _<_};
 ghost use lib.ListN.{length, getD};
-ghost use Rattle.rules.specs.Rules.{linesOf, lineCode, amountsOf, waitingFor, waiting, anyExecuted, situationIn, columnOf, rowOf, stepOf, sameList, sameOrder, inserted, varied, annulled, written, lineMoves, noticeIn};
+ghost use Rattle.rules.specs.Rules.{amountsOf, waitingFor, waiting, anyExecuted, situationIn, columnOf, rowOf, stepOf, sameList, sameOrder, inserted, varied, annulled, written, lineMoves, noticeIn};
 
 // Where the step table's columns stand.
 pub enum Situation {
@@ -32,35 +31,6 @@ pub enum Noticed {
 
 // Document 01's step table, by operation and situation.
 const STEPS: [[u8; 4]; 3] = [[0, 14, 14, 14], [16, 17, 0, 18], [16, 17, 0, 18]];
-
-// 12 where the lines aren't numbered 1, 2, 3 and so on, 13 where they don't sum to the total, else 0. The total is counted down, so no sum can wrap.
-pub fn line_check(ls: Lines, total: u64) -> u8
-    requires { ⌜ ls .count ≤ 8 ⌝ }
-    ensures { λ r. ⌜ r ≡ lineCode (linesOf ls) total ⌝ }
-{
-    let each = ls.each;
-    let n = ls.count;
-    let mut i: usize = 0;
-    let mut rest = total;
-    let mut sums = true;
-    while i < n {
-        let l = each[i];
-        if l.progressivo != (i as u64) + 1 {
-            return 12;
-        }
-        if rest < l.amount {
-            sums = false;
-            rest = 0;
-        } else {
-            rest -= l.amount;
-        }
-        i += 1;
-    }
-    if !sums {
-        return 13;
-    }
-    if rest == 0 { 0 } else { 13 }
-}
 
 pub fn amounts_of(ls: Lines) -> [u64; 8]
     ensures { λ r. ⌜ r ≡ amountsOf (ls .each) ⌝ }

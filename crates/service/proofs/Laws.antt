@@ -28,7 +28,8 @@ use Rattle.rules.specs.declared.Situation.{Situation}
 use Rattle.rules.specs.declared.Judged.{Judged}
 use Rattle.rules.specs.declared.Judged.the-variants.{Accepted, Refused}
 use Rattle.rules.specs.declared.Noticed.the-variants.{Moved, Unmoved}
-use Rattle.rules.specs.Rules.{linesOf, lineCode, situationIn, situationOf, stepOf, sostituzione, keyFor, nth, noRecord, sameOrder, placed, unless, stepped, judgeOrder, written, movedTo, noticeIn, noticeAt, judgeNotice}
+use Rattle.lines.specs.Lines.{linesOf, lineCode}
+use Rattle.rules.specs.Rules.{situationIn, situationOf, stepOf, sostituzione, keyFor, nth, noRecord, sameOrder, placed, unless, stepped, judgeOrder, written, movedTo, noticeIn, noticeAt, judgeNotice}
 use Rattle.rules.proofs.Judging.{accepted-slot, moved}
 use Rattle.service.specs.Service.{foundIn, atFound, orderComes, orderStored, orderLeaves, outcomeBytes, noticeComes, noticeStored, noticeLeaves, statePlace}
 

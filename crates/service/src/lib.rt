@@ -118,7 +118,7 @@ pub fn judge_order(t: &[u8], base: usize, n: usize, year: u64, o: Order) -> Judg
         return Judged::Refused(first);
     }
     let ls = o.lines;
-    let code = rules::line_check(ls, o.total);
+    let code = lines::check_lines(ls, o.total);
     if code != 0 {
         return Judged::Refused(code);
     }

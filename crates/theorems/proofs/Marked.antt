@@ -14,7 +14,8 @@ use Rattle.body.specs.Body.{slotOk, slotsOk, bodyOk}
 use Rattle.entries.specs.Entry.{codeAt, slotsOf, placeOf, formOk, codesFrom, findCode, distinctCodes}
 use Rattle.table.specs.Table.{headOk, entryOk, layoutOk, bodiesOk, tableOk}
 use Rattle.opening.specs.Opening.{asked, slotsAsked, needed, headBytes as headAsked, entryBytes, entriesBytes, opened}
-use Rattle.rules.specs.Rules.{numberedFrom, sumOf, lineCode, amountsOf, anyExecuted, situationIn, situationOf, placed, stepped, judgeOrder, written, lineMoves, noticeIn, noticeAt, judgeNotice}
+use Rattle.lines.specs.Lines.{numberedFrom, sumOf, lineCode}
+use Rattle.rules.specs.Rules.{amountsOf, anyExecuted, situationIn, situationOf, placed, stepped, judgeOrder, written, lineMoves, noticeIn, noticeAt, judgeNotice}
 use Rattle.service.specs.Service.{orderComes, orderStored, outcomeBytes, allOutcomes, noticeComes}
 use Rattle.notices.specs.Notices.{addressed, noticeBy}
 use Rattle.theorems.specs.Marked.{all, marked}

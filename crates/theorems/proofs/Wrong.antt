@@ -23,7 +23,8 @@ use Rattle.opening.specs.Opening.{asked, slotsAsked, needed, headBytes as headA
 use Rattle.order.specs.declared.Order.{Order}
 use Rattle.rules.specs.declared.Judged.{Judged}
 use Rattle.rules.specs.declared.Judged.the-variants.{Refused}
-use Rattle.rules.specs.Rules.{codeOf, numberedFrom, sumOf, lineCode, amountsOf, anyExecuted, situationIn, situationOf, placed, stepped, judgeOrder, written}
+use Rattle.lines.specs.Lines.{numberedFrom, sumOf, lineCode}
+use Rattle.rules.specs.Rules.{codeOf, amountsOf, anyExecuted, situationIn, situationOf, placed, stepped, judgeOrder, written}
 use Rattle.service.specs.Service.{orderComes, orderStored, orderLeaves}
 use Rattle.notices.specs.declared.TotalsAnswer.{TotalsAnswer}
 use Rattle.notices.specs.Notices.{addressed, bodyTotals, totalsOf}
