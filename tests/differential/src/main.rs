@@ -19,6 +19,7 @@ Without arguments: the sweep, then 40000 random cases.
   --seed N       the seed of the random cases (default 1)
   --from N       the first case (default 0); --from N --count 1 makes one case again
   --sweep        only the sweep: every byte of a flow, a table and a request set to every value, every character, days and seconds
+  --stride N     the sweep's every N-th case, then the random cases (with --sweep: none of them)
   --long         the sweep, then 1000000 random cases
   --fuzz         everything changed in many places, and random bytes; with --seconds N (default 30) or --count N
   --engine E     library (default with the feature native), reference, or a fault: an engine that is wrong on purpose
@@ -36,6 +37,7 @@ struct Run {
     from: u64,
     count: Option<usize>,
     seconds: Option<u64>,
+    stride: usize,
     show: bool,
     engine: Option<String>,
 }
@@ -73,7 +75,7 @@ fn main() -> ExitCode {
 }
 
 fn arguments(mut given: impl Iterator<Item = String>) -> Result<Option<Run>, String> {
-    let mut run = Run { cases: Cases::Random, seed: 1, from: 0, count: None, seconds: None, show: false, engine: None };
+    let mut run = Run { cases: Cases::Random, seed: 1, from: 0, count: None, seconds: None, stride: 1, show: false, engine: None };
     while let Some(argument) = given.next() {
         let mut number = || -> Result<u64, String> {
             let value = given.next().ok_or(format!("{argument} needs a number"))?;
@@ -85,6 +87,15 @@ fn arguments(mut given: impl Iterator<Item = String>) -> Result<Option<Run>, Str
             "--seed" => run.seed = number()?,
             "--from" => run.from = number()?,
             "--sweep" => run.cases = Cases::Sweep,
+            "--stride" => {
+                run.stride = number()? as usize;
+                if run.stride == 0 {
+                    return Err("--stride needs a number above 0".into());
+                }
+                if run.cases == Cases::Random {
+                    run.cases = Cases::SweepAndRandom;
+                }
+            }
             "--fuzz" => run.cases = Cases::Fuzz,
             "--long" => (run.cases, run.count) = (Cases::SweepAndRandom, Some(1_000_000)),
             "--engine" => run.engine = Some(given.next().ok_or("--engine needs a name")?),
@@ -95,9 +106,9 @@ fn arguments(mut given: impl Iterator<Item = String>) -> Result<Option<Run>, Str
     }
     if run.count.is_none() && run.seconds.is_none() {
         match run.cases {
-            Cases::Random => (run.cases, run.count) = (Cases::SweepAndRandom, Some(40_000)),
+            Cases::Random | Cases::SweepAndRandom => (run.cases, run.count) = (Cases::SweepAndRandom, Some(40_000)),
             Cases::Fuzz => run.seconds = Some(30),
-            Cases::Sweep | Cases::SweepAndRandom => {}
+            Cases::Sweep => {}
         }
     }
     Ok(Some(run))
@@ -140,7 +151,7 @@ fn differences(yard: &mut Yard, tried: &dyn Engine, theme: Option<Theme>, case: 
 
 /// The cases of a run, each with its number and its theme; those of the sweep have none.
 fn cases_of(run: &Run) -> Box<dyn Iterator<Item = (u64, Option<Theme>, Case)>> {
-    let (seed, from) = (run.seed, run.from);
+    let (seed, from, stride) = (run.seed, run.from, run.stride);
     let count = run.count.unwrap_or(usize::MAX);
     let sweep = || (0..).zip(sweep::cases()).map(|(index, case)| (index, None, case));
     let random = move |theme: fn(&mut Random) -> Theme| {
@@ -151,8 +162,8 @@ fn cases_of(run: &Run) -> Box<dyn Iterator<Item = (u64, Option<Theme>, Case)>> {
         })
     };
     match run.cases {
-        Cases::SweepAndRandom => Box::new(sweep().chain(random(cases::theme))),
-        Cases::Sweep => Box::new(sweep().skip(from as usize).take(count)),
+        Cases::SweepAndRandom => Box::new(sweep().step_by(stride).chain(random(cases::theme))),
+        Cases::Sweep => Box::new(sweep().skip(from as usize).step_by(stride).take(count)),
         Cases::Random => Box::new(random(cases::theme)),
         Cases::Fuzz => Box::new(random(|_| Theme::Fuzz)),
     }

@@ -1,0 +1,159 @@
+/* SPDX-License-Identifier: EUPL-1.2 */
+
+/*
+ * The far side of the bridge: the functions of hondivole.h for programs of this machine. Each call goes to the program of near.c, which
+ * has the library in it; SERVE is the command that runs it under the emulator. Where that program is gone there is no answer to give,
+ * and the caller's program is stopped.
+ */
+
+#define _POSIX_C_SOURCE 200809L
+
+#include <pthread.h>
+#include <signal.h>
+#include <spawn.h>
+#include <stdio.h>
+#include <stdlib.h>
+#include <string.h>
+#include <sys/socket.h>
+#include <sys/wait.h>
+#include <unistd.h>
+
+#include "hondivole.h"
+#include "wire.h"
+
+extern char **environ;
+
+/* One call at a time, whichever thread makes it. */
+static pthread_mutex_t lock = PTHREAD_MUTEX_INITIALIZER;
+static pid_t near;
+static int wire = -1;
+static uint8_t message[sizeof(struct call) + BUFFERS * LENT_MOST];
+
+/* The outcomes of calls that have none. */
+static uint8_t none[1];
+
+/* abort and not exit: the differential test then says which case it was. */
+static _Noreturn void stop(const char *name, const char *what)
+{
+    fprintf(stderr, "bridge: %s %s\n", name, what);
+    abort();
+}
+
+static _Noreturn void gone(const char *name)
+{
+    int status = 0;
+    close(wire);
+    waitpid(near, &status, 0);
+    int by = WIFSIGNALED(status) ? WTERMSIG(status) : 0;
+    if (by == SIGSEGV || by == SIGBUS)
+        stop(name, "touched memory that was not lent to it");
+    if (by == SIGALRM)
+        stop(name, "did not end");
+    stop(name, "has no answer: the program with the library is gone");
+}
+
+static void start(const char *name)
+{
+    int ends[2];
+    char *command[] = {SERVE, NULL};
+    posix_spawn_file_actions_t actions;
+    /* A socket and not pipes: it can be written without a signal when nobody reads it any more. */
+    if (socketpair(AF_UNIX, SOCK_STREAM | SOCK_CLOEXEC, 0, ends) != 0 || posix_spawn_file_actions_init(&actions) != 0 ||
+        posix_spawn_file_actions_adddup2(&actions, ends[1], 0) != 0 || posix_spawn_file_actions_adddup2(&actions, ends[1], 1) != 0 ||
+        posix_spawn(&near, SERVE, &actions, NULL, command, environ) != 0)
+        stop(name, "has no answer: the program with the library cannot be started: " SERVE);
+    posix_spawn_file_actions_destroy(&actions);
+    close(ends[1]);
+    wire = ends[0];
+}
+
+/* Sends so many bytes of the message and receives so many in their place. */
+static void exchange(const char *name, size_t out, size_t back)
+{
+    for (size_t sent = 0; sent < out;) {
+        ssize_t more = send(wire, message + sent, out - sent, MSG_NOSIGNAL);
+        if (more <= 0)
+            gone(name);
+        sent += (size_t)more;
+    }
+    for (size_t got = 0; got < back;) {
+        ssize_t more = recv(wire, message + got, back - got, 0);
+        if (more <= 0)
+            gone(name);
+        got += (size_t)more;
+    }
+}
+
+/* Makes a call over there. `written` is the table where the call may write it; otherwise its length is 0. */
+static struct answer forward(const struct call *call, const uint8_t *table, const uint8_t *input, uint8_t *written, size_t written_len,
+                             uint8_t *outcomes)
+{
+    const uint8_t *lent[BUFFERS] = {table, input, outcomes};
+    const char *name = function_names[call->function];
+    size_t outcomes_len = call->lengths[OUTCOMES], out = sizeof *call;
+    struct answer answer;
+
+    pthread_mutex_lock(&lock);
+    if (wire < 0)
+        start(name);
+    memcpy(message, call, sizeof *call);
+    for (int i = 0; i < BUFFERS; i++) {
+        if (call->lengths[i] > LENT_MOST)
+            stop(name, "is lent a buffer of more bytes than the bridge carries, LENT_MOST in wire.h");
+        memcpy(message + out, lent[i], call->lengths[i]);
+        out += call->lengths[i];
+    }
+    exchange(name, out, sizeof answer + written_len + outcomes_len);
+    memcpy(&answer, message, sizeof answer);
+    memcpy(written, message + sizeof answer, written_len);
+    memcpy(outcomes, message + sizeof answer + written_len, outcomes_len);
+    pthread_mutex_unlock(&lock);
+    return answer;
+}
+
+uint64_t hondivole_open(const uint8_t *request, size_t request_len, uint8_t *table, size_t table_len)
+{
+    struct call call = {.function = OPEN, .lengths = {table_len, request_len, 0}};
+    return forward(&call, table, request, table, table_len, none).code;
+}
+
+uint64_t hondivole_flow(uint8_t *table, size_t table_len, const uint8_t *flow, size_t flow_len, uint8_t *outcomes, size_t outcomes_len,
+                        uint64_t *place, uint64_t *orders, uint64_t *accepted)
+{
+    struct call call = {.function = FLOW, .lengths = {table_len, flow_len, outcomes_len}};
+    struct answer answer = forward(&call, table, flow, table, table_len, outcomes);
+    *place = answer.results[0];
+    *orders = answer.results[1];
+    *accepted = answer.results[2];
+    return answer.code;
+}
+
+uint64_t hondivole_execute(uint8_t *table, size_t table_len, const uint8_t *body, size_t body_len, uint64_t kind, uint64_t esercizio,
+                           uint64_t number, uint64_t line, uint64_t *cents)
+{
+    struct call call = {.function = EXECUTE, .lengths = {table_len, body_len, 0}, .numbers = {kind, esercizio, number, line}};
+    struct answer answer = forward(&call, table, body, table, table_len, none);
+    *cents = answer.results[0];
+    return answer.code;
+}
+
+uint64_t hondivole_reverse(uint8_t *table, size_t table_len, const uint8_t *body, size_t body_len, uint64_t kind, uint64_t esercizio,
+                           uint64_t number, uint64_t line, uint64_t *cents)
+{
+    struct call call = {.function = REVERSE, .lengths = {table_len, body_len, 0}, .numbers = {kind, esercizio, number, line}};
+    struct answer answer = forward(&call, table, body, table, table_len, none);
+    *cents = answer.results[0];
+    return answer.code;
+}
+
+uint64_t hondivole_totals(const uint8_t *table, size_t table_len, const uint8_t *body, size_t body_len, uint64_t *used, uint64_t *paid,
+                          uint64_t *collected, int64_t *balance)
+{
+    struct call call = {.function = TOTALS, .lengths = {table_len, body_len, 0}};
+    struct answer answer = forward(&call, table, body, none, 0, none);
+    *used = answer.results[0];
+    *paid = answer.results[1];
+    *collected = answer.results[2];
+    *balance = (int64_t)answer.results[3];
+    return answer.code;
+}

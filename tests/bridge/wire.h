@@ -1,0 +1,36 @@
+/* SPDX-License-Identifier: EUPL-1.2 */
+
+/*
+ * What far.c and near.c send each other. A call is a struct call and then the bytes of the table, the input and the outcomes. Its answer
+ * is a struct answer and then the bytes of the table, unless that was lent const, and of the outcomes. Both machines write numbers with
+ * the lowest byte first.
+ */
+
+#ifndef WIRE_H
+#define WIRE_H
+
+#include <stdint.h>
+
+/* The longest buffer that is carried. The differential test's flows come to some 126,000 bytes, its tables to some 99,000. */
+#define LENT_MOST 1048576u
+
+enum function { OPEN, FLOW, EXECUTE, REVERSE, TOTALS, FUNCTIONS };
+
+/* A call's buffers: the input is the request, the flow or the body's code; only a flow has outcomes. */
+enum buffer { TABLE, INPUT, OUTCOMES, BUFFERS };
+
+struct call {
+    uint64_t function;
+    uint64_t lengths[BUFFERS];
+    uint64_t numbers[4]; /* a notice's kind, esercizio, number and line */
+};
+
+struct answer {
+    uint64_t code;
+    uint64_t results[4]; /* as the header lists them; a balance as its 64 bits */
+};
+
+static const char *const function_names[FUNCTIONS] = {"hondivole_open", "hondivole_flow", "hondivole_execute", "hondivole_reverse",
+                                                      "hondivole_totals"};
+
+#endif
