@@ -21,6 +21,8 @@ use Rattle.structure.specs.Structure.{fitsAt}
 use Rattle.readings.specs.declared.Bad.{Bad}
 use Rattle.readings.specs.declared.Bad.the-variants.{Place, Nowhere}
 use Rattle.readings.specs.Readings.{fieldsAt, firstBad}
+use Rattle.standing.specs.Standing.{standsAt}
+use Rattle.standing.proofs.Laws.{stands-parts}
 use Rattle.flow.specs.declared.Verdict.the-variants.{MarkupBreaks, StructureBreaks, Stands}
 use Rattle.flow.specs.Flow.{byFields, byRoot, byMarkup, verdictOf}
 
@@ -62,6 +64,9 @@ module _ (s : List ℕ) (r : ℕ) where
 
       pub root-read : (b : Bad) → fitsFlow s (c .gt + 1) ≡ true → badOf s (c .gt + 1) ≡ b → byRoot s (childAt s r) ≡ byFields (c .gt + 1) b
       root-read b f h = rw (e, n, f, h)
+
+      pub root-stands : standsAt 4 FlussoOrdinativi s (c .gt + 1) ≡ true → byRoot s (childAt s r) ≡ Stands (c .gt + 1)
+      root-stands h = let b = stands-parts 4 FlussoOrdinativi s (c .gt + 1) h in root-read Nowhere (b .0) (b .1)
 
 -- A FLOW THAT STANDS
 pub record Stood (s : List ℕ) (at : ℕ) : Type 0 where

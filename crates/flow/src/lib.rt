@@ -32,6 +32,10 @@ fn verdict_at(s: &[u8], root: usize, past: &[u16]) -> Verdict
         return Verdict::StructureBreaks;
     }
     let at = e + 1;
+    // One walk where nothing breaks; what breaks is looked for only where something does.
+    if standing::stands(s, at, Parent::FlussoOrdinativi, 4, past) {
+        return Verdict::Stands(at);
+    }
     if !structure::fits(s, at, Parent::FlussoOrdinativi, 4, past) {
         return Verdict::StructureBreaks;
     }

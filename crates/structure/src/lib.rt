@@ -42,7 +42,7 @@ fn allowed(parent: Parent, row: usize, n: usize) -> bool
     }
 }
 
-fn rows(parent: Parent) -> usize
+pub fn rows(parent: Parent) -> usize
     ensures { λ r. ⌜ r ≡ length (ranges (table parent)) ⌝ }
 {
     match parent {
@@ -57,7 +57,7 @@ fn rows(parent: Parent) -> usize
 }
 
 // Whether `to` is no earlier row than `row`, and the rows from that, with n elements so far, up to `to` have what they take.
-fn filled(parent: Parent, row: usize, n: usize, to: usize) -> bool
+pub fn filled(parent: Parent, row: usize, n: usize, to: usize) -> bool
     ensures { λ r. ⌜ r ≡ filledFrom (ranges (table parent)) row n to ⌝ }
 {
     if to < row {
@@ -76,7 +76,7 @@ fn filled(parent: Parent, row: usize, n: usize, to: usize) -> bool
 }
 
 // How many elements of row `to` there are with one more, after n of `row`.
-fn counted(row: usize, n: usize, to: usize) -> usize
+pub fn counted(row: usize, n: usize, to: usize) -> usize
     requires { ⌜ n < 18446744073709551615 ⌝ }
     ensures { λ r. ⌜ r ≡ countedOf row n to ⌝ }
 {
@@ -84,7 +84,7 @@ fn counted(row: usize, n: usize, to: usize) -> usize
 }
 
 // Whether content holds no element.
-fn text_only(s: &[u8], at: usize, past: &[u16]) -> bool
+pub fn text_only(s: &[u8], at: usize, past: &[u16]) -> bool
     requires { ⌜ (at ≤ length (now s)) × Noted (now s) (now past) ⌝ }
     ensures { λ r. ⌜ r ≡ textOnly (now (s .entry)) at ⌝ }
 {

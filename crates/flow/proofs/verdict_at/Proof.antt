@@ -7,7 +7,7 @@ use Rattle.children.specs.declared.Step.the-variants.{One}
 use Rattle.children.specs.Child.{childAt}
 use Rattle.children.proofs.Laws.{child-lies}
 use Rattle.readings.specs.declared.Bad.the-variants.{Place, Nowhere}
-use Rattle.flow.proofs.Laws.{isFlow, fitsFlow, root-none, root-other, root-unfit, root-read}
+use Rattle.flow.proofs.Laws.{isFlow, fitsFlow, root-none, root-other, root-unfit, root-read, root-stands}
 use borrow.Author.Needs.{needs}
 use Rattle.flow.proofs.verdict_at.Statement.{statement}
 use Rattle.flow.proofs.verdict_at.Tie as tie
@@ -65,8 +65,8 @@ add-at c =
     let l = child-lies s r d e .1 in
     omega arith
 
-fits-requires : tie.Need-fits-requires
-fits-requires c κs =
+stands-requires : tie.Need-stands-requires
+stands-requires c κs =
     let s = c .before .before .before .before .before .before .before .before .before .before .args .s .now in
     let r = c .before .before .before .before .before .before .before .before .before .before .args .root in
     let d = c .before .before .before .before .before .c .given .0 .0 in
@@ -81,10 +81,10 @@ returns-3 c =
     let d = c .before .before .before .before .before .before .before .c .given .0 .0 in
     let e : childAt s r ≡ One d = sym (c .before .before .before .before .before .before .before .before .before .child-at .ensures) ∙ c .before .before .before .before .before .before .before .c .given .1 in
     let n : isFlow s d ≡ true = sym (c .before .before .before .is .ensures) ∙ not-false _ (c .before .before .if1 .left) in
-    sym (root-unfit s r d e n (sym (c .before .fits2 .ensures) ∙ not-true _ (c .if2 .taken)))
+    sym (root-stands s r d e n (sym (c .before .stands .ensures) ∙ c .if2 .taken))
 
-first-bad-requires : tie.Need-first-bad-requires
-first-bad-requires c κs =
+fits-requires : tie.Need-fits-requires
+fits-requires c κs =
     let s = c .before .before .before .before .before .before .before .before .before .before .before .before .args .s .now in
     let r = c .before .before .before .before .before .before .before .before .before .before .before .before .args .root in
     let d = c .before .before .before .before .before .before .before .c .given .0 .0 in
@@ -92,31 +92,49 @@ first-bad-requires c κs =
     let l = child-lies s r d e .1 in
     (omega arith, c .before .before .before .before .before .before .before .before .before .before .before .before .pre .1)
 
+returns-4 : tie.Need-returns-4
+returns-4 c =
+    let s = c .before .before .before .before .before .before .before .before .before .before .before .before .before .before .args .s .now in
+    let r = c .before .before .before .before .before .before .before .before .before .before .before .before .before .before .args .root in
+    let d = c .before .before .before .before .before .before .before .before .before .c .given .0 .0 in
+    let e : childAt s r ≡ One d = sym (c .before .before .before .before .before .before .before .before .before .before .before .child-at .ensures) ∙ c .before .before .before .before .before .before .before .before .before .c .given .1 in
+    let n : isFlow s d ≡ true = sym (c .before .before .before .before .before .is .ensures) ∙ not-false _ (c .before .before .before .before .if1 .left) in
+    sym (root-unfit s r d e n (sym (c .before .fits2 .ensures) ∙ not-true _ (c .if3 .taken)))
+
+first-bad-requires : tie.Need-first-bad-requires
+first-bad-requires c κs =
+    let s = c .before .before .before .before .before .before .before .before .before .before .before .before .before .before .args .s .now in
+    let r = c .before .before .before .before .before .before .before .before .before .before .before .before .before .before .args .root in
+    let d = c .before .before .before .before .before .before .before .before .before .c .given .0 .0 in
+    let e : childAt s r ≡ One d = sym (c .before .before .before .before .before .before .before .before .before .before .before .child-at .ensures) ∙ c .before .before .before .before .before .before .before .before .before .c .given .1 in
+    let l = child-lies s r d e .1 in
+    (omega arith, c .before .before .before .before .before .before .before .before .before .before .before .before .before .before .pre .1)
+
 enum-known-p : tie.Need-enum-known-p
 enum-known-p c = search needs
 
 enum-told-2 : tie.Need-enum-told-2
 enum-told-2 c = search needs
 
-returns-4 : tie.Need-returns-4
-returns-4 c =
-    let s = c .before .before .before .before .before .before .before .before .before .before .before .before .before .before .before .before .args .s .now in
-    let r = c .before .before .before .before .before .before .before .before .before .before .before .before .before .before .before .before .args .root in
-    let d = c .before .before .before .before .before .before .before .before .before .before .before .c .given .0 .0 in
-    let e : childAt s r ≡ One d = sym (c .before .before .before .before .before .before .before .before .before .before .before .before .before .child-at .ensures) ∙ c .before .before .before .before .before .before .before .before .before .before .before .c .given .1 in
-    let n : isFlow s d ≡ true = sym (c .before .before .before .before .before .before .before .is .ensures) ∙ not-false _ (c .before .before .before .before .before .before .if1 .left) in
-    let f : fitsFlow s (d .gt + 1) ≡ true = sym (c .before .before .before .before .before .fits2 .ensures) ∙ not-false _ (c .before .before .before .before .if2 .left) in
+returns-5 : tie.Need-returns-5
+returns-5 c =
+    let s = c .before .before .before .before .before .before .before .before .before .before .before .before .before .before .before .before .before .before .args .s .now in
+    let r = c .before .before .before .before .before .before .before .before .before .before .before .before .before .before .before .before .before .before .args .root in
+    let d = c .before .before .before .before .before .before .before .before .before .before .before .before .before .c .given .0 .0 in
+    let e : childAt s r ≡ One d = sym (c .before .before .before .before .before .before .before .before .before .before .before .before .before .before .before .child-at .ensures) ∙ c .before .before .before .before .before .before .before .before .before .before .before .before .before .c .given .1 in
+    let n : isFlow s d ≡ true = sym (c .before .before .before .before .before .before .before .before .before .is .ensures) ∙ not-false _ (c .before .before .before .before .before .before .before .before .if1 .left) in
+    let f : fitsFlow s (d .gt + 1) ≡ true = sym (c .before .before .before .before .before .fits2 .ensures) ∙ not-false _ (c .before .before .before .before .if3 .left) in
     let p = c .before .p .given .0 .0 in
     sym (root-read s r d e n (Place p) f (sym (c .before .before .before .first-bad .ensures) ∙ c .before .p .given .1))
 
-returns-5 : tie.Need-returns-5
-returns-5 c =
-    let s = c .before .before .before .before .before .before .before .before .before .before .before .before .before .before .before .args .s .now in
-    let r = c .before .before .before .before .before .before .before .before .before .before .before .before .before .before .before .args .root in
-    let d = c .before .before .before .before .before .before .before .before .before .before .c .given .0 .0 in
-    let e : childAt s r ≡ One d = sym (c .before .before .before .before .before .before .before .before .before .before .before .before .child-at .ensures) ∙ c .before .before .before .before .before .before .before .before .before .before .c .given .1 in
-    let n : isFlow s d ≡ true = sym (c .before .before .before .before .before .before .is .ensures) ∙ not-false _ (c .before .before .before .before .before .if1 .left) in
-    let f : fitsFlow s (d .gt + 1) ≡ true = sym (c .before .before .before .before .fits2 .ensures) ∙ not-false _ (c .before .before .before .if2 .left) in
+returns-6 : tie.Need-returns-6
+returns-6 c =
+    let s = c .before .before .before .before .before .before .before .before .before .before .before .before .before .before .before .before .before .args .s .now in
+    let r = c .before .before .before .before .before .before .before .before .before .before .before .before .before .before .before .before .before .args .root in
+    let d = c .before .before .before .before .before .before .before .before .before .before .before .before .c .given .0 .0 in
+    let e : childAt s r ≡ One d = sym (c .before .before .before .before .before .before .before .before .before .before .before .before .before .before .child-at .ensures) ∙ c .before .before .before .before .before .before .before .before .before .before .before .before .c .given .1 in
+    let n : isFlow s d ≡ true = sym (c .before .before .before .before .before .before .before .before .is .ensures) ∙ not-false _ (c .before .before .before .before .before .before .before .if1 .left) in
+    let f : fitsFlow s (d .gt + 1) ≡ true = sym (c .before .before .before .before .fits2 .ensures) ∙ not-false _ (c .before .before .before .if3 .left) in
     sym (root-read s r d e n Nowhere f (sym (c .before .before .first-bad .ensures) ∙ c .enum-told2 .given .1))
 
 pub verdict-at-spec : {M : Type 1} → statement M
@@ -132,10 +150,12 @@ verdict-at-spec =
     is-requires
     returns-2
     add-at
-    fits-requires
+    stands-requires
     returns-3
+    fits-requires
+    returns-4
     first-bad-requires
     enum-known-p
     enum-told-2
-    returns-4
-    returns-5)
+    returns-5
+    returns-6)

@@ -1,0 +1,71 @@
+use mathlib.Core.Path.{_≡_, sym, _∙_}
+use mathlib.Core.Bool.{true}
+use borrow.Author.Tests.{not-true, not-false}
+use Rattle.fields.specs.declared.Judged.the-variants.{Stands, Breaks}
+use Rattle.structure.specs.Structure.{textOnly}
+use Rattle.standing.proofs.Laws.{text-other, text-judged}
+use borrow.Author.Needs.{needs}
+use Rattle.standing.proofs.text_stands.Statement.{statement}
+use Rattle.standing.proofs.text_stands.Tie as tie
+
+text-only-requires : tie.Need-text-only-requires
+text-only-requires c κs = search needs
+
+returns : tie.Need-returns
+returns c =
+    let s = c .before .before .before .before .args .s .now in
+    let f = c .before .before .before .before .args .f in
+    let a = c .before .before .before .before .args .from in
+    let e = c .before .before .before .before .args .to in
+    sym (text-other s f a e (sym (c .before .text-only .ensures) ∙ not-true _ (c .if1 .taken)))
+
+sub-field-stands : tie.Need-sub-field-stands
+sub-field-stands c = search needs
+
+part-field-stands-start : tie.Need-part-field-stands-start
+part-field-stands-start c = search needs
+
+part-field-stands-end : tie.Need-part-field-stands-end
+part-field-stands-end c = search needs
+
+field-stands-requires : tie.Need-field-stands-requires
+field-stands-requires c κs = search needs
+
+enum-told : tie.Need-enum-told
+enum-told c = search needs
+
+enum-told-2 : tie.Need-enum-told-2
+enum-told-2 c = search needs
+
+returns-2 : tie.Need-returns-2
+returns-2 c =
+    let s = c .before .before .before .before .before .before .before .before .args .s .now in
+    let f = c .before .before .before .before .before .before .before .before .args .f in
+    let a = c .before .before .before .before .before .before .before .before .args .from in
+    let e = c .before .before .before .before .before .before .before .before .args .to in
+    let o : textOnly s a ≡ true = sym (c .before .before .before .before .before .text-only .ensures) ∙ not-false _ (c .before .before .before .before .if1 .left) in
+    sym (text-judged s f a e Stands o (sym (c .before .before .field-stands .ensures) ∙ c .enum-told .given .1))
+
+returns-3 : tie.Need-returns-3
+returns-3 c =
+    let s = c .before .before .before .before .before .before .before .before .args .s .now in
+    let f = c .before .before .before .before .before .before .before .before .args .f in
+    let a = c .before .before .before .before .before .before .before .before .args .from in
+    let e = c .before .before .before .before .before .before .before .before .args .to in
+    let o : textOnly s a ≡ true = sym (c .before .before .before .before .before .text-only .ensures) ∙ not-false _ (c .before .before .before .before .if1 .left) in
+    sym (text-judged s f a e Breaks o (sym (c .before .before .field-stands .ensures) ∙ c .enum-told2 .given .1))
+
+pub text-stands-spec : {M : Type 1} → statement M
+text-stands-spec =
+    tie.close
+    (tie.spec
+    text-only-requires
+    returns
+    sub-field-stands
+    part-field-stands-start
+    part-field-stands-end
+    field-stands-requires
+    enum-told
+    enum-told-2
+    returns-2
+    returns-3)
