@@ -9,7 +9,7 @@ use lib.Dec.{eqb}
 use borrow.Author.Tests.{eq-eqb, ne-eqb}
 use Rattle.scan.specs.declared.Walk.{Walk}
 use Rattle.scan.specs.declared.Walk.the-variants.{Past, Broken}
-use Rattle.scan.specs.Bytes.{byteAt, part, isWhite}
+use Rattle.scan.specs.Bytes.{byteAt, isWhite}
 use Rattle.scan.proofs.Laws.{run-from, run-within}
 use Rattle.tokens.specs.Tokens.{whiteAt, nameAt, endTagAt}
 use Rattle.tokens.proofs.Laws.{name-past, end-past}
@@ -24,7 +24,7 @@ use Rattle.children.specs.declared.Spot.the-variants.{At, Passed}
 use Rattle.children.specs.declared.Holds.{Holds}
 use Rattle.children.specs.declared.Kept.{Kept}
 use Rattle.children.specs.declared.Next.the-variants.{Named, Done}
-use Rattle.children.specs.Child.{childAt, onward, thenFrom, childrenBy, childrenFrom, nameIn, textIn}
+use Rattle.children.specs.Child.{childAt, onward, thenFrom, childrenBy, childrenFrom, nameIn, textIn, SpansOf}
 use Rattle.children.specs.Table.{table, spotIn}
 use Rattle.children.specs.Kept.{keep, keptFrom, nextOf}
 
@@ -112,15 +112,17 @@ module _ (s : List ℕ) (i : ℕ) where
 pub child-beyond : (s : List ℕ) (i : ℕ) → length s ≤ i → childAt s i ≡ End
 child-beyond s i h = let y : byteAt s i ≡ 0 = List·getD-eq-default s 0 h in child-none s i (λ e. omega arith)
 
--- its own words
+-- where its own words stand
 module _ (s : List ℕ) (i : ℕ) where
-  pub words-none : childAt s i ≡ End → (nameIn s (childAt s i) ≡ []) × (textIn s (childAt s i) ≡ [])
+  pub spans-none : childAt s i ≡ End → SpansOf s (childAt s i) (record { name = 0; gt = 0; text = 0; to = 0 })
   unfolding nameIn textIn
-  words-none e = rw e (refl, refl)
+  spans-none e = rw e (record { named = refl; name-from = omega arith; name-in = omega arith; said = refl; text-from = omega arith; text-in = omega arith })
 
-  pub words-one : (c : Child) → childAt s i ≡ One c → (nameIn s (childAt s i) ≡ part s (c .lt + 1) (c .gt)) × (textIn s (childAt s i) ≡ part s (c .gt + 1) (c .to))
+  pub spans-one : (c : Child) → childAt s i ≡ One c → SpansOf s (childAt s i) (record { name = c .lt + 1; gt = c .gt; text = c .gt + 1; to = c .to })
   unfolding nameIn textIn
-  words-one c e = rw e (refl, refl)
+  spans-one c e =
+      let l = child-lies s i c e .1 in
+      rw e (record { named = refl; name-from = omega arith; name-in = omega arith; said = refl; text-from = omega arith; text-in = omega arith })
 
 -- CHILDREN
 -- two limits that are large enough give the same children

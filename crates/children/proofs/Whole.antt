@@ -2,7 +2,7 @@
 use mathlib.Core.Path.{_≡_, refl, ap, _∙_}
 use mathlib.Core.List.{List, [], _∷_}
 use mathlib.Core.Bool.{Bool, true, false, cond, not, _&&_}
-use Prim.Native.Nat.{ℕ, zero, suc, _+_, _-_, _≤_, _<_}
+use Prim.Native.Nat.{ℕ, zero, suc, _+_, _-_, _/_, _%_, _≤_, _<_}
 use native.Mathlib.Numerals.{add-one}
 use native.Mathlib.Omega.{arith}
 use lib.ListN.{length, getD, drop}
@@ -17,10 +17,11 @@ use Rattle.tokens.specs.Tokens.{andThen, repeat, until, whiteAt, nameAt, endTag
 use Rattle.tokens.proofs.Laws.{then-past, name-past, end-past}
 use Rattle.markup.specs.Markup.{childBy, childrenBy, contentBy, elementAt, contentAt, rootAt, markupOf}
 use Rattle.markup.proofs.Laws.{Parts, parts}
-use Rattle.markup.proofs.Noted.{element-more}
+use Rattle.markup.specs.Noted.{Noted}
+use Rattle.markup.proofs.Noted.{element-more, noted-read}
 use Rattle.children.specs.declared.Child.{Child}
 use Rattle.children.specs.declared.Step.the-variants.{One, End}
-use Rattle.children.specs.Child.{childAt, childrenFrom}
+use Rattle.children.specs.Child.{childAt, childTo, childrenFrom}
 use Rattle.children.proofs.Laws.{child-none, child-no-name, child-one, child-beyond, children-end, children-one}
 
 -- an element of the markup, one level more or less
@@ -49,11 +50,11 @@ pub record Noted-at (s : List ℕ) (i e q : ℕ) : Type 0 where
   pub name : i + 1 < e
   pub room : e - i + 2 ≤ q
   pub within : q ≤ length s
-  pub child : childAt s i ≡ One (record { lt = i; gt = e; to = q - (e - i) - 2; after = whiteAt s q })
+  pub child : childAt s i ≡ One (childTo s i e q)
 
--- an element whose end is noted is a child: its name tells where its content ends
-pub child-noted : (s : List ℕ) (i q e : ℕ) → byteAt s i ≡ 60 → elementAt 12 s (i + 1) ≡ Past q → nameAt s (i + 1) ≡ Past e → Noted-at s i e q
-child-noted s i q e l h b = let k = element-parts s (i + 1) q h in let u = k .2 .name in let v : k .0 ≡ e = cc in by (k .0) (k .1) v (k .2)
+-- an element whose name and end are known is a child: its name tells where its content ends
+known : (s : List ℕ) (i e q : ℕ) → byteAt s i ≡ 60 → elementAt 12 s (i + 1) ≡ Past q → nameAt s (i + 1) ≡ Past e → Noted-at s i e q
+known s i e q l h b = let k = element-parts s (i + 1) q h in let u = k .2 .name in let v : k .0 ≡ e = cc in by (k .0) (k .1) v (k .2)
   where
     by : (t p : ℕ) → t ≡ e → Parts (contentAt 12 s) s (i + 1) t p q → Noted-at s i e q
     by t p v k =
@@ -62,6 +63,10 @@ child-noted s i q e l h b = let k = element-parts s (i + 1) q h in let u = k .2 
         let o = end-past s (i + 1) t p q (k .end) in
         let x = to-at i t p q (a .on) f in
         rw (← v) (record { name = a .on; room = omega arith; within = o .within; child = rw (← x) (child-one s i l t (k .name) (eqb-true _ _ (k .opens)) p (k .holds) q (k .end)) })
+
+-- and so is one that is noted
+pub child-noted : (s past : List ℕ) (i n : ℕ) → byteAt s i ≡ 60 → Noted s past → n ≡ getD past (i + 1) 0 → (n ≡ 0 → ⊥) → Noted-at s i (n / 65536) (n % 65536)
+child-noted s past i n l h w f = let t = noted-read s past (i + 1) n h w f in known s i (n / 65536) (n % 65536) l (t .0) (t .1)
 
 -- THE ROOT: the only child, and the flow ends with it
 root-by : (s : List ℕ) (r m q : ℕ) → m ≡ r → byteAt s m ≡ 60 → elementAt 12 s (m + 1) ≡ Past q → whiteAt s q ≡ length s → (c : Child) × (childAt s r ≡ One c) × (c .after ≡ length s)

@@ -1,7 +1,8 @@
 -- The children of an element, of a flow whose markup stands. (Where it doesn't, the list ends at the first thing that is no element.)
-use Prim.Native.Nat.{ℕ, zero, suc, _+_}
+use Prim.Native.Nat.{ℕ, zero, suc, _+_, _-_, _≤_}
 use mathlib.Core.List.{List, [], _∷_}
 use mathlib.Core.Bool.{cond}
+use mathlib.Core.Path.{_≡_}
 use lib.ListN.{length}
 use lib.Dec.{eqb}
 use Rattle.scan.specs.declared.Walk.{Walk}
@@ -10,6 +11,7 @@ use Rattle.scan.specs.Bytes.{byte, byteAt, part}
 use Rattle.tokens.specs.Tokens.{whiteAt, nameAt, endTagAt}
 use Rattle.markup.specs.Markup.{contentAt}
 use Rattle.children.specs.declared.Child.{Child}
+use Rattle.children.specs.declared.Spans.{Spans}
 use Rattle.children.specs.declared.Step.{Step}
 use Rattle.children.specs.declared.Step.the-variants.{One, End}
 
@@ -28,6 +30,10 @@ childAt s i =
     onward (endTagAt s (i + 1) e p) (λ q. One (record { lt = i; gt = e; to = p; after = whiteAt s q }))))
     End))
     End
+
+-- the child at i whose name ends at e and which itself ends at q: its end tag, name and three bytes, follows its content
+abbrev pub childTo : List ℕ → ℕ → ℕ → ℕ → Child
+childTo s i e q = record { lt = i; gt = e; to = q - (e - i) - 2; after = whiteAt s q }
 
 -- a child, and what comes after it
 abbrev pub thenFrom : Step → (ℕ → List Child) → List Child
@@ -51,3 +57,12 @@ nameIn s End = []
 unfoldable pub textIn : List ℕ → Step → List ℕ
 textIn s (One c) = part s (c .gt + 1) (c .to)
 textIn s End = []
+
+-- where both stand in the flow
+pub record SpansOf (s : List ℕ) (c : Step) (w : Spans) : Type 0 where
+  pub named : part s (w .name) (w .gt) ≡ nameIn s c
+  pub name-from : w .name ≤ w .gt
+  pub name-in : w .gt ≤ length s
+  pub said : part s (w .text) (w .to) ≡ textIn s c
+  pub text-from : w .text ≤ w .to
+  pub text-in : w .to ≤ length s

@@ -1,11 +1,11 @@
-// The children of an element, and which of them its parent names. A child is looked up in the markup pass's notes, in the length of its name.
+// The children of an element, and which of them its parent names. A child is looked up in the markup pass's notes, and not read again.
 use fields::Form;
 use scan::Walk;
 ghost use mathlib.Core.Path.{_≡_};
-ghost use Prim.Native.Nat.{_+_, _≤_, _<_};
+ghost use Prim.Native.Nat.{_+_, _-_, _≤_, _<_};
 ghost use lib.ListN.{length};
 ghost use Rattle.markup.specs.Noted.{Noted};
-ghost use Rattle.children.specs.Child.{childAt, nameIn, textIn};
+ghost use Rattle.children.specs.Child.{childAt, childTo, nameIn, textIn, SpansOf};
 ghost use Rattle.children.specs.Table.{nameIs, table, spotIn};
 ghost use Rattle.children.specs.Kept.{keptFrom, nextOf};
 
@@ -20,6 +20,14 @@ pub struct Child {
 pub enum Step {
     One(Child),
     End,
+}
+
+// Where an element's name stands, up to its end, and where its text does.
+struct Spans {
+    name: usize,
+    gt: usize,
+    text: usize,
+    to: usize,
 }
 
 // The parents of document 01's table.
@@ -86,62 +94,78 @@ pub fn child_alone(s: &[u8], i: usize) -> Step
     })
 }
 
+// The child at a position whose name's end and whose own end are known: its end tag is as long as its name and three bytes.
+fn child_to(s: &[u8], i: usize, e: usize, q: usize) -> Child
+    requires { ⌜ (i ≤ e) × (e - i + 2 ≤ q) × (q ≤ length (now s)) ⌝ }
+    ensures { λ r. ⌜ r ≡ childTo (now (s .entry)) i e q ⌝ }
+{
+    let after = scan::white_end(s, q);
+    Child {
+        lt: i,
+        gt: e,
+        to: q - (e - i) - 2,
+        after,
+    }
+}
+
 // The child at a position, by the notes of the markup pass.
-pub fn child_at(s: &[u8], i: usize, past: &[u16]) -> Step
+pub fn child_at(s: &[u8], i: usize, past: &[u32]) -> Step
     requires { ⌜ (i ≤ length (now s)) × Noted (now s) (now past) ⌝ }
     ensures { λ r. ⌜ r ≡ childAt (now (s .entry)) i ⌝ }
 {
     if scan::byte(s, i) != 60 {
         return Step::End;
     }
-    let q = markup::note_at(past, i + 1);
-    if q == 0 {
+    let n = markup::note_at(past, i + 1);
+    if n == 0 {
         return child_alone(s, i);
     }
-    let Walk::Past(e) = tokens::name_end(s, i + 1) else {
-        return Step::End;
+    let c = child_to(s, i, n / 65536, n % 65536);
+    Step::One(c)
+}
+
+// Where the name and the text stand of the element whose `<` stands at a place; both are empty where none does.
+fn spans_at(s: &[u8], place: usize) -> Spans
+    ensures { λ r. ⌜ SpansOf (now (s .entry)) (childAt (now (s .entry)) place) r ⌝ }
+{
+    let none = Spans {
+        name: 0,
+        gt: 0,
+        text: 0,
+        to: 0,
     };
-    let after = scan::white_end(s, q);
-    Step::One(Child {
-        lt: i,
-        gt: e,
-        to: q - (e - i) - 2,
-        after,
-    })
+    if s.len() < place {
+        return none;
+    }
+    match child_alone(s, place) {
+        Step::One(c) => Spans {
+            name: c.lt + 1,
+            gt: c.gt,
+            text: c.gt + 1,
+            to: c.to,
+        },
+        Step::End => none,
+    }
 }
 
 // The name of the element whose `<` stands at a place, as the part of the flow itself; empty where none does.
 pub fn name_at(s: &[u8], place: usize) -> &[u8]
     ensures { λ r. ⌜ now r ≡ nameIn (now (s .entry)) (childAt (now (s .entry)) place) ⌝ }
 {
-    if s.len() < place {
-        return &s[0..0];
-    }
-    match child_alone(s, place) {
-        Step::One(c) => {
-            let a = c.lt + 1;
-            let e = c.gt;
-            &s[a..e]
-        }
-        Step::End => &s[0..0],
-    }
+    let w = spans_at(s, place);
+    let a = w.name;
+    let e = w.gt;
+    &s[a..e]
 }
 
 // The text of the element whose `<` stands at a place, likewise.
 pub fn text_at(s: &[u8], place: usize) -> &[u8]
     ensures { λ r. ⌜ now r ≡ textIn (now (s .entry)) (childAt (now (s .entry)) place) ⌝ }
 {
-    if s.len() < place {
-        return &s[0..0];
-    }
-    match child_alone(s, place) {
-        Step::One(c) => {
-            let a = c.gt + 1;
-            let e = c.to;
-            &s[a..e]
-        }
-        Step::End => &s[0..0],
-    }
+    let w = spans_at(s, place);
+    let a = w.text;
+    let e = w.to;
+    &s[a..e]
 }
 
 // Whether the name from a up to e is x.
@@ -296,7 +320,7 @@ pub fn spot_of(s: &[u8], a: usize, e: usize, parent: Parent) -> Spot
 }
 
 // The first child from a place on that the parent names.
-pub fn next_named(s: &[u8], from: usize, parent: Parent, past: &[u16]) -> Next
+pub fn next_named(s: &[u8], from: usize, parent: Parent, past: &[u32]) -> Next
     requires { ⌜ (from ≤ length (now s)) × Noted (now s) (now past) ⌝ }
     ensures { λ r. ⌜ r ≡ nextOf (keptFrom parent (now (s .entry)) from) ⌝ }
 {

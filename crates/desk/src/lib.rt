@@ -62,7 +62,7 @@ fn serve_all(
     n: usize,
     year: u64,
     out: &mut [u8],
-    past: &[u16],
+    past: &[u32],
 ) -> usize
     requires { ⌜ (base + slotSize * n ≤ length (now t)) × Rooted (now f) (now past) from × (16 * length (ordersFrom (now f) from) ≤ length (now out)) ⌝ }
     ensures { λ r. ⌜ (r ≡ allAccepted (now (t .entry)) base n year (ordersFrom (now (f .entry)) from)) × (now (t .exit) ≡ allLeave (now (t .entry)) base n year (ordersFrom (now (f .entry)) from)) × (now (out .exit) ≡ put (now (out .entry)) 0 (allOutcomes (now (t .entry)) base n year (ordersFrom (now (f .entry)) from))) ⌝ }
@@ -85,7 +85,7 @@ fn serve_all(
 }
 
 // The flow's esercizio.
-fn year_of(f: &[u8], from: usize, past: &[u16]) -> u64
+fn year_of(f: &[u8], from: usize, past: &[u32]) -> u64
     requires { ⌜ (from ≤ length (now f)) × Noted (now f) (now past) ⌝ }
     ensures { λ r. ⌜ r ≡ headerFrom (now (f .entry)) from .esercizio ⌝ }
 {
@@ -102,7 +102,7 @@ fn with_room(
     from: usize,
     b: usize,
     out: &mut [u8],
-    past: &[u16],
+    past: &[u32],
 ) -> FlowAnswer
     requires { ⌜ (tableOk (now t) ≡ true) × (b < bodies (now t)) × Rooted (now f) (now past) from × (length (now f) ≤ maxFlow) ⌝ }
     ensures { λ r. ⌜ Gives (now (t .entry)) (now (out .entry)) (roomFor (now (t .entry)) (length (now (out .entry))) (headerFrom (now (f .entry)) from) (ordersFrom (now (f .entry)) from) b) r (now (t .exit)) (now (out .exit)) ⌝ }
@@ -119,7 +119,7 @@ fn with_room(
 }
 
 // The orders of a flow, for the body with the flow's code: 7, or as the room says.
-fn for_body(t: &mut [u8], f: &[u8], from: usize, out: &mut [u8], past: &[u16]) -> FlowAnswer
+fn for_body(t: &mut [u8], f: &[u8], from: usize, out: &mut [u8], past: &[u32]) -> FlowAnswer
     requires { ⌜ (tableOk (now t) ≡ true) × Rooted (now f) (now past) from × (length (now f) ≤ maxFlow) ⌝ }
     ensures { λ r. ⌜ Gives (now (t .entry)) (now (out .entry)) (bodyFor (now (t .entry)) (length (now (out .entry))) (headerFrom (now (f .entry)) from) (ordersFrom (now (f .entry)) from)) r (now (t .exit)) (now (out .exit)) ⌝ }
 {
@@ -131,7 +131,7 @@ fn for_body(t: &mut [u8], f: &[u8], from: usize, out: &mut [u8], past: &[u16]) -
 }
 
 // A flow that stands, its root's content at a place: 6, or as its body says.
-fn for_bank(t: &mut [u8], f: &[u8], at: usize, out: &mut [u8], past: &[u16]) -> FlowAnswer
+fn for_bank(t: &mut [u8], f: &[u8], at: usize, out: &mut [u8], past: &[u32]) -> FlowAnswer
     requires { ⌜ (tableOk (now t) ≡ true) × (verdictOf (now f) ≡ Stands at) × Noted (now f) (now past) × (length (now f) ≤ maxFlow) ⌝ }
     ensures { λ r. ⌜ Gives (now (t .entry)) (now (out .entry)) (forBank (now (t .entry)) (length (now (out .entry))) (headerOf (now (f .entry)) at) (flowOrders (now (f .entry)) at)) r (now (t .exit)) (now (out .exit)) ⌝ }
 {
@@ -144,7 +144,7 @@ fn for_bank(t: &mut [u8], f: &[u8], at: usize, out: &mut [u8], past: &[u16]) -> 
 }
 
 // Reads a flow that is not too long, noting in `past` where its elements end, and serves it.
-fn take_noted(t: &mut [u8], f: &[u8], out: &mut [u8], past: &mut [u16]) -> FlowAnswer
+fn take_noted(t: &mut [u8], f: &[u8], out: &mut [u8], past: &mut [u32]) -> FlowAnswer
     requires { ⌜ (tableOk (now t) ≡ true) × (length (now f) ≤ maxFlow) × Noted (now f) (now past) ⌝ }
     ensures { λ r. ⌜ (r ≡ flowAnswer (now (t .entry)) (flowReads (now (t .entry)) (now (f .entry)) (length (now (out .entry))))) × (now (t .exit) ≡ flowTable (now (t .entry)) (flowReads (now (t .entry)) (now (f .entry)) (length (now (out .entry))))) × (now (out .exit) ≡ flowOutcomes (now (t .entry)) (now (out .entry)) (flowReads (now (t .entry)) (now (f .entry)) (length (now (out .entry))))) ⌝ }
 {
@@ -168,9 +168,9 @@ pub fn take_flow(t: &mut [u8], f: &[u8], out: &mut [u8]) -> FlowAnswer
         return FlowAnswer::TooLong;
     }
     if f.len() < 4096 {
-        let mut few = [0u16; 4096];
+        let mut few = [0u32; 4096];
         return take_noted(t, f, out, &mut few);
     }
-    let mut past = [0u16; 32769];
+    let mut past = [0u32; 32769];
     take_noted(t, f, out, &mut past)
 }

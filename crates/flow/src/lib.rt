@@ -19,7 +19,7 @@ pub enum Verdict {
 }
 
 // The verdict of a flow whose markup stands, its root at a place.
-fn verdict_at(s: &[u8], root: usize, past: &[u16]) -> Verdict
+fn verdict_at(s: &[u8], root: usize, past: &[u32]) -> Verdict
     requires { ⌜ (root ≤ length (now s)) × Noted (now s) (now past) ⌝ }
     ensures { λ r. ⌜ r ≡ byRoot (now (s .entry)) (childAt (now (s .entry)) root) ⌝ }
 {
@@ -46,7 +46,7 @@ fn verdict_at(s: &[u8], root: usize, past: &[u16]) -> Verdict
 }
 
 // A flow's verdict. The notes are the markup pass's, for those who read its orders.
-pub fn verdict_of(s: &[u8], past: &mut [u16]) -> Verdict
+pub fn verdict_of(s: &[u8], past: &mut [u32]) -> Verdict
     requires { ⌜ Noted (now s) (now past) ⌝ }
     ensures { λ r. ⌜ (r ≡ verdictOf (now (s .entry))) × Noted (now (s .entry)) (now (past .exit)) ⌝ }
 {
@@ -60,6 +60,6 @@ pub fn verdict_of(s: &[u8], past: &mut [u16]) -> Verdict
 pub fn verdict_alone(s: &[u8]) -> Verdict
     ensures { λ r. ⌜ r ≡ verdictOf (now (s .entry)) ⌝ }
 {
-    let mut none = [0u16; 1];
+    let mut none = [0u32; 1];
     verdict_of(s, &mut none)
 }

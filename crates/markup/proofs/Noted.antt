@@ -2,7 +2,7 @@
 use mathlib.Core.Path.{_≡_, refl, _∙_}
 use mathlib.Core.List.{List}
 use mathlib.Core.Bool.{Bool, true, false, cond, not, _&&_}
-use Prim.Native.Nat.{ℕ, zero, suc, _+_, _-_, _≤_, _<_}
+use Prim.Native.Nat.{ℕ, zero, suc, _+_, _-_, _*_, _/_, _%_, _≤_, _<_}
 use native.Mathlib.Omega.{arith}
 use lib.ListN.{length, length-set, getD, set, replicate, getD-replicate, length-replicate, List·getD-eq-default}
 use lib.Seq.{getD-set-same, getD-set-other, set-out}
@@ -12,10 +12,10 @@ use Rattle.scan.specs.declared.Walk.{Walk}
 use Rattle.scan.specs.declared.Walk.the-variants.{Past, Broken}
 use Rattle.scan.specs.Bytes.{bytes, byteAt, hasAt}
 use Rattle.scan.proofs.Laws.{never, cond-past}
-use Rattle.tokens.specs.Tokens.{andThen, repeat, until, whiteAt, textAt}
+use Rattle.tokens.specs.Tokens.{andThen, repeat, until, nameAt, whiteAt, textAt}
 use Rattle.tokens.proofs.Laws.{then-past}
 use Rattle.markup.specs.Markup.{elementBy, childBy, childrenBy, contentBy, elementAt}
-use Rattle.markup.specs.Noted.{Noted, noteIn}
+use Rattle.markup.specs.Noted.{TrueAt, Noted, noteIn}
 use Rattle.markup.proofs.Laws.{parts}
 
 -- g reads at least what f reads
@@ -73,48 +73,58 @@ noted-none s n p h = absurd (h (go (leb (suc p) n) refl))
     go true e = getD-replicate n p 0 0 (leb-true (suc p) n e)
     go false e = List·getD-eq-default (replicate n 0) 0 (omega (arith, leb-false (suc p) n e, length-replicate {A = ℕ} n 0))
 
--- what is read may be noted
-noted-set : (s past : List ℕ) (d p q : ℕ) → Noted s past → d ≤ 12 → elementAt d s p ≡ Past q → Noted s (set past p q)
+-- the halves of a note
+low : (e q : ℕ) → q ≤ 65535 → (q + 65536 * e) % 65536 ≡ q
+low e q h = omega arith
+
+high : (e q : ℕ) → q ≤ 65535 → (q + 65536 * e) / 65536 ≡ e
+high e q h = omega arith
+
+-- a true note may be set
+noted-set : (s past : List ℕ) (p n : ℕ) → Noted s past → TrueAt s p n → Noted s (set past p n)
 unfolding Noted
-noted-set s past d p q h l e r f = go (eqb r p) refl (leb (suc r) (length past)) refl
+noted-set s past p n h t r f = go (eqb r p) refl (leb (suc r) (length past)) refl
   where
-    go : (b : Bool) → eqb r p ≡ b → (c : Bool) → leb (suc r) (length past) ≡ c → elementAt 12 s r ≡ Past (getD (set past p q) r 0)
+    go : (b : Bool) → eqb r p ≡ b → (c : Bool) → leb (suc r) (length past) ≡ c → TrueAt s r (getD (set past p n) r 0)
     go true k true m =
         let z = eqb-true r p k in
         let w : p < length past = omega (arith, leb-true (suc r) (length past) m) in
-        rw (z, getD-set-same past p q 0 w) (element-twelve d s p q l e)
-    go b k false m = absurd (f (List·getD-eq-default (set past p q) 0 (omega (arith, leb-false (suc r) (length past) m, length-set past p q))))
+        rw (z, getD-set-same past p n 0 w) t
+    go b k false m = absurd (f (List·getD-eq-default (set past p n) 0 (omega (arith, leb-false (suc r) (length past) m, length-set past p n))))
     go false k true m =
-        let z = getD-set-other past p r q 0 (eqb-false r p k) in
+        let z = getD-set-other past p r n 0 (eqb-false r p k) in
         rw z (h r (λ y. f (z ∙ y)))
 
-pub noted-more : (s past : List ℕ) (d p q : ℕ) → Noted s past → d ≤ 12 → elementAt d s p ≡ Past q → Noted s (noteIn past p q)
+-- what is read may be noted
+pub noted-more : (s past : List ℕ) (d p e q : ℕ) → Noted s past → d ≤ 12 → nameAt s p ≡ Past e → elementAt d s p ≡ Past q → Noted s (noteIn past p e q)
 unfolding noteIn
-noted-more s past d p q h l e = go (leb q 65535)
+noted-more s past d p e q h l n m = go (leb q 65535) refl
   where
-    go : (b : Bool) → Noted s (cond b (set past p q) past)
-    go true = noted-set s past d p q h l e
-    go false = h
+    go : (b : Bool) → leb q 65535 ≡ b → Noted s (cond b (set past p (q + 65536 * e)) past)
+    go true k =
+        let f = leb-true q 65535 k in
+        noted-set s past p (q + 65536 * e) h (rw (low e q f) (element-twelve d s p q l m), rw (high e q f) n)
+    go false k = h
 
 -- what is noted was read
-pub noted-read : (s past : List ℕ) (p : ℕ) → Noted s past → (getD past p 0 ≡ 0 → ⊥) → elementAt 12 s p ≡ Past (getD past p 0)
+pub noted-read : (s past : List ℕ) (p n : ℕ) → Noted s past → n ≡ getD past p 0 → (n ≡ 0 → ⊥) → TrueAt s p n
 unfolding Noted
-noted-read s past p h f = h p f
+noted-read s past p n h w f = rw w (h p (λ y. f (w ∙ y)))
 
 -- noteIn, a way out of the code at a time
-module _ (past : List ℕ) (at q : ℕ) where
-  pub note-fits : q ≤ 65535 → noteIn past at q ≡ set past at q
+module _ (past : List ℕ) (at e q : ℕ) where
+  pub note-fits : q ≤ 65535 → noteIn past at e q ≡ set past at (q + 65536 * e)
   unfolding noteIn
   note-fits h = rw (le-leb q 65535 h)
 
-  pub note-large : 65535 < q → noteIn past at q ≡ past
+  pub note-large : 65535 < q → noteIn past at e q ≡ past
   unfolding noteIn
   note-large h = rw (lt-leb q 65535 h)
 
-  pub note-out : length past ≤ at → noteIn past at q ≡ past
+  pub note-out : length past ≤ at → noteIn past at e q ≡ past
   unfolding noteIn
   note-out h = go (leb q 65535)
     where
-      go : (b : Bool) → cond b (set past at q) past ≡ past
-      go true = set-out past at q h
+      go : (b : Bool) → cond b (set past at (q + 65536 * e)) past ≡ past
+      go true = set-out past at (q + 65536 * e) h
       go false = refl

@@ -1,5 +1,5 @@
 // The markup of a flow: element and content readers, which call each other, and the whole flow. What is read is noted, so that later passes
-// look a child's end up instead of walking it again.
+// look a child's name and end up instead of walking it again.
 use scan::Walk;
 ghost use mathlib.Core.Path.{_≡_};
 ghost use Prim.Native.Nat.{ℕ, _+_, _-_, _≤_, _<_};
@@ -7,19 +7,20 @@ ghost use lib.ListN.{length, getD};
 ghost use Rattle.markup.specs.Markup.{elementAt, contentAt, markupOf};
 ghost use Rattle.markup.specs.Noted.{Noted, noteIn};
 
-// Notes q at a place, where there is room for it and q fits.
-fn note(past: &mut [u16], at: usize, q: usize)
-    ensures { λ _. ⌜ now (past .exit) ≡ noteIn (now (past .entry)) at q ⌝ }
+// Notes an element's end q and its name's end e at a place, where there is room for it and q fits 16 bits.
+fn note(past: &mut [u32], at: usize, e: usize, q: usize)
+    requires { ⌜ e ≤ q ⌝ }
+    ensures { λ _. ⌜ now (past .exit) ≡ noteIn (now (past .entry)) at e q ⌝ }
 {
     if at < past.len() {
         if q <= 65535 {
-            past[at] = q as u16;
+            past[at] = (q + 65536 * e) as u32;
         }
     }
 }
 
-// What is noted at a place, 0 where nothing is.
-pub fn note_at(past: &[u16], at: usize) -> usize
+// What is noted at a place, as one number; 0 where nothing is.
+pub fn note_at(past: &[u32], at: usize) -> usize
     ensures { λ r. ⌜ r ≡ getD (now (past .entry)) at 0 ⌝ }
 {
     if at < past.len() {
@@ -29,8 +30,8 @@ pub fn note_at(past: &[u16], at: usize) -> usize
     }
 }
 
-// An element, after its `<`. Where it stands, the position past it is noted at the place after its `<`.
-pub fn element(s: &[u8], at: usize, depth: usize, past: &mut [u16]) -> Walk
+// An element, after its `<`. Where it stands, the position past it and its name's end are noted at the place after its `<`.
+pub fn element(s: &[u8], at: usize, depth: usize, past: &mut [u32]) -> Walk
     requires { ⌜ (at ≤ length (now s)) × (depth ≤ 12) × Noted (now s) (now past) ⌝ }
     ensures { λ r. ⌜ (r ≡ elementAt depth (now (s .entry)) at) × Noted (now (s .entry)) (now (past .exit)) ⌝ }
 {
@@ -52,12 +53,12 @@ pub fn element(s: &[u8], at: usize, depth: usize, past: &mut [u16]) -> Walk
     let Walk::Past(q) = end else {
         return end;
     };
-    note(past, at, q);
+    note(past, at, e, q);
     Walk::Past(q)
 }
 
 // What an element holds, up to the `<` of its end tag.
-pub fn content(s: &[u8], at: usize, depth: usize, past: &mut [u16]) -> Walk
+pub fn content(s: &[u8], at: usize, depth: usize, past: &mut [u32]) -> Walk
     requires { ⌜ (at ≤ length (now s)) × (depth ≤ 12) × Noted (now s) (now past) ⌝ }
     ensures { λ r. ⌜ (r ≡ contentAt depth (now (s .entry)) at) × Noted (now (s .entry)) (now (past .exit)) ⌝ }
 {
@@ -86,7 +87,7 @@ pub fn content(s: &[u8], at: usize, depth: usize, past: &mut [u16]) -> Walk
 }
 
 // Whether the markup of a whole flow stands: the position of the root's `<`, or where it breaks. The notes are for later passes.
-pub fn markup_noted(s: &[u8], past: &mut [u16]) -> Walk
+pub fn markup_noted(s: &[u8], past: &mut [u32]) -> Walk
     requires { ⌜ Noted (now s) (now past) ⌝ }
     ensures { λ r. ⌜ (r ≡ markupOf (now (s .entry))) × Noted (now (s .entry)) (now (past .exit)) ⌝ }
 {
@@ -112,7 +113,7 @@ pub fn markup_noted(s: &[u8], past: &mut [u16]) -> Walk
 pub fn markup_of(s: &[u8]) -> Walk
     ensures { λ r. ⌜ r ≡ markupOf (now (s .entry)) ⌝ }
 {
-    let mut none = [0u16; 1];
+    let mut none = [0u32; 1];
     markup_noted(s, &mut none)
 }
 
@@ -121,6 +122,6 @@ pub fn content_alone(s: &[u8], at: usize) -> Walk
     requires { ⌜ at ≤ length (now s) ⌝ }
     ensures { λ r. ⌜ r ≡ contentAt 12 (now (s .entry)) at ⌝ }
 {
-    let mut none = [0u16; 1];
+    let mut none = [0u32; 1];
     content(s, at, 12, &mut none)
 }

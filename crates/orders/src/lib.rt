@@ -59,7 +59,7 @@ fn operation_of(a: Asked) -> Operation
 }
 
 // The first child from a place on that stands in a row of the parent.
-pub fn next_row(s: &[u8], from: usize, parent: Parent, row: usize, past: &[u16]) -> Next
+pub fn next_row(s: &[u8], from: usize, parent: Parent, row: usize, past: &[u32]) -> Next
     requires { ⌜ (from ≤ length (now s)) × Noted (now s) (now past) ⌝ }
     ensures { λ r. ⌜ r ≡ nextOf (inRow row (keptFrom parent (now (s .entry)) from)) ⌝ }
 {
@@ -82,7 +82,7 @@ pub fn field_text<'a>(
     from: usize,
     parent: Parent,
     row: usize,
-    past: &[u16],
+    past: &[u32],
 ) -> &'a [u8]
     requires { ⌜ (from ≤ length (now s)) × Noted (now s) (now past) ⌝ }
     ensures { λ r. ⌜ now r ≡ textIn row (now (s .entry)) (keptFrom parent (now (s .entry)) from) ⌝ }
@@ -109,7 +109,7 @@ fn text_of(s: &[u8], c: Child) -> &[u8]
 }
 
 // The first named child from a place on, where the structure says that there is one.
-fn first_named(s: &[u8], from: usize, parent: Parent, past: &[u16]) -> Kept
+fn first_named(s: &[u8], from: usize, parent: Parent, past: &[u32]) -> Kept
     requires { ⌜ (from ≤ length (now s)) × Noted (now s) (now past) × (nextOf (keptFrom parent (now s) from) ≡ Done → ⊥) ⌝ }
     ensures { λ r. ⌜ nextOf (keptFrom parent (now (s .entry)) from) ≡ Named r ⌝ }
 {
@@ -129,7 +129,7 @@ fn first_named(s: &[u8], from: usize, parent: Parent, past: &[u16]) -> Kept
 }
 
 // The line whose named children begin at a place.
-fn line_from(s: &[u8], from: usize, parent: Parent, past: &[u16]) -> Line
+fn line_from(s: &[u8], from: usize, parent: Parent, past: &[u32]) -> Line
     requires { ⌜ Filled lineRows 1 parent (now s) 0 from × Noted (now s) (now past) ⌝ }
     ensures { λ r. ⌜ r ≡ lineBy (now (s .entry)) (keptFrom parent (now (s .entry)) from) ⌝ }
 {
@@ -144,7 +144,7 @@ fn line_from(s: &[u8], from: usize, parent: Parent, past: &[u16]) -> Line
 }
 
 // A line. (None holds text only: the structure says so.)
-fn line_of(s: &[u8], k: Kept, past: &[u16]) -> Line
+fn line_of(s: &[u8], k: Kept, past: &[u32]) -> Line
     requires { ⌜ Shaped lineRows 2 (now s) k × Noted (now s) (now past) ⌝ }
     ensures { λ r. ⌜ r ≡ lineOf (now (s .entry)) k ⌝ }
 {
@@ -160,7 +160,7 @@ fn line_of(s: &[u8], k: Kept, past: &[u16]) -> Line
 }
 
 // The lines from a place on, which is past the order's four fields.
-fn lines_from(s: &[u8], from: usize, parent: Parent, past: &[u16]) -> Lines
+fn lines_from(s: &[u8], from: usize, parent: Parent, past: &[u32]) -> Lines
     requires { ⌜ (ranges (table parent) ≡ orderRows) × Filled (drop 4 orderRows) 2 parent (now s) 4 from × Noted (now s) (now past) ⌝ }
     ensures { λ r. ⌜ (r ≡ linesIn (now (s .entry)) (keptFrom parent (now (s .entry)) from)) × (r .count ≤ 8) ⌝ }
 {
@@ -198,7 +198,7 @@ fn kind_of(parent: Parent) -> u8
 }
 
 // The order whose named children begin at a place: its four fields, then its lines.
-fn order_from(s: &[u8], from: usize, parent: Parent, past: &[u16]) -> Order
+fn order_from(s: &[u8], from: usize, parent: Parent, past: &[u32]) -> Order
     requires { ⌜ (ranges (table parent) ≡ orderRows) × Filled orderRows 2 parent (now s) 0 from × Noted (now s) (now past) ⌝ }
     ensures { λ r. ⌜ (r ≡ orderBy (kindOf (Rows parent)) (now (s .entry)) (keptFrom parent (now (s .entry)) from)) × (r .lines .count ≤ 8) ⌝ }
 {
@@ -223,7 +223,7 @@ fn order_from(s: &[u8], from: usize, parent: Parent, past: &[u16]) -> Order
 }
 
 // The order that a named child of the root is. (None holds text only: the structure says so.)
-pub fn order_of(s: &[u8], k: Kept, past: &[u16]) -> Order
+pub fn order_of(s: &[u8], k: Kept, past: &[u32]) -> Order
     requires { ⌜ Shaped orderRows 3 (now s) k × Noted (now s) (now past) ⌝ }
     ensures { λ r. ⌜ (r ≡ orderOf (now (s .entry)) k) × (r .lines .count ≤ 8) ⌝ }
 {
@@ -236,7 +236,7 @@ pub fn order_of(s: &[u8], k: Kept, past: &[u16]) -> Order
 }
 
 // How many orders there are from a place on.
-pub fn count_orders(s: &[u8], from: usize, past: &[u16]) -> usize
+pub fn count_orders(s: &[u8], from: usize, past: &[u32]) -> usize
     requires { ⌜ (from ≤ length (now s)) × Noted (now s) (now past) ⌝ }
     ensures { λ r. ⌜ r ≡ length (ordersIn (now (s .entry)) (keptFrom FlussoOrdinativi (now (s .entry)) from)) ⌝ }
 {

@@ -16,7 +16,7 @@ pub enum Bad {
 }
 
 // The first field that breaks in the content at a place, of at most d levels.
-pub fn first_bad(s: &[u8], at: usize, parent: Parent, d: usize, past: &[u16]) -> Bad
+pub fn first_bad(s: &[u8], at: usize, parent: Parent, d: usize, past: &[u32]) -> Bad
     requires { ⌜ (at ≤ length (now s)) × Noted (now s) (now past) ⌝ }
     ensures { λ r. ⌜ r ≡ firstBad (fieldsAt d parent (now (s .entry)) at) ⌝ }
 {

@@ -11,7 +11,7 @@ ghost use Rattle.markup.specs.Noted.{Noted};
 ghost use Rattle.standing.specs.Standing.{textStands, standsAt};
 
 // Whether a field's content, from one place up to another, holds no element and has the field's form.
-fn text_stands(s: &[u8], from: usize, to: usize, f: Form, past: &[u16]) -> bool
+fn text_stands(s: &[u8], from: usize, to: usize, f: Form, past: &[u32]) -> bool
     requires { ⌜ (from ≤ to) × (to ≤ length (now s)) × Noted (now s) (now past) ⌝ }
     ensures { λ r. ⌜ r ≡ textStands (now (s .entry)) f from to ⌝ }
 {
@@ -25,7 +25,7 @@ fn text_stands(s: &[u8], from: usize, to: usize, f: Form, past: &[u16]) -> bool
 }
 
 // Whether the content at a place stands, of at most d levels: `structure::fits` with each field judged where it is met.
-pub fn stands(s: &[u8], at: usize, parent: Parent, d: usize, past: &[u16]) -> bool
+pub fn stands(s: &[u8], at: usize, parent: Parent, d: usize, past: &[u32]) -> bool
     requires { ⌜ (at ≤ length (now s)) × Noted (now s) (now past) ⌝ }
     ensures { λ r. ⌜ r ≡ standsAt d parent (now (s .entry)) at ⌝ }
 {

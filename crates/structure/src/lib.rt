@@ -84,7 +84,7 @@ pub fn counted(row: usize, n: usize, to: usize) -> usize
 }
 
 // Whether content holds no element.
-pub fn text_only(s: &[u8], at: usize, past: &[u16]) -> bool
+pub fn text_only(s: &[u8], at: usize, past: &[u32]) -> bool
     requires { ⌜ (at ≤ length (now s)) × Noted (now s) (now past) ⌝ }
     ensures { λ r. ⌜ r ≡ textOnly (now (s .entry)) at ⌝ }
 {
@@ -95,7 +95,7 @@ pub fn text_only(s: &[u8], at: usize, past: &[u16]) -> bool
 }
 
 // Whether the content at a place has the structure of the parent, of at most d levels. Of the children walked, n stand in `row` and none after it.
-pub fn fits(s: &[u8], at: usize, parent: Parent, d: usize, past: &[u16]) -> bool
+pub fn fits(s: &[u8], at: usize, parent: Parent, d: usize, past: &[u32]) -> bool
     requires { ⌜ (at ≤ length (now s)) × Noted (now s) (now past) ⌝ }
     ensures { λ r. ⌜ r ≡ fitsAt d parent (now (s .entry)) at ⌝ }
 {

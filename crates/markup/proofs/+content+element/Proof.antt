@@ -9,7 +9,7 @@ use Rattle.scan.specs.declared.Walk.the-variants.{Past}
 use Rattle.scan.specs.Bytes.{bytes, byteAt, isWhite, hasAt}
 use Rattle.scan.proofs.Laws.{stands, run-from, run-within}
 use Rattle.tokens.specs.Tokens.{nameAt, whiteAt}
-use Rattle.tokens.proofs.Laws.{name-past}
+use Rattle.tokens.proofs.Laws.{name-past, end-past}
 use Rattle.markup.specs.Markup.{childrenBy, elementAt, contentAt}
 use Rattle.markup.specs.Noted.{Noted}
 use Rattle.markup.proofs.Noted.{noted-more}
@@ -349,7 +349,17 @@ element-returns-5 t c =
     (c .before .before .end-tag .ensures ∙ sym (element-ends d s at (c .before .before .before .before .before .before .before .before .before .before .before .before .before .before .before .before .if1 .left) e n y p k), c .before .before .before .before .before .before .before .before .content .ensures .1)
 
 element-note-requires : (t : ℕ) → element-lts.Need-note-requires (element-calls t) (element-at t) element.Post
-element-note-requires t c κs = search needs
+element-note-requires t c κs =
+    let s = c .before .before .before .before .before .before .before .before .before .before .before .before .before .before .before .before .before .before .before .before .before .args .s .now in
+    let at = c .before .before .before .before .before .before .before .before .before .before .before .before .before .before .before .before .before .before .before .before .before .args .at in
+    let d = c .before .before .before .before .before .before .before .before .before .before .before .before .before .before .before .before .before .before .before .before .before .args .depth in
+    let e = c .before .before .before .before .before .before .before .before .before .before .before .before .before .before .before .name .given .0 .0 in
+    let p = c .before .before .before .before .before .before .inside .given .0 .0 in
+    let k : contentAt (d - 1) s (e + 1) ≡ Past p = sym (c .before .before .before .before .before .before .before .before .before .before .content .ensures .0) ∙ c .before .before .before .before .before .before .inside .given .1 in
+    let q = c .before .before .end .given .0 .0 in
+    let f = content-at-past (d - 1) s (e + 1) p k in
+    let h = end-past s at e p q (sym (c .before .before .before .before .end-tag .ensures) ∙ c .before .before .end .given .1) in
+    omega arith
 
 element-same-length-3 : (t : ℕ) → element-lts.Need-same-length-3 (element-calls t) (element-at t) element.Post
 element-same-length-3 t c = omega (arith, c .before .before .before .before .before .before .before .before .before .before .before .before .past .given, c .before .past2 .given)
@@ -366,7 +376,7 @@ element-returns-6 t c =
     let k : contentAt (d - 1) s (e + 1) ≡ Past p = sym (c .before .before .before .before .before .before .before .before .before .before .before .before .before .content .ensures .0) ∙ c .before .before .before .before .before .before .before .before .before .inside .given .1 in
     let q = c .before .before .before .before .before .end .given .0 .0 in
     let z : elementAt d s at ≡ Past q = element-ends d s at (c .before .before .before .before .before .before .before .before .before .before .before .before .before .before .before .before .before .before .before .before .before .if1 .left) e n y p k ∙ (sym (c .before .before .before .before .before .before .before .end-tag .ensures) ∙ c .before .before .before .before .before .end .given .1) in
-    (sym z, rw (c .before .before .note .ensures) (noted-more s _ d at q (c .before .before .before .before .before .before .before .before .before .before .before .before .before .content .ensures .1) (c .before .before .before .before .before .before .before .before .before .before .before .before .before .before .before .before .before .before .before .before .before .before .before .before .pre .1 .1) z))
+    (sym z, rw (c .before .before .note .ensures) (noted-more s _ d at e q (c .before .before .before .before .before .before .before .before .before .before .before .before .before .content .ensures .1) (c .before .before .before .before .before .before .before .before .before .before .before .before .before .before .before .before .before .before .before .before .before .before .before .before .pre .1 .1) n z))
 
 pub +content+element-spec : {M : Type 1} → statement M
 +content+element-spec = close μ-content μ-element (λ t. content-lts.spec (content-calls t)
