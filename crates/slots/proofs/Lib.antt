@@ -1,3 +1,4 @@
 pub mod Laws
 pub mod Search
+pub mod Filter
 pub mod Index

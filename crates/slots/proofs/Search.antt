@@ -112,7 +112,7 @@ none-cons r rs k e = go (keyIs r k) e where
   go true f = clash f
   go false f = (refl, none-any rs 0 1 k ∙ f)
 
-cons-none : (r : Record) (rs : List Record) (k : Key) → keyIs r k ≡ false → isNothing (findIn rs 0 k) ≡ true → isNothing (findIn (r ∷ rs) 0 k) ≡ true
+pub cons-none : (r : Record) (rs : List Record) (k : Key) → keyIs r k ≡ false → isNothing (findIn rs 0 k) ≡ true → isNothing (findIn (r ∷ rs) 0 k) ≡ true
 unfolding findIn
 cons-none r rs k e f = ap (λ (b : Bool). isNothing (cond b (At 0) (findIn rs (0 + 1) k))) e ∙ none-any rs 1 0 k ∙ f
 

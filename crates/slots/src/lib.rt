@@ -2,11 +2,12 @@
 use ranges::Found;
 use record::Key;
 ghost use mathlib.Core.Path.{_≡_};
-ghost use Prim.Native.Nat.{_+_, _*_, _≤_};
+ghost use mathlib.Core.Bool.{true, false};
+ghost use Prim.Native.Nat.{_+_, _*_, _≤_, _<_};
 ghost use lib.ListN.{length};
 ghost use Rattle.record.specs.Slot.{slotSize};
 ghost use Rattle.ranges.specs.Ranges.{isNothing};
-ghost use Rattle.slots.specs.Slots.{usedAt, slotsAt, recordsAt, findIn, distinct};
+ghost use Rattle.slots.specs.Slots.{usedAt, slotsAt, recordsAt, findIn, distinct, markOf};
 
 // How many of a body's n slots are used.
 pub fn used_slots(t: &[u8], base: usize, n: usize) -> usize
@@ -62,19 +63,46 @@ fn key_absent(t: &[u8], base: usize, n: usize, key: Key) -> bool
     true
 }
 
-// Whether no key stands twice in the n used slots from base on.
+// The same for a key that the caller knows to be absent, unless it may be there: only then are the slots looked at.
+fn key_new(t: &[u8], base: usize, n: usize, key: Key, maybe: bool) -> bool
+    requires { ⌜ (base + slotSize * n ≤ length (now t)) × (maybe ≡ false → isNothing (findIn (slotsAt (now t) base n) 0 key) ≡ true) ⌝ }
+    ensures { λ r. ⌜ r ≡ isNothing (findIn (slotsAt (now (t .entry)) base n) 0 key) ⌝ }
+{
+    if !maybe {
+        return true;
+    }
+    key_absent(t, base, n, key)
+}
+
+// A key's place in the filter of keys that were seen.
+fn mark_of(k: Key) -> usize
+    ensures { λ r. ⌜ (r ≡ markOf k) × (r < 4096) ⌝ }
+{
+    let number = k.number % 4096;
+    let kind = k.kind % 4096;
+    let esercizio = k.esercizio % 4096;
+    ((number * 2 + kind + esercizio * 613) % 4096) as usize
+}
+
+// Whether no key stands twice in the n used slots from base on. From the last slot to the first: most keys fall on a place
+// that no later one has marked, so that the later slots need not be looked at.
 pub fn keys_distinct(t: &[u8], base: usize, n: usize) -> bool
     requires { ⌜ base + slotSize * n ≤ length (now t) ⌝ }
     ensures { λ r. ⌜ r ≡ distinct (slotsAt (now (t .entry)) base n) ⌝ }
 {
-    let mut at = base;
-    let mut left = n;
-    while 0 < left {
-        left -= 1;
-        if !key_absent(t, at + record::SLOT, left, record::key_at(t, at)) {
+    let mut seen: [u8; 4096] = [0; 4096];
+    let mut later = 0;
+    let mut next = base + record::SLOT * n;
+    while later < n {
+        let at = next - record::SLOT;
+        let key = record::key_at(t, at);
+        let h = mark_of(key);
+        if !key_new(t, next, later, key, seen[h] != 0) {
             return false;
         }
-        at += record::SLOT;
+        seen[h] = 1;
+        later += 1;
+        next = at;
     }
     true
 }
