@@ -13,11 +13,11 @@ use Rattle.words.specs.Numbers.{put}
 use Rattle.words.proofs.Laws.{put-nil, put-put}
 use Rattle.markup.specs.Noted.{Noted}
 use Rattle.record.specs.Slot.{slotSize}
-use Rattle.children.specs.declared.Parent.the-variants.{FlussoOrdinativi}
-use Rattle.children.specs.declared.Kept.{Kept}
-use Rattle.children.specs.declared.Next.{Next}
-use Rattle.children.specs.declared.Next.the-variants.{Named, Done}
-use Rattle.children.specs.Kept.{keptFrom, nextOf}
+use Rattle.rows.specs.declared.Parent.the-variants.{FlussoOrdinativi}
+use Rattle.rows.specs.declared.Kept.{Kept}
+use Rattle.rows.specs.declared.Next.{Next}
+use Rattle.rows.specs.declared.Next.the-variants.{Named, Done}
+use Rattle.rows.specs.Kept.{keptFrom, nextOf}
 use Rattle.order.specs.declared.Order.{Order}
 use Rattle.orders.specs.Orders.{inRow, orderOf, Header}
 use Rattle.orders.proofs.Laws.{row-at, orders-one, orders-end, Order-at, order-at, standing}

@@ -5,8 +5,8 @@ use mathlib.Core.Bool.{true}
 use mathlib.Core.List.{List}
 use lib.ListN.{length}
 use Rattle.markup.specs.Noted.{Noted}
-use Rattle.children.specs.declared.Parent.the-variants.{FlussoOrdinativi}
-use Rattle.children.specs.Kept.{keptFrom}
+use Rattle.rows.specs.declared.Parent.the-variants.{FlussoOrdinativi}
+use Rattle.rows.specs.Kept.{keptFrom}
 use Rattle.structure.specs.Structure.{all, keptHolds, fitsAt}
 use Rattle.order.specs.declared.Order.{Order}
 use Rattle.orders.specs.Orders.{Header, headerIn, ordersIn}

@@ -1,10 +1,10 @@
 // A flow's call, on any bytes at all: the table is checked, then the flow's length, markup, structure and fields, then bank, body and room; then its
 // orders are served one after another.
-use children::Next;
-use children::Parent;
 use digits::Number;
 use flow::Verdict;
 use ranges::Found;
+use rows::Next;
+use rows::Parent;
 use rules::Judged;
 ghost use mathlib.Core.Path.{_≡_};
 ghost use mathlib.Core.Bool.{true};

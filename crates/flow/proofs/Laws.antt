@@ -12,9 +12,9 @@ use Rattle.markup.specs.Markup.{markupOf}
 use Rattle.children.specs.declared.Child.{Child}
 use Rattle.children.specs.declared.Step.{Step}
 use Rattle.children.specs.declared.Step.the-variants.{One, End}
-use Rattle.children.specs.declared.Parent.the-variants.{FlussoOrdinativi}
+use Rattle.rows.specs.declared.Parent.the-variants.{FlussoOrdinativi}
 use Rattle.children.specs.Child.{childAt}
-use Rattle.children.specs.Table.{nameIs}
+use Rattle.rows.specs.Table.{nameIs}
 use Rattle.children.proofs.Laws.{child-lies}
 use Rattle.children.proofs.Whole.{root-child}
 use Rattle.structure.specs.Structure.{fitsAt}

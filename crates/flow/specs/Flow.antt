@@ -9,11 +9,11 @@ use Rattle.tokens.specs.Tokens.{whiteAt}
 use Rattle.markup.specs.Markup.{markupOf}
 use Rattle.children.specs.declared.Step.{Step}
 use Rattle.children.specs.declared.Step.the-variants.{One, End}
-use Rattle.children.specs.declared.Parent.the-variants.{FlussoOrdinativi}
-use Rattle.children.specs.declared.Kept.{Kept}
+use Rattle.rows.specs.declared.Parent.the-variants.{FlussoOrdinativi}
+use Rattle.rows.specs.declared.Kept.{Kept}
 use Rattle.children.specs.Child.{childAt}
-use Rattle.children.specs.Table.{nameIs}
-use Rattle.children.specs.Kept.{keptFrom}
+use Rattle.rows.specs.Table.{nameIs}
+use Rattle.rows.specs.Kept.{keptFrom}
 use Rattle.structure.specs.Structure.{fitsAt, levels}
 use Rattle.readings.specs.declared.Bad.{Bad}
 use Rattle.readings.specs.declared.Bad.the-variants.{Place, Nowhere}

@@ -1,7 +1,7 @@
 // A whole flow: markup, then structure, then fields, each over all of it.
-use children::Parent;
 use children::Step;
 use readings::Bad;
+use rows::Parent;
 use scan::Walk;
 ghost use mathlib.Core.Path.{_≡_};
 ghost use Prim.Native.Nat.{_≤_};
@@ -28,7 +28,7 @@ fn verdict_at(s: &[u8], root: usize, past: &[u32]) -> Verdict
     };
     let a = c.lt + 1;
     let e = c.gt;
-    if !children::is(s, a, e, b"flusso_ordinativi") {
+    if !rows::is(s, a, e, b"flusso_ordinativi") {
         return Verdict::StructureBreaks;
     }
     let at = e + 1;

@@ -17,16 +17,17 @@ use Rattle.fields.specs.declared.Form.{Form}
 use Rattle.codes.specs.Codes.{tipoOperazione}
 use Rattle.digits.specs.Digits.{numero, importo, progressivo}
 use Rattle.dates.specs.Dates.{dataOf}
-use Rattle.children.specs.declared.Parent.{Parent}
-use Rattle.children.specs.declared.Parent.the-variants.{FlussoOrdinativi, Mandato, Reversale, InformazioniBeneficiario, InformazioniVersante, Beneficiario, Versante}
-use Rattle.children.specs.declared.Holds.{Holds}
-use Rattle.children.specs.declared.Holds.the-variants.{Text, Rows}
-use Rattle.children.specs.declared.Kept.{Kept}
-use Rattle.children.specs.declared.Next.{Next}
-use Rattle.children.specs.declared.Next.the-variants.{Named, Done}
-use Rattle.children.specs.Table.{table}
-use Rattle.children.specs.Kept.{keptFrom, nextOf}
-use Rattle.children.proofs.Laws.{Lies, next-at, next-done}
+use Rattle.rows.specs.declared.Parent.{Parent}
+use Rattle.rows.specs.declared.Parent.the-variants.{FlussoOrdinativi, Mandato, Reversale, InformazioniBeneficiario, InformazioniVersante, Beneficiario, Versante}
+use Rattle.rows.specs.declared.Holds.{Holds}
+use Rattle.rows.specs.declared.Holds.the-variants.{Text, Rows}
+use Rattle.rows.specs.declared.Kept.{Kept}
+use Rattle.rows.specs.declared.Next.{Next}
+use Rattle.rows.specs.declared.Next.the-variants.{Named, Done}
+use Rattle.rows.specs.Table.{table}
+use Rattle.rows.specs.Kept.{keptFrom, nextOf}
+use Rattle.children.proofs.Laws.{Lies}
+use Rattle.rows.proofs.Laws.{next-at, next-done}
 use Rattle.structure.specs.Structure.{Range, ranges, all, keptHolds, fitsAt}
 use Rattle.structure.proofs.Laws.{HeldIn, fits-parts, once-done, once-next, all-next, order-last, kept-held}
 use Rattle.order.specs.declared.Line.{Line}

@@ -4,13 +4,13 @@ use mathlib.Core.Path.{_≡_}
 use mathlib.Core.List.{List, []}
 use mathlib.Core.Bool.{true}
 use lib.ListN.{length}
-use Rattle.children.specs.declared.Parent.{Parent}
-use Rattle.children.specs.declared.Parent.the-variants.{Mandato, InformazioniBeneficiario}
-use Rattle.children.specs.declared.Holds.{Holds}
-use Rattle.children.specs.declared.Holds.the-variants.{Text, Rows}
-use Rattle.children.specs.declared.Kept.{Kept}
-use Rattle.children.specs.Table.{table}
-use Rattle.children.specs.Kept.{keptFrom}
+use Rattle.rows.specs.declared.Parent.{Parent}
+use Rattle.rows.specs.declared.Parent.the-variants.{Mandato, InformazioniBeneficiario}
+use Rattle.rows.specs.declared.Holds.{Holds}
+use Rattle.rows.specs.declared.Holds.the-variants.{Text, Rows}
+use Rattle.rows.specs.declared.Kept.{Kept}
+use Rattle.rows.specs.Table.{table}
+use Rattle.rows.specs.Kept.{keptFrom}
 use Rattle.structure.specs.Structure.{Range, ranges, rowsOf, inOrder, all, keptHolds, fitsAt}
 
 -- how many elements each row of a named child's table takes

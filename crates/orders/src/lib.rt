@@ -1,10 +1,6 @@
 // The header and the orders of a flow that stands, as values. Children are read one after the other: the structure says which row each is.
 use calendar::Date;
 use children::Child;
-use children::Holds;
-use children::Kept;
-use children::Next;
-use children::Parent;
 use codes::Asked;
 use codes::Operation;
 use dates::Day;
@@ -12,17 +8,21 @@ use digits::Number;
 use order::Line;
 use order::Lines;
 use order::Order;
+use rows::Holds;
+use rows::Kept;
+use rows::Next;
+use rows::Parent;
 ghost use mathlib.Core.Path.{_≡_};
 ghost use Prim.Native.Nat.{ℕ, _+_, _≤_, _<_};
 ghost use lib.ListN.{length, drop};
 ghost use Rattle.markup.specs.Noted.{Noted};
 ghost use Rattle.tokens.specs.Tokens.{whiteAt};
 ghost use Rattle.scan.specs.Bytes.{part};
-ghost use Rattle.children.specs.declared.Parent.the-variants.{FlussoOrdinativi};
-ghost use Rattle.children.specs.declared.Holds.the-variants.{Rows};
-ghost use Rattle.children.specs.declared.Next.the-variants.{Named, Done};
-ghost use Rattle.children.specs.Table.{table};
-ghost use Rattle.children.specs.Kept.{keptFrom, nextOf};
+ghost use Rattle.rows.specs.declared.Parent.the-variants.{FlussoOrdinativi};
+ghost use Rattle.rows.specs.declared.Holds.the-variants.{Rows};
+ghost use Rattle.rows.specs.declared.Next.the-variants.{Named, Done};
+ghost use Rattle.rows.specs.Table.{table};
+ghost use Rattle.rows.specs.Kept.{keptFrom, nextOf};
 ghost use Rattle.structure.specs.Structure.{ranges};
 ghost use Rattle.orders.specs.Shape.{orderRows, lineRows, Shaped, Filled};
 ghost use Rattle.orders.specs.Orders.{inRow, textIn, valueOf, dateOf, operationOf, lineBy, lineOf, linesIn, kindOf, orderBy, orderOf, ordersIn};
@@ -65,7 +65,7 @@ pub fn next_row(s: &[u8], from: usize, parent: Parent, row: usize, past: &[u32])
 {
     let mut i = from;
     loop {
-        let Next::Named(k) = children::next_named(s, i, parent, past) else {
+        let Next::Named(k) = rows::next_named(s, i, parent, past) else {
             return Next::Done;
         };
         let c = k.child;
@@ -113,7 +113,7 @@ fn first_named(s: &[u8], from: usize, parent: Parent, past: &[u32]) -> Kept
     requires { ⌜ (from ≤ length (now s)) × Noted (now s) (now past) × (nextOf (keptFrom parent (now s) from) ≡ Done → ⊥) ⌝ }
     ensures { λ r. ⌜ nextOf (keptFrom parent (now (s .entry)) from) ≡ Named r ⌝ }
 {
-    match children::next_named(s, from, parent, past) {
+    match rows::next_named(s, from, parent, past) {
         Next::Named(k) => k,
         Next::Done => Kept {
             child: Child {
@@ -172,7 +172,7 @@ fn lines_from(s: &[u8], from: usize, parent: Parent, past: &[u32]) -> Lines
     let mut count: usize = 0;
     let mut i = from;
     while count < 8 {
-        let Next::Named(k) = children::next_named(s, i, parent, past) else {
+        let Next::Named(k) = rows::next_named(s, i, parent, past) else {
             return Lines { count, each };
         };
         let c = k.child;

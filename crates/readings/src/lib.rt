@@ -1,8 +1,8 @@
 // The fields of a flow in document order: the first that breaks, by the place of its `<`.
-use children::Holds;
-use children::Next;
-use children::Parent;
 use fields::Judged;
+use rows::Holds;
+use rows::Next;
+use rows::Parent;
 ghost use mathlib.Core.Path.{_≡_};
 ghost use Prim.Native.Nat.{_+_, _≤_, _<_};
 ghost use lib.ListN.{length};
@@ -25,7 +25,7 @@ pub fn first_bad(s: &[u8], at: usize, parent: Parent, d: usize, past: &[u32]) ->
     }
     let mut i = scan::white_end(s, at);
     loop {
-        let Next::Named(k) = children::next_named(s, i, parent, past) else {
+        let Next::Named(k) = rows::next_named(s, i, parent, past) else {
             return Bad::Nowhere;
         };
         let c = k.child;

@@ -12,12 +12,12 @@ use Rattle.fields.specs.declared.Form.{Form}
 use Rattle.fields.specs.declared.Judged.{Judged}
 use Rattle.fields.specs.declared.Judged.the-variants.{Stands, Breaks}
 use Rattle.fields.specs.Fields.{fieldStands}
-use Rattle.children.specs.declared.Parent.{Parent}
-use Rattle.children.specs.declared.Holds.{Holds}
-use Rattle.children.specs.declared.Holds.the-variants.{Text, Rows}
-use Rattle.children.specs.declared.Kept.{Kept}
-use Rattle.children.specs.Table.{table}
-use Rattle.children.specs.Kept.{keptFrom}
+use Rattle.rows.specs.declared.Parent.{Parent}
+use Rattle.rows.specs.declared.Holds.{Holds}
+use Rattle.rows.specs.declared.Holds.the-variants.{Text, Rows}
+use Rattle.rows.specs.declared.Kept.{Kept}
+use Rattle.rows.specs.Table.{table}
+use Rattle.rows.specs.Kept.{keptFrom}
 use Rattle.structure.specs.Structure.{ranges, textOnly, holdsAt, keptHolds, fitsAt}
 use Rattle.structure.specs.Walk.{filledFrom, countedOf}
 use Rattle.structure.proofs.Walk.{deeper, fits-none, fits-level, goesOn, goes-end, goes-short, goes-other, goes-on}

@@ -7,7 +7,7 @@ use Rattle.fields.specs.declared.Form.{Form}
 use Rattle.fields.specs.declared.Judged.{Judged}
 use Rattle.fields.specs.declared.Judged.the-variants.{Stands, Breaks}
 use Rattle.fields.specs.Fields.{fieldStands}
-use Rattle.children.specs.declared.Parent.{Parent}
+use Rattle.rows.specs.declared.Parent.{Parent}
 use Rattle.structure.specs.Structure.{textOnly, fitsAt}
 use Rattle.readings.specs.declared.Bad.{Bad}
 use Rattle.readings.specs.declared.Bad.the-variants.{Place, Nowhere}

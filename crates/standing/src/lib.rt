@@ -1,9 +1,9 @@
 // Whether a flow's content stands, in one walk: structure and fields together. Where it does not, `structure` and `readings` say what breaks.
-use children::Holds;
-use children::Next;
-use children::Parent;
 use fields::Form;
 use fields::Judged;
+use rows::Holds;
+use rows::Next;
+use rows::Parent;
 ghost use mathlib.Core.Path.{_≡_};
 ghost use Prim.Native.Nat.{_+_, _≤_, _<_};
 ghost use lib.ListN.{length};
@@ -36,7 +36,7 @@ pub fn stands(s: &[u8], at: usize, parent: Parent, d: usize, past: &[u32]) -> bo
     let mut row: usize = 0;
     let mut n: usize = 0;
     loop {
-        let Next::Named(k) = children::next_named(s, i, parent, past) else {
+        let Next::Named(k) = rows::next_named(s, i, parent, past) else {
             return structure::filled(parent, row, n, structure::rows(parent));
         };
         let c = k.child;

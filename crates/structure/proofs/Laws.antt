@@ -13,17 +13,17 @@ use Rattle.scan.proofs.Laws.{both}
 use Rattle.tokens.specs.Tokens.{whiteAt}
 use Rattle.fields.specs.declared.Form.{Form}
 use Rattle.children.specs.declared.Child.{Child}
-use Rattle.children.specs.declared.Parent.{Parent}
-use Rattle.children.specs.declared.Holds.{Holds}
-use Rattle.children.specs.declared.Holds.the-variants.{Text, Rows}
-use Rattle.children.specs.declared.Spot.{Spot}
-use Rattle.children.specs.declared.Spot.the-variants.{At, Passed}
-use Rattle.children.specs.declared.Kept.{Kept}
-use Rattle.children.specs.declared.Next.the-variants as next
+use Rattle.rows.specs.declared.Parent.{Parent}
+use Rattle.rows.specs.declared.Holds.{Holds}
+use Rattle.rows.specs.declared.Holds.the-variants.{Text, Rows}
+use Rattle.rows.specs.declared.Spot.{Spot}
+use Rattle.rows.specs.declared.Spot.the-variants.{At, Passed}
+use Rattle.rows.specs.declared.Kept.{Kept}
+use Rattle.rows.specs.declared.Next.the-variants as next
 use Rattle.children.specs.Child.{childrenFrom}
-use Rattle.children.specs.Table.{Named, _is_, Row, table, nameIs, among, spotIn}
-use Rattle.children.specs.Kept.{keepOne, keep, keptFrom, nextOf}
-use Rattle.children.proofs.Laws.{next-at, next-done}
+use Rattle.rows.specs.Table.{Named, _is_, Row, table, nameIs, among, spotIn}
+use Rattle.rows.specs.Kept.{keepOne, keep, keptFrom, nextOf}
+use Rattle.rows.proofs.Laws.{next-at, next-done}
 use Rattle.structure.specs.Structure.{isNil, all, Range, ranges, takes, rowsOf, isRow, inOrder, textOnly, keptHolds, fitBy, fitsAt}
 
 no : {A : Type 0} → _≡_ {A = Bool} false true → A

@@ -12,13 +12,13 @@ use borrow.Author.Tests.{eq-eqb, ne-eqb, le-leb, lt-leb, leb-true, leb-false}
 use Rattle.scan.specs.Bytes.{run}
 use Rattle.tokens.specs.Tokens.{whiteAt}
 use Rattle.children.specs.declared.Child.{Child}
-use Rattle.children.specs.declared.Parent.{Parent}
-use Rattle.children.specs.declared.Parent.the-variants.{FlussoOrdinativi, Mandato, Reversale, InformazioniBeneficiario, InformazioniVersante, Beneficiario, Versante}
+use Rattle.rows.specs.declared.Parent.{Parent}
+use Rattle.rows.specs.declared.Parent.the-variants.{FlussoOrdinativi, Mandato, Reversale, InformazioniBeneficiario, InformazioniVersante, Beneficiario, Versante}
 use Rattle.children.specs.declared.Step.the-variants.{One, End}
-use Rattle.children.specs.declared.Kept.{Kept}
+use Rattle.rows.specs.declared.Kept.{Kept}
 use Rattle.children.specs.Child.{childAt}
-use Rattle.children.specs.Table.{table}
-use Rattle.children.specs.Kept.{keptFrom}
+use Rattle.rows.specs.Table.{table}
+use Rattle.rows.specs.Kept.{keptFrom}
 use Rattle.children.proofs.Laws.{children-end, children-one}
 use Rattle.structure.specs.Structure.{isNil, all, Range, ranges, takes, allows, rowsOf, isRow, inOrder, textOnly, keptHolds, fitBy, fitsAt}
 use Rattle.structure.specs.Walk.{upTo, filledBy, filledFrom, countedOf}

@@ -6,13 +6,13 @@ use lib.ListN.{drop}
 use lib.Dec.{eqb}
 use Rattle.scan.specs.Bytes.{between, run}
 use Rattle.tokens.specs.Tokens.{whiteAt}
-use Rattle.children.specs.declared.Parent.{Parent}
-use Rattle.children.specs.declared.Holds.{Holds}
-use Rattle.children.specs.declared.Holds.the-variants.{Text, Rows}
-use Rattle.children.specs.declared.Kept.{Kept}
+use Rattle.rows.specs.declared.Parent.{Parent}
+use Rattle.rows.specs.declared.Holds.{Holds}
+use Rattle.rows.specs.declared.Holds.the-variants.{Text, Rows}
+use Rattle.rows.specs.declared.Kept.{Kept}
 use Rattle.children.specs.Child.{childrenFrom}
-use Rattle.children.specs.Table.{Row, table}
-use Rattle.children.specs.Kept.{keptFrom}
+use Rattle.rows.specs.Table.{Row, table}
+use Rattle.rows.specs.Kept.{keptFrom}
 
 abbrev pub isNil : {A : Type 0} → List A → Bool
 isNil [] = true

@@ -1,13 +1,13 @@
 // The structure of a flow: at each level one walk over the named children, their order and number and what each holds.
-use children::Holds;
-use children::Next;
-use children::Parent;
 use children::Step;
+use rows::Holds;
+use rows::Next;
+use rows::Parent;
 ghost use mathlib.Core.Path.{_≡_};
 ghost use Prim.Native.Nat.{_+_, _≤_, _<_};
 ghost use lib.ListN.{length};
 ghost use Rattle.markup.specs.Noted.{Noted};
-ghost use Rattle.children.specs.Table.{table};
+ghost use Rattle.rows.specs.Table.{table};
 ghost use Rattle.structure.specs.Structure.{ranges, allows, textOnly, fitsAt};
 ghost use Rattle.structure.specs.Walk.{upTo, filledFrom, countedOf};
 
@@ -106,7 +106,7 @@ pub fn fits(s: &[u8], at: usize, parent: Parent, d: usize, past: &[u32]) -> bool
     let mut row: usize = 0;
     let mut n: usize = 0;
     loop {
-        let Next::Named(k) = children::next_named(s, i, parent, past) else {
+        let Next::Named(k) = rows::next_named(s, i, parent, past) else {
             return filled(parent, row, n, rows(parent));
         };
         let c = k.child;

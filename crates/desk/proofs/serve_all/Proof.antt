@@ -3,9 +3,9 @@ use Prim.Native.Nat.{_-_}
 use native.Mathlib.Omega.{arith}
 use borrow.Author.Needs.{needs}
 use lib.ListN.{length}
-use Rattle.children.specs.declared.Parent.the-variants.{FlussoOrdinativi}
-use Rattle.children.specs.declared.Next.the-variants.{Named}
-use Rattle.children.specs.Kept.{keptFrom, nextOf}
+use Rattle.rows.specs.declared.Parent.the-variants.{FlussoOrdinativi}
+use Rattle.rows.specs.declared.Next.the-variants.{Named}
+use Rattle.rows.specs.Kept.{keptFrom, nextOf}
 use Rattle.orders.specs.Orders.{inRow}
 use Rattle.desk.proofs.Laws.{Serving, serving-start, serving-end, serving-order, serving-room, serving-step}
 use Rattle.desk.proofs.serve_all.Statement.{statement}

@@ -1,7 +1,7 @@
 use mathlib.Core.Path.{_≡_, sym, _∙_}
 use native.Mathlib.Omega.{arith}
-use Rattle.children.specs.declared.Next.the-variants.{Named, Done}
-use Rattle.children.specs.Kept.{keptFrom, nextOf}
+use Rattle.rows.specs.declared.Next.the-variants.{Named, Done}
+use Rattle.rows.specs.Kept.{keptFrom, nextOf}
 use Rattle.orders.specs.Orders.{inRow, textIn}
 use Rattle.orders.proofs.Laws.{row-at}
 use borrow.Author.Needs.{needs}

@@ -1,7 +1,7 @@
 use mathlib.Core.Path.{sym, ap, _∙_}
 use native.Mathlib.Omega.{arith}
 use Rattle.digits.specs.Digits.{progressivo, importo}
-use Rattle.children.specs.Kept.{keptFrom}
+use Rattle.rows.specs.Kept.{keptFrom}
 use Rattle.orders.specs.Orders.{valueOf}
 use Rattle.orders.proofs.Laws.{found, found-some, line-made}
 use borrow.Author.Needs.{needs}

@@ -1,5 +1,5 @@
 use mathlib.Core.Path.{_≡_}
-use Rattle.children.specs.declared.Holds.the-variants.{Rows}
+use Rattle.rows.specs.declared.Holds.the-variants.{Rows}
 use Rattle.orders.specs.Shape.{lineRows}
 use Rattle.orders.proofs.Laws.{one, shaped-some, shaped-inside, line-inside}
 use lib.ListN.{drop}

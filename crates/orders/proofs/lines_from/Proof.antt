@@ -2,8 +2,8 @@ use mathlib.Core.Path.{_≡_, sym, _∙_}
 use Prim.Native.Nat.{_-_}
 use native.Mathlib.Omega.{arith}
 use borrow.Author.Needs.{needs}
-use Rattle.children.specs.declared.Next.the-variants.{Named}
-use Rattle.children.specs.Kept.{keptFrom, nextOf}
+use Rattle.rows.specs.declared.Next.the-variants.{Named}
+use Rattle.rows.specs.Kept.{keptFrom, nextOf}
 use Rattle.orders.proofs.Laws.{Lining, lining-start, lining-end, lining-full, lining-shaped, lining-step}
 use Rattle.orders.proofs.lines_from.Statement.{statement}
 use Rattle.orders.proofs.lines_from.Tie as tie

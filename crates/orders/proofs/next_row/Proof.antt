@@ -3,9 +3,9 @@ use Prim.Native.Nat.{_-_, _≤_}
 use native.Mathlib.Omega.{arith}
 use borrow.Author.Needs.{needs}
 use lib.ListN.{length}
-use Rattle.children.specs.declared.Next.the-variants.{Named}
-use Rattle.children.specs.Kept.{keptFrom, nextOf}
-use Rattle.children.proofs.Laws.{next-at}
+use Rattle.rows.specs.declared.Next.the-variants.{Named}
+use Rattle.rows.specs.Kept.{keptFrom, nextOf}
+use Rattle.rows.proofs.Laws.{next-at}
 use Rattle.orders.specs.Orders.{inRow}
 use Rattle.orders.proofs.Laws.{row-done, row-other, row-one}
 use Rattle.orders.proofs.next_row.Statement.{statement}

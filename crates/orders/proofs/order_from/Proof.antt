@@ -3,8 +3,8 @@ use native.Mathlib.Omega.{arith}
 use Rattle.codes.specs.Codes.{tipoOperazione}
 use Rattle.digits.specs.Digits.{numero, importo}
 use Rattle.dates.specs.Dates.{dataOf}
-use Rattle.children.specs.declared.Holds.the-variants.{Rows}
-use Rattle.children.specs.Kept.{keptFrom}
+use Rattle.rows.specs.declared.Holds.the-variants.{Rows}
+use Rattle.rows.specs.Kept.{keptFrom}
 use Rattle.orders.specs.Orders.{operationOf, valueOf, dateOf, kindOf}
 use Rattle.orders.proofs.Laws.{found, found-some, lines-same, order-made}
 use borrow.Author.Needs.{needs}

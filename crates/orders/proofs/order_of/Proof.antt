@@ -1,6 +1,6 @@
 use mathlib.Core.Path.{_≡_}
 use lib.ListN.{drop}
-use Rattle.children.specs.declared.Holds.the-variants.{Rows}
+use Rattle.rows.specs.declared.Holds.the-variants.{Rows}
 use Rattle.orders.specs.Shape.{orderRows}
 use Rattle.orders.proofs.Laws.{one, shaped-some, shaped-inside, order-inside}
 use borrow.Author.Needs.{needs}

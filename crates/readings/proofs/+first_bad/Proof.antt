@@ -7,10 +7,10 @@ use Rattle.scan.specs.Bytes.{isWhite}
 use Rattle.scan.proofs.Laws.{run-within}
 use Rattle.fields.specs.declared.Judged.the-variants.{Stands, Breaks}
 use Rattle.fields.specs.Fields.{fieldStands}
-use Rattle.children.specs.declared.Next.the-variants.{Named, Done}
-use Rattle.children.specs.declared.Holds.the-variants.{Text, Rows}
-use Rattle.children.specs.Kept.{keptFrom, nextOf}
-use Rattle.children.proofs.Laws.{next-at, next-done}
+use Rattle.rows.specs.declared.Next.the-variants.{Named, Done}
+use Rattle.rows.specs.declared.Holds.the-variants.{Text, Rows}
+use Rattle.rows.specs.Kept.{keptFrom, nextOf}
+use Rattle.rows.proofs.Laws.{next-at, next-done}
 use Rattle.readings.specs.declared.Bad.the-variants.{Place, Nowhere}
 use Rattle.readings.specs.Readings.{textOf, fieldsBy, fieldsAt, firstBad}
 use Rattle.readings.proofs.Laws.{below, fields-none, fields-level, bad-nil, bad-text-stands, bad-text-breaks, bad-rows-stand, bad-rows-break}
@@ -20,7 +20,7 @@ use borrow.Fn.PlainCycle.{Measures, is, falls, and}
 use Rattle.readings.proofs.first_bad.Reads as first-bad
 use Rattle.readings.proofs.first_bad.Kinds as first-bad-kinds
 use Rattle.readings.proofs.+first_bad.Lts-first_bad as first-bad-lts
-use Rattle.children.proofs.next_named.Reads as next-named-reads
+use Rattle.rows.proofs.next_named.Reads as next-named-reads
 use Rattle.fields.proofs.field_stands.Reads as field-stands-reads
 use Rattle.scan.proofs.white_end.Reads as white-end-reads
 use Rattle.readings.proofs.+first_bad.{statement}

@@ -7,10 +7,10 @@ use borrow.Author.Tests.{not-true, not-false}
 use lib.ListN.{length}
 use Rattle.scan.specs.Bytes.{isWhite}
 use Rattle.scan.proofs.Laws.{run-within}
-use Rattle.children.specs.declared.Next.the-variants.{Named, Done}
-use Rattle.children.specs.Table.{table}
-use Rattle.children.specs.Kept.{keptFrom, nextOf}
-use Rattle.children.proofs.Laws.{next-at, next-done}
+use Rattle.rows.specs.declared.Next.the-variants.{Named, Done}
+use Rattle.rows.specs.Table.{table}
+use Rattle.rows.specs.Kept.{keptFrom, nextOf}
+use Rattle.rows.proofs.Laws.{next-at, next-done}
 use Rattle.structure.specs.Structure.{ranges, keptHolds, fitsAt}
 use Rattle.structure.specs.Walk.{filledFrom}
 use Rattle.structure.proofs.Laws.{kept-row, holds-text, holds-rows}
@@ -21,7 +21,7 @@ use borrow.Fn.PlainCycle.{Measures, is, falls, and}
 use Rattle.structure.proofs.fits.Reads as fits
 use Rattle.structure.proofs.fits.Kinds as fits-kinds
 use Rattle.structure.proofs.+fits.Lts-fits as fits-lts
-use Rattle.children.proofs.next_named.Reads as next-named-reads
+use Rattle.rows.proofs.next_named.Reads as next-named-reads
 use Rattle.scan.proofs.white_end.Reads as white-end-reads
 use Rattle.structure.proofs.counted.Reads as counted-reads
 use Rattle.structure.proofs.filled.Reads as filled-reads

@@ -3,7 +3,7 @@ use Prim.Native.Nat.{_-_, _≤_}
 use native.Mathlib.Omega.{arith}
 use borrow.Author.Needs.{needs}
 use borrow.Author.Tests.{not-true, not-false}
-use Rattle.children.specs.Table.{table}
+use Rattle.rows.specs.Table.{table}
 use Rattle.structure.specs.Structure.{ranges}
 use Rattle.structure.specs.Walk.{filledFrom}
 use Rattle.structure.proofs.Walk.{filled-back, filled-end, filled-not, filled-more}

@@ -1,15 +1,15 @@
 -- The children that a parent names.
 use Prim.Native.Nat.{ℕ, _+_}
 use mathlib.Core.List.{List, [], _∷_}
 use Rattle.children.specs.declared.Child.{Child}
-use Rattle.children.specs.declared.Parent.{Parent}
-use Rattle.children.specs.declared.Spot.{Spot}
-use Rattle.children.specs.declared.Spot.the-variants.{At, Passed}
-use Rattle.children.specs.declared.Kept.{Kept}
-use Rattle.children.specs.declared.Next.{Next}
-use Rattle.children.specs.declared.Next.the-variants.{Named, Done}
+use Rattle.rows.specs.declared.Parent.{Parent}
+use Rattle.rows.specs.declared.Spot.{Spot}
+use Rattle.rows.specs.declared.Spot.the-variants.{At, Passed}
+use Rattle.rows.specs.declared.Kept.{Kept}
+use Rattle.rows.specs.declared.Next.{Next}
+use Rattle.rows.specs.declared.Next.the-variants.{Named, Done}
 use Rattle.children.specs.Child.{childrenFrom}
-use Rattle.children.specs.Table.{table, spotIn}
+use Rattle.rows.specs.Table.{table, spotIn}
 
 abbrev pub keepOne : Spot → Child → List Kept → List Kept
 keepOne (At n h) c ks = record { child = c; row = n; holds = h } ∷ ks

@@ -1,6 +1,6 @@
 use borrow.Author.Needs.{needs}
-use Rattle.children.proofs.spot_of.Statement.{statement}
-use Rattle.children.proofs.spot_of.Tie as tie
+use Rattle.rows.proofs.spot_of.Statement.{statement}
+use Rattle.rows.proofs.spot_of.Tie as tie
 
 enum-told : tie.Need-enum-told
 enum-told c = search needs

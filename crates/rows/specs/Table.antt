@@ -7,12 +7,12 @@ use lib.ListN.{length}
 use lib.Dec.{eqb}
 use Rattle.scan.specs.Bytes.{bytes, hasAt}
 use Rattle.fields.specs.declared.Form.the-variants.{CodiceAbi, Identificativo, DataOra, CodiceEnte, Esercizio, TipoOperazione, Numero, Data, Importo, Progressivo, Anagrafica}
-use Rattle.children.specs.declared.Parent.{Parent}
-use Rattle.children.specs.declared.Parent.the-variants.{FlussoOrdinativi, Mandato, Reversale, InformazioniBeneficiario, InformazioniVersante, Beneficiario, Versante}
-use Rattle.children.specs.declared.Holds.{Holds}
-use Rattle.children.specs.declared.Holds.the-variants.{Text, Rows}
-use Rattle.children.specs.declared.Spot.{Spot}
-use Rattle.children.specs.declared.Spot.the-variants.{At, Passed}
+use Rattle.rows.specs.declared.Parent.{Parent}
+use Rattle.rows.specs.declared.Parent.the-variants.{FlussoOrdinativi, Mandato, Reversale, InformazioniBeneficiario, InformazioniVersante, Beneficiario, Versante}
+use Rattle.rows.specs.declared.Holds.{Holds}
+use Rattle.rows.specs.declared.Holds.the-variants.{Text, Rows}
+use Rattle.rows.specs.declared.Spot.{Spot}
+use Rattle.rows.specs.declared.Spot.the-variants.{At, Passed}
 
 -- a name, and what the element of that name holds: the text of a field, or the named children of a parent
 infix 20 _is_

@@ -1,8 +1,8 @@
 use borrow.Author.Tests.{eq-eqb, ne-eqb}
-use Rattle.children.specs.Table.{nameIs}
+use Rattle.rows.specs.Table.{nameIs}
 use borrow.Author.Needs.{needs}
-use Rattle.children.proofs.is.Statement.{statement}
-use Rattle.children.proofs.is.Tie as tie
+use Rattle.rows.proofs.is.Statement.{statement}
+use Rattle.rows.proofs.is.Tie as tie
 
 sub-if1 : tie.Need-sub-if1
 sub-if1 c = search needs

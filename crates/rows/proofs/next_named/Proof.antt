@@ -3,14 +3,15 @@ use Prim.Native.Nat.{_+_, _-_, _≤_}
 use native.Mathlib.Omega.{arith}
 use borrow.Author.Needs.{needs}
 use lib.ListN.{length}
 use Rattle.children.specs.declared.Step.the-variants.{One}
-use Rattle.children.specs.declared.Spot.the-variants.{At, Passed}
+use Rattle.rows.specs.declared.Spot.the-variants.{At, Passed}
 use Rattle.children.specs.Child.{childAt}
-use Rattle.children.specs.Table.{table, spotIn}
-use Rattle.children.specs.Kept.{keptFrom, nextOf}
-use Rattle.children.proofs.Laws.{child-lies, kept-end, kept-passed, kept-at}
-use Rattle.children.proofs.next_named.Statement.{statement}
-use Rattle.children.proofs.next_named.Tie as tie
+use Rattle.rows.specs.Table.{table, spotIn}
+use Rattle.rows.specs.Kept.{keptFrom, nextOf}
+use Rattle.children.proofs.Laws.{child-lies}
+use Rattle.rows.proofs.Laws.{kept-end, kept-passed, kept-at}
+use Rattle.rows.proofs.next_named.Statement.{statement}
+use Rattle.rows.proofs.next_named.Tie as tie
 
 abbrev Inv-loop : tie.InvT-loop
 Inv-loop s from parent past i₀ i = (i ≤ length s) × (keptFrom parent s from ≡ keptFrom parent s i)

@@ -1,0 +1,223 @@
+// The rows of document 01's structure table: which of an element's children its parent names.
+use children::Child;
+use children::Step;
+use fields::Form;
+ghost use mathlib.Core.Path.{_≡_};
+ghost use Prim.Native.Nat.{_+_, _≤_, _<_};
+ghost use lib.ListN.{length};
+ghost use Rattle.markup.specs.Noted.{Noted};
+ghost use Rattle.rows.specs.Table.{nameIs, table, spotIn};
+ghost use Rattle.rows.specs.Kept.{keptFrom, nextOf};
+
+// The parents of document 01's table.
+pub enum Parent {
+    FlussoOrdinativi,
+    Mandato,
+    Reversale,
+    InformazioniBeneficiario,
+    InformazioniVersante,
+    Beneficiario,
+    Versante,
+}
+
+// What a named child holds.
+pub enum Holds {
+    Text(Form),
+    Rows(Parent),
+}
+
+// The row of its parent's table that a name stands in.
+pub enum Spot {
+    At(usize, Holds),
+    Passed,
+}
+
+// A child that its parent names.
+pub struct Kept {
+    pub child: Child,
+    pub row: usize,
+    pub holds: Holds,
+}
+
+pub enum Next {
+    Named(Kept),
+    Done,
+}
+
+// Whether the name from a up to e is x.
+pub fn is(s: &[u8], a: usize, e: usize, x: &[u8]) -> bool
+    requires { ⌜ (a ≤ e) × (e ≤ length (now s)) ⌝ }
+    ensures { λ r. ⌜ r ≡ nameIs (now (x .entry)) (now (s .entry)) a e ⌝ }
+{
+    if e - a != x.len() {
+        return false;
+    }
+    scan::has(s, a, x)
+}
+
+fn flusso_spot(s: &[u8], a: usize, e: usize) -> Spot
+    requires { ⌜ (a ≤ e) × (e ≤ length (now s)) ⌝ }
+    ensures { λ r. ⌜ r ≡ spotIn (table Parent.FlussoOrdinativi) 0 (now (s .entry)) a e ⌝ }
+{
+    if is(s, a, e, b"codice_ABI_BT") {
+        return Spot::At(0, Holds::Text(Form::CodiceAbi));
+    }
+    if is(s, a, e, b"identificativo_flusso") {
+        return Spot::At(1, Holds::Text(Form::Identificativo));
+    }
+    if is(s, a, e, b"data_ora_creazione_flusso") {
+        return Spot::At(2, Holds::Text(Form::DataOra));
+    }
+    if is(s, a, e, b"codice_ente_BT") {
+        return Spot::At(3, Holds::Text(Form::CodiceEnte));
+    }
+    if is(s, a, e, b"esercizio") {
+        return Spot::At(4, Holds::Text(Form::Esercizio));
+    }
+    if is(s, a, e, b"mandato") {
+        return Spot::At(5, Holds::Rows(Parent::Mandato));
+    }
+    if is(s, a, e, b"reversale") {
+        return Spot::At(5, Holds::Rows(Parent::Reversale));
+    }
+    Spot::Passed
+}
+
+fn mandato_spot(s: &[u8], a: usize, e: usize) -> Spot
+    requires { ⌜ (a ≤ e) × (e ≤ length (now s)) ⌝ }
+    ensures { λ r. ⌜ r ≡ spotIn (table Parent.Mandato) 0 (now (s .entry)) a e ⌝ }
+{
+    if is(s, a, e, b"tipo_operazione") {
+        return Spot::At(0, Holds::Text(Form::TipoOperazione));
+    }
+    if is(s, a, e, b"numero_mandato") {
+        return Spot::At(1, Holds::Text(Form::Numero));
+    }
+    if is(s, a, e, b"data_mandato") {
+        return Spot::At(2, Holds::Text(Form::Data));
+    }
+    if is(s, a, e, b"importo_mandato") {
+        return Spot::At(3, Holds::Text(Form::Importo));
+    }
+    if is(s, a, e, b"informazioni_beneficiario") {
+        return Spot::At(4, Holds::Rows(Parent::InformazioniBeneficiario));
+    }
+    Spot::Passed
+}
+
+fn reversale_spot(s: &[u8], a: usize, e: usize) -> Spot
+    requires { ⌜ (a ≤ e) × (e ≤ length (now s)) ⌝ }
+    ensures { λ r. ⌜ r ≡ spotIn (table Parent.Reversale) 0 (now (s .entry)) a e ⌝ }
+{
+    if is(s, a, e, b"tipo_operazione") {
+        return Spot::At(0, Holds::Text(Form::TipoOperazione));
+    }
+    if is(s, a, e, b"numero_reversale") {
+        return Spot::At(1, Holds::Text(Form::Numero));
+    }
+    if is(s, a, e, b"data_reversale") {
+        return Spot::At(2, Holds::Text(Form::Data));
+    }
+    if is(s, a, e, b"importo_reversale") {
+        return Spot::At(3, Holds::Text(Form::Importo));
+    }
+    if is(s, a, e, b"informazioni_versante") {
+        return Spot::At(4, Holds::Rows(Parent::InformazioniVersante));
+    }
+    Spot::Passed
+}
+
+fn informazioni_beneficiario_spot(s: &[u8], a: usize, e: usize) -> Spot
+    requires { ⌜ (a ≤ e) × (e ≤ length (now s)) ⌝ }
+    ensures { λ r. ⌜ r ≡ spotIn (table Parent.InformazioniBeneficiario) 0 (now (s .entry)) a e ⌝ }
+{
+    if is(s, a, e, b"progressivo_beneficiario") {
+        return Spot::At(0, Holds::Text(Form::Progressivo));
+    }
+    if is(s, a, e, b"importo_beneficiario") {
+        return Spot::At(1, Holds::Text(Form::Importo));
+    }
+    if is(s, a, e, b"beneficiario") {
+        return Spot::At(2, Holds::Rows(Parent::Beneficiario));
+    }
+    Spot::Passed
+}
+
+fn informazioni_versante_spot(s: &[u8], a: usize, e: usize) -> Spot
+    requires { ⌜ (a ≤ e) × (e ≤ length (now s)) ⌝ }
+    ensures { λ r. ⌜ r ≡ spotIn (table Parent.InformazioniVersante) 0 (now (s .entry)) a e ⌝ }
+{
+    if is(s, a, e, b"progressivo_versante") {
+        return Spot::At(0, Holds::Text(Form::Progressivo));
+    }
+    if is(s, a, e, b"importo_versante") {
+        return Spot::At(1, Holds::Text(Form::Importo));
+    }
+    if is(s, a, e, b"versante") {
+        return Spot::At(2, Holds::Rows(Parent::Versante));
+    }
+    Spot::Passed
+}
+
+fn beneficiario_spot(s: &[u8], a: usize, e: usize) -> Spot
+    requires { ⌜ (a ≤ e) × (e ≤ length (now s)) ⌝ }
+    ensures { λ r. ⌜ r ≡ spotIn (table Parent.Beneficiario) 0 (now (s .entry)) a e ⌝ }
+{
+    if is(s, a, e, b"anagrafica_beneficiario") {
+        return Spot::At(0, Holds::Text(Form::Anagrafica));
+    }
+    Spot::Passed
+}
+
+fn versante_spot(s: &[u8], a: usize, e: usize) -> Spot
+    requires { ⌜ (a ≤ e) × (e ≤ length (now s)) ⌝ }
+    ensures { λ r. ⌜ r ≡ spotIn (table Parent.Versante) 0 (now (s .entry)) a e ⌝ }
+{
+    if is(s, a, e, b"anagrafica_versante") {
+        return Spot::At(0, Holds::Text(Form::Anagrafica));
+    }
+    Spot::Passed
+}
+
+// Where a name stands in its parent's table.
+pub fn spot_of(s: &[u8], a: usize, e: usize, parent: Parent) -> Spot
+    requires { ⌜ (a ≤ e) × (e ≤ length (now s)) ⌝ }
+    ensures { λ r. ⌜ r ≡ spotIn (table parent) 0 (now (s .entry)) a e ⌝ }
+{
+    match parent {
+        Parent::FlussoOrdinativi => flusso_spot(s, a, e),
+        Parent::Mandato => mandato_spot(s, a, e),
+        Parent::Reversale => reversale_spot(s, a, e),
+        Parent::InformazioniBeneficiario => informazioni_beneficiario_spot(s, a, e),
+        Parent::InformazioniVersante => informazioni_versante_spot(s, a, e),
+        Parent::Beneficiario => beneficiario_spot(s, a, e),
+        Parent::Versante => versante_spot(s, a, e),
+    }
+}
+
+// The first child from a place on that the parent names.
+pub fn next_named(s: &[u8], from: usize, parent: Parent, past: &[u32]) -> Next
+    requires { ⌜ (from ≤ length (now s)) × Noted (now s) (now past) ⌝ }
+    ensures { λ r. ⌜ r ≡ nextOf (keptFrom parent (now (s .entry)) from) ⌝ }
+{
+    let mut i = from;
+    loop {
+        let Step::One(c) = children::child_at(s, i, past) else {
+            return Next::Done;
+        };
+        let a = c.lt + 1;
+        let e = c.gt;
+        match spot_of(s, a, e, parent) {
+            Spot::At(n, h) => {
+                return Next::Named(Kept {
+                    child: c,
+                    row: n,
+                    holds: h,
+                });
+            }
+            Spot::Passed => {
+                i = c.after;
+            }
+        }
+    }
+}
