@@ -17,7 +17,7 @@ fn slot_ok(t: &[u8], at: usize) -> bool
     if !record::rest_zero(t, at) {
         return false;
     }
-    valid::record_ok(record::record_at(t, at))
+    valid::record_ok_at(t, at)
 }
 
 fn slots_ok(t: &[u8], base: usize, n: usize) -> bool

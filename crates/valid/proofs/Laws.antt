@@ -1,11 +1,11 @@
 -- Laws of tests one after the other, and of a record's lines, one at a time.
-use Prim.Native.Nat.{ℕ, zero, suc, _+_, _-_, _≤_, _<_}
+use Prim.Native.Nat.{ℕ, suc, _+_, _-_, _≤_, _<_}
 use mathlib.Core.Bool.{Bool, true, false, _&&_}
 use mathlib.Core.List.{List}
 use mathlib.Core.Path.{_≡_, refl, sym, ap, _∙_}
 use native.Mathlib.Omega.{arith}
 use native.Mathlib.Numerals.{add-one}
-use lib.ListN.{length, getD, drop, drop-of-length-le}
+use lib.ListN.{length, getD, drop}
 use lib.Seq.{drop-cons}
 use lib.Dec.{eqb}
 use borrow.Author.Tests.{eq-eqb, ne-eqb, eqb-true, eqb-false}
@@ -49,7 +49,3 @@ module _ (a : List ℕ) (i rest : ℕ) where
 
   pub sum-go : i < length a → getD a i 0 ≤ rest → eqb (sum (drop i a)) rest ≡ eqb (sum (drop (i + 1) a)) (rest - getD a i 0)
   sum-go h p = same-test (sum (drop i a)) rest (sum (drop (i + 1) a)) (rest - getD a i 0) (λ q. omega (arith, sum-more h)) (λ q. omega (arith, sum-more h))
-
-  pub sum-done : length a ≤ i → eqb (sum (drop i a)) rest ≡ eqb 0 rest
-  unfolding sum
-  sum-done h = rw (drop-of-length-le a h)

@@ -25,7 +25,7 @@ pub record Bounds (r : Record) : Type 0 where
   pub date : Ranges (r .date)
   pub total : r .total ≤ maxCents
 
-ranges-bounds : (r : Record) → rangesOk r ≡ true → Bounds r
+pub ranges-bounds : (r : Record) → rangesOk r ≡ true → Bounds r
 unfolding rangesOk
 ranges-bounds r e =
     let a = both (between 1 2 (r .kind)) _ e in

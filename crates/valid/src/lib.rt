@@ -1,21 +1,25 @@
-// When a record is valid by itself: its ranges, its eight lines, and their sum.
-use record::Record;
+// When the record in a slot is valid by itself: its ranges, its eight lines, and their sum. All is read where the bytes stand.
+use calendar::Date;
 ghost use mathlib.Core.Path.{_≡_};
 ghost use mathlib.Core.Bool.{_&&_, cond};
-ghost use Prim.Native.Nat.{_<_};
+ghost use Prim.Native.Nat.{_+_, _-_, _*_, _≤_, _<_};
+ghost use lib.ListN.{length, getD, drop};
 ghost use lib.Dec.{eqb};
+ghost use Rattle.words.specs.Numbers.{be8};
+ghost use Rattle.calendar.specs.Calendar.{isDate};
+ghost use Rattle.record.specs.Slot.{slotSize, dateAt, recordAt};
 ghost use Rattle.valid.specs.Valid.{lineThere, lineAbsent, lineOk, allFrom, sum, rangesOk, recordOk};
+
+fn wide(x: u8) -> u64
+    ensures { λ r. ⌜ (r ≡ x) × (r < 256) ⌝ }
+{
+    x as u64
+}
 
 fn both(a: bool, b: bool) -> bool
     ensures { λ r. ⌜ r ≡ (a && b) ⌝ }
 {
     if a { b } else { false }
-}
-
-fn pick(c: bool, a: bool, b: bool) -> bool
-    ensures { λ r. ⌜ r ≡ cond c a b ⌝ }
-{
-    if c { a } else { b }
 }
 
 fn top_state(annulled: bool) -> u8
@@ -33,74 +37,38 @@ fn line_there(annulled: bool, state: u8, amount: u64) -> bool
     )
 }
 
-fn line_absent(state: u8, amount: u64) -> bool
-    ensures { λ r. ⌜ r ≡ lineAbsent state amount ⌝ }
+fn date_ok(t: &[u8], at: usize) -> bool
+    requires { ⌜ at + 4 ≤ length (now t) ⌝ }
+    ensures { λ b. ⌜ b ≡ isDate (dateAt (now (t .entry)) at) ⌝ }
 {
-    both(state == 0, amount == 0)
+    calendar::is_date(Date {
+        year: words::read2(t, at),
+        month: wide(t[at + 2]),
+        day: wide(t[at + 3]),
+    })
 }
 
-fn line_ok(r: Record, k: usize) -> bool
-    requires { ⌜ k < 8 ⌝ }
-    ensures { λ b. ⌜ b ≡ lineOk r k ⌝ }
+fn ranges_ok(t: &[u8], at: usize) -> bool
+    requires { ⌜ at + slotSize ≤ length (now t) ⌝ }
+    ensures { λ b. ⌜ b ≡ rangesOk (recordAt (now (t .entry)) at) ⌝ }
 {
-    let states = r.states;
-    let amounts = r.amounts;
-    let state = states[k];
-    let amount = amounts[k];
-    let lines = r.lines as usize;
-    pick(
-        k < lines,
-        line_there(r.state == 2, state, amount),
-        line_absent(state, amount),
-    )
-}
-
-fn lines_ok(r: Record) -> bool
-    ensures { λ b. ⌜ b ≡ allFrom (lineOk r) 0 8 ⌝ }
-{
-    let mut k = 0;
-    let mut left: usize = 8;
-    while 0 < left {
-        if !line_ok(r, k) {
-            return false;
-        }
-        k += 1;
-        left -= 1;
-    }
-    true
-}
-
-// Whether the numbers sum to total, with no sum that could wrap.
-fn sums_to(a: &[u64], total: u64) -> bool
-    ensures { λ r. ⌜ r ≡ eqb (sum (now (a .entry))) total ⌝ }
-{
-    let mut rest = total;
-    let mut line = 0;
-    while line < a.len() {
-        if rest < a[line] {
-            return false;
-        }
-        rest -= a[line];
-        line += 1;
-    }
-    0 == rest
-}
-
-fn ranges_ok(r: Record) -> bool
-    ensures { λ b. ⌜ b ≡ rangesOk r ⌝ }
-{
-    let date = r.date;
+    let kind = t[at];
+    let state = t[at + 1];
+    let lines = t[at + 2];
+    let esercizio = words::read2(t, at + 4);
+    let number = words::read4(t, at + 8);
+    let total = words::read8(t, at + 16);
     both(
-        both(1 <= r.kind, r.kind <= 2),
+        both(1 <= kind, kind <= 2),
         both(
-            both(1 <= r.state, r.state <= 2),
+            both(1 <= state, state <= 2),
             both(
-                both(1 <= r.lines, r.lines <= 8),
+                both(1 <= lines, lines <= 8),
                 both(
-                    both(2000 <= r.esercizio, r.esercizio <= 2099),
+                    both(2000 <= esercizio, esercizio <= 2099),
                     both(
-                        both(1 <= r.number, r.number <= 9999999),
-                        both(calendar::is_date(date), r.total <= 99999999999),
+                        both(1 <= number, number <= 9999999),
+                        both(date_ok(t, at + 12), total <= 99999999999),
                     ),
                 ),
             ),
@@ -108,9 +76,64 @@ fn ranges_ok(r: Record) -> bool
     )
 }
 
-pub fn record_ok(r: Record) -> bool
-    ensures { λ b. ⌜ b ≡ recordOk r ⌝ }
+// Whether a line holds nothing. The amount is read only after the state, so that each test is one compare where it stands.
+fn line_absent(t: &[u8], at: usize, k: usize) -> bool
+    requires { ⌜ (at + slotSize ≤ length (now t)) × (k < 8) ⌝ }
+    ensures { λ r. ⌜ r ≡ lineAbsent (getD (now (t .entry)) (at + 24 + k) 0) (be8 (now (t .entry)) (at + 32 + 8 * k)) ⌝ }
 {
-    let amounts = r.amounts;
-    both(ranges_ok(r), both(lines_ok(r), sums_to(&amounts, r.total)))
+    if t[at + 24 + k] != 0 {
+        return false;
+    }
+    words::read8(t, at + 32 + 8 * k) == 0
+}
+
+// Whether the lines past the record's number of lines all hold nothing.
+fn lines_absent(t: &[u8], at: usize, lines: usize) -> bool
+    requires { ⌜ (at + slotSize ≤ length (now t)) × (lines ≤ 8) × (lines ≡ recordAt (now t) at .lines) ⌝ }
+    ensures { λ b. ⌜ b ≡ allFrom (lineOk (recordAt (now (t .entry)) at)) lines (8 - lines) ⌝ }
+{
+    let mut k = lines;
+    while k < 8 {
+        if !line_absent(t, at, k) {
+            return false;
+        }
+        k += 1;
+    }
+    true
+}
+
+// Whether the lines that are there are right and sum to the total, with no sum that could wrap; the others hold nothing.
+fn lines_there(t: &[u8], at: usize, lines: usize) -> bool
+    requires { ⌜ (at + slotSize ≤ length (now t)) × (lines ≤ 8) × (lines ≡ recordAt (now t) at .lines) × (sum (drop lines (recordAt (now t) at .amounts)) ≡ 0) ⌝ }
+    ensures { λ b. ⌜ b ≡ (allFrom (lineOk (recordAt (now (t .entry)) at)) 0 lines && eqb (sum (recordAt (now (t .entry)) at .amounts)) (recordAt (now (t .entry)) at .total)) ⌝ }
+{
+    let annulled = t[at + 1] == 2;
+    let mut rest = words::read8(t, at + 16);
+    let mut k = 0;
+    while k < lines {
+        let amount = words::read8(t, at + 32 + 8 * k);
+        if !line_there(annulled, t[at + 24 + k], amount) {
+            return false;
+        }
+        if rest < amount {
+            return false;
+        }
+        rest -= amount;
+        k += 1;
+    }
+    0 == rest
+}
+
+pub fn record_ok_at(t: &[u8], at: usize) -> bool
+    requires { ⌜ at + slotSize ≤ length (now t) ⌝ }
+    ensures { λ b. ⌜ b ≡ recordOk (recordAt (now (t .entry)) at) ⌝ }
+{
+    if !ranges_ok(t, at) {
+        return false;
+    }
+    let lines = wide(t[at + 2]) as usize;
+    if !lines_absent(t, at, lines) {
+        return false;
+    }
+    lines_there(t, at, lines)
 }

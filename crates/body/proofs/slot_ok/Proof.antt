@@ -1,7 +1,6 @@
-use mathlib.Core.Path.{sym, ap, _∙_}
+use mathlib.Core.Path.{sym, _∙_}
 use borrow.Author.Tests.{not-true, not-false}
 use Rattle.record.specs.Slot.{restZero}
-use Rattle.valid.specs.Valid.{recordOk}
 use Rattle.valid.proofs.Laws.{and-stop, and-go}
 use Rattle.body.proofs.Laws.{slot-rest}
 use borrow.Author.Needs.{needs}
@@ -14,15 +13,12 @@ rest-zero-requires c κs = search needs
 returns : tie.Need-returns
 returns c = sym (and-stop (restZero (c .before .before .before .args .t .now) (c .before .before .before .args .at)) _ (slot-rest (c .before .before .before .args .t .now) (c .before .before .before .args .at)) (sym (c .before .rest-zero .ensures) ∙ not-true _ (c .if1 .taken)))
 
-record-at-requires : tie.Need-record-at-requires
-record-at-requires c κs = search needs
-
-record-ok-requires : tie.Need-record-ok-requires
-record-ok-requires c κs = search needs
+record-ok-at-requires : tie.Need-record-ok-at-requires
+record-ok-at-requires c κs = search needs
 
 returns-2 : tie.Need-returns-2
-returns-2 c = c .record-ok .ensures ∙ ap recordOk (c .before .record-at .ensures) ∙ sym (and-go (restZero (c .before .before .before .before .before .args .t .now) (c .before .before .before .before .before .args .at)) _ (slot-rest (c .before .before .before .before .before .args .t .now) (c .before .before .before .before .before .args .at)) (sym (c .before .before .before .rest-zero .ensures) ∙ not-false _ (c .before .before .if1 .left)))
+returns-2 c = c .record-ok-at .ensures ∙ sym (and-go (restZero (c .before .before .before .before .args .t .now) (c .before .before .before .before .args .at)) _ (slot-rest (c .before .before .before .before .args .t .now) (c .before .before .before .before .args .at)) (sym (c .before .before .rest-zero .ensures) ∙ not-false _ (c .before .if1 .left)))
 
 pub slot-ok-spec : {M : Type 1} → statement M
 slot-ok-spec =
-    tie.close (tie.spec rest-zero-requires returns record-at-requires record-ok-requires returns-2)
+    tie.close (tie.spec rest-zero-requires returns record-ok-at-requires returns-2)
