@@ -11,8 +11,8 @@ use Rattle.service.specs.Service.{orderComes, orderLeaves, outcomeBytes, allOut
 use Rattle.desk.specs.declared.FlowAnswer.{FlowAnswer}
 use Rattle.desk.specs.declared.FlowAnswer.the-variants.{InvalidTable, TooLong, BrokenMarkup, BrokenStructure, BrokenField, OtherBank, UnknownBody, NoRoom, Taken}
 use Rattle.desk.specs.Desk.{Reading, refused, served, flowReads, flowAnswer, flowTable, flowOutcomes, flowCode, flowOrdersOf, flowAccepted}
-use Rattle.desk.specs.Served.{Gives}
-use Rattle.desk.proofs.Laws.{outcome-length}
+use Rattle.desk.specs.Steps.{Gives}
+use Rattle.serving.proofs.Laws.{outcome-length}
 
 -- what `take_flow` promises of its answer and of the two buffers afterwards
 abbrev pub Promise : List ℕ → List ℕ → List ℕ → FlowAnswer → List ℕ → List ℕ → Type 0

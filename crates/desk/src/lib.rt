@@ -1,25 +1,20 @@
 // A flow's call, on any bytes at all: the table is checked, then the flow's length, markup, structure and fields, then bank, body and room; then its
-// orders are served one after another.
+// orders are served.
 use digits::Number;
 use flow::Verdict;
 use ranges::Found;
-use rows::Next;
 use rows::Parent;
-use rules::Judged;
 ghost use mathlib.Core.Path.{_≡_};
 ghost use mathlib.Core.Bool.{true};
 ghost use Prim.Native.Nat.{ℕ, _+_, _*_, _≤_, _<_};
 ghost use lib.ListN.{length};
-ghost use Rattle.words.specs.Numbers.{put};
-ghost use Rattle.record.specs.Slot.{slotSize};
 ghost use Rattle.markup.specs.Noted.{Noted};
 ghost use Rattle.table.specs.Table.{bodies, tableOk};
 ghost use Rattle.flow.specs.declared.Verdict.the-variants.{Stands};
 ghost use Rattle.flow.specs.Flow.{verdictOf, headerOf, flowOrders};
-ghost use Rattle.rules.specs.Rules.{codeOf};
-ghost use Rattle.service.specs.Service.{one, allLeave, allOutcomes, allAccepted};
 ghost use Rattle.desk.specs.Desk.{forBank, maxFlow, flowReads, flowAnswer, flowTable, flowOutcomes};
-ghost use Rattle.desk.specs.Served.{headerFrom, ordersFrom, Rooted, roomFor, bodyFor, Gives};
+ghost use Rattle.serving.specs.Served.{ordersFrom, Rooted};
+ghost use Rattle.desk.specs.Steps.{headerFrom, roomFor, bodyFor, Gives};
 
 // What a flow's call answers.
 pub enum FlowAnswer {
@@ -32,56 +27,6 @@ pub enum FlowAnswer {
     UnknownBody,
     NoRoom,
     Taken(usize, usize),
-}
-
-// An order's code, for its outcome bytes.
-fn code_of(j: Judged) -> u8
-    ensures { λ r. ⌜ r ≡ codeOf j ⌝ }
-{
-    match j {
-        Judged::Accepted(_) => 0,
-        Judged::Refused(c) => c,
-    }
-}
-
-fn one_of(j: Judged) -> usize
-    ensures { λ r. ⌜ (r ≡ one j) × (r ≤ 1) ⌝ }
-{
-    match j {
-        Judged::Accepted(_) => 1,
-        Judged::Refused(_) => 0,
-    }
-}
-
-// Serves the orders from a place of the root's children on, each on the table that the one before left: how many were accepted.
-fn serve_all(
-    t: &mut [u8],
-    f: &[u8],
-    from: usize,
-    base: usize,
-    n: usize,
-    year: u64,
-    out: &mut [u8],
-    past: &[u32],
-) -> usize
-    requires { ⌜ (base + slotSize * n ≤ length (now t)) × Rooted (now f) (now past) from × (16 * length (ordersFrom (now f) from) ≤ length (now out)) ⌝ }
-    ensures { λ r. ⌜ (r ≡ allAccepted (now (t .entry)) base n year (ordersFrom (now (f .entry)) from)) × (now (t .exit) ≡ allLeave (now (t .entry)) base n year (ordersFrom (now (f .entry)) from)) × (now (out .exit) ≡ put (now (out .entry)) 0 (allOutcomes (now (t .entry)) base n year (ordersFrom (now (f .entry)) from))) ⌝ }
-{
-    let mut i = from;
-    let mut to: usize = 0;
-    let mut accepted: usize = 0;
-    loop {
-        let Next::Named(k) = orders::next_row(f, i, Parent::FlussoOrdinativi, 5, past) else {
-            return accepted;
-        };
-        let c = k.child;
-        let o = orders::order_of(f, k, past);
-        let j = service::serve_order(t, base, n, year, o);
-        service::put_outcome(out, to, o, code_of(j));
-        accepted += one_of(j);
-        to += 16;
-        i = c.after;
-    }
 }
 
 // The flow's esercizio.
@@ -115,7 +60,10 @@ fn with_room(
     let e = table::HEAD + entries::ENTRY * b;
     let base = entries::place_of(t, e);
     let n = entries::slots_of(t, e);
-    FlowAnswer::Taken(count, serve_all(t, f, from, base, n, year, out, past))
+    FlowAnswer::Taken(
+        count,
+        serving::serve_all(t, f, from, base, n, year, out, past),
+    )
 }
 
 // The orders of a flow, for the body with the flow's code: 7, or as the room says.

@@ -2,7 +2,8 @@ use native.Mathlib.Omega.{arith}
 use borrow.Author.Tests.{not-true, not-false}
 use Rattle.table.proofs.Laws.{head, table}
 use Rattle.flow.proofs.Laws.{flow-stood}
-use Rattle.desk.specs.Served.{headerFrom, ordersFrom}
+use Rattle.serving.specs.Served.{ordersFrom}
+use Rattle.desk.specs.Steps.{headerFrom}
 use Rattle.desk.proofs.Laws.{bank-other, bank-own, bank-from, bank-rooted}
 use borrow.Author.Needs.{needs}
 use Rattle.desk.proofs.for_bank.Statement.{statement}

@@ -1,6 +1,7 @@
 use mathlib.Core.Path.{sym, _∙_}
 use Rattle.table.proofs.Bodies.{found-body}
-use Rattle.desk.specs.Served.{headerFrom, ordersFrom}
+use Rattle.serving.specs.Served.{ordersFrom}
+use Rattle.desk.specs.Steps.{headerFrom}
 use Rattle.desk.proofs.Laws.{body-none, body-found}
 use borrow.Author.Needs.{needs}
 use Rattle.desk.proofs.for_body.Statement.{statement}

@@ -1,7 +1,9 @@
 use native.Mathlib.Omega.{arith}
 use borrow.Author.Needs.{needs}
-use Rattle.desk.specs.Served.{headerFrom, ordersFrom}
-use Rattle.desk.proofs.Laws.{orders-few, body-placed, room-none, room-served}
+use Rattle.serving.specs.Served.{ordersFrom}
+use Rattle.desk.specs.Steps.{headerFrom}
+use Rattle.serving.proofs.Laws.{orders-few}
+use Rattle.desk.proofs.Laws.{body-placed, room-none, room-served}
 use Rattle.desk.proofs.with_room.Statement.{statement}
 use Rattle.desk.proofs.with_room.Tie as tie
 

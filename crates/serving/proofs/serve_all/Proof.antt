@@ -7,9 +7,9 @@ use Rattle.rows.specs.declared.Parent.the-variants.{FlussoOrdinativi}
 use Rattle.rows.specs.declared.Next.the-variants.{Named}
 use Rattle.rows.specs.Kept.{keptFrom, nextOf}
 use Rattle.orders.specs.Orders.{inRow}
-use Rattle.desk.proofs.Laws.{Serving, serving-start, serving-end, serving-order, serving-room, serving-step}
-use Rattle.desk.proofs.serve_all.Statement.{statement}
-use Rattle.desk.proofs.serve_all.Tie as tie
+use Rattle.serving.proofs.Laws.{Serving, serving-start, serving-end, serving-order, serving-room, serving-step}
+use Rattle.serving.proofs.serve_all.Statement.{statement}
+use Rattle.serving.proofs.serve_all.Tie as tie
 
 abbrev Inv-loop : tie.InvT-loop
 Inv-loop t₀ f from base n year out₀ past i₀ to₀ accepted₀ t out i to accepted = Serving f past base n year t₀ out₀ from t out i to accepted

@@ -1,33 +1,20 @@
 -- What the steps of a flow's call give, for the contracts of the functions that take them.
-use Prim.Native.Nat.{ℕ, _≤_}
+use Prim.Native.Nat.{ℕ}
 use mathlib.Core.Path.{_≡_}
-use mathlib.Core.Bool.{true}
 use mathlib.Core.List.{List}
-use lib.ListN.{length}
-use Rattle.markup.specs.Noted.{Noted}
 use Rattle.rows.specs.declared.Parent.the-variants.{FlussoOrdinativi}
 use Rattle.rows.specs.Kept.{keptFrom}
-use Rattle.structure.specs.Structure.{all, keptHolds, fitsAt}
 use Rattle.order.specs.declared.Order.{Order}
-use Rattle.orders.specs.Orders.{Header, headerIn, ordersIn}
+use Rattle.orders.specs.Orders.{Header, headerIn}
 use Rattle.entries.specs.Entry.{slotsOf, placeOf}
 use Rattle.table.specs.Table.{bodyOf, entryOf}
 use Rattle.notices.specs.Notices.{bodyAt}
 use Rattle.desk.specs.declared.FlowAnswer.{FlowAnswer}
 use Rattle.desk.specs.Desk.{Reading, withRoom, forBody, flowAnswer, flowTable, flowOutcomes}
 
--- the header and the orders of the root's children from a place on
+-- the header of the root's children from a place on
 abbrev pub headerFrom : List ℕ → ℕ → Header
 headerFrom f from = headerIn f (keptFrom FlussoOrdinativi f from)
-
-abbrev pub ordersFrom : List ℕ → ℕ → List Order
-ordersFrom f from = ordersIn f (keptFrom FlussoOrdinativi f from)
-
--- the root's children from a place on each hold what their row says, and the notes are true
-pub record Rooted (f past : List ℕ) (from : ℕ) : Type 0 where
-  pub within : from ≤ length f
-  pub holds : all (keptHolds (λ q a. fitsAt 3 q f a) f) (keptFrom FlussoOrdinativi f from) ≡ true
-  pub noted : Noted f past
 
 -- the reading for body b of the table, and for the body with the header's code
 abbrev pub roomFor : List ℕ → ℕ → Header → List Order → ℕ → Reading

@@ -1,0 +1,62 @@
+// A flow's orders served one after another, each on the table that the one before left, and its outcome written.
+use rows::Next;
+use rows::Parent;
+use rules::Judged;
+ghost use mathlib.Core.Path.{_≡_};
+ghost use Prim.Native.Nat.{_+_, _*_, _≤_};
+ghost use lib.ListN.{length};
+ghost use Rattle.words.specs.Numbers.{put};
+ghost use Rattle.record.specs.Slot.{slotSize};
+ghost use Rattle.rules.specs.Rules.{codeOf};
+ghost use Rattle.service.specs.Service.{one, allLeave, allOutcomes, allAccepted};
+ghost use Rattle.serving.specs.Served.{ordersFrom, Rooted};
+
+// An order's code, for its outcome bytes.
+fn code_of(j: Judged) -> u8
+    ensures { λ r. ⌜ r ≡ codeOf j ⌝ }
+{
+    match j {
+        Judged::Accepted(_) => 0,
+        Judged::Refused(c) => c,
+    }
+}
+
+fn one_of(j: Judged) -> usize
+    ensures { λ r. ⌜ (r ≡ one j) × (r ≤ 1) ⌝ }
+{
+    match j {
+        Judged::Accepted(_) => 1,
+        Judged::Refused(_) => 0,
+    }
+}
+
+// Serves the orders from a place of the root's children on, each on the table that the one before left: how many were accepted.
+pub fn serve_all(
+    t: &mut [u8],
+    f: &[u8],
+    from: usize,
+    base: usize,
+    n: usize,
+    year: u64,
+    out: &mut [u8],
+    past: &[u32],
+) -> usize
+    requires { ⌜ (base + slotSize * n ≤ length (now t)) × Rooted (now f) (now past) from × (16 * length (ordersFrom (now f) from) ≤ length (now out)) ⌝ }
+    ensures { λ r. ⌜ (r ≡ allAccepted (now (t .entry)) base n year (ordersFrom (now (f .entry)) from)) × (now (t .exit) ≡ allLeave (now (t .entry)) base n year (ordersFrom (now (f .entry)) from)) × (now (out .exit) ≡ put (now (out .entry)) 0 (allOutcomes (now (t .entry)) base n year (ordersFrom (now (f .entry)) from))) ⌝ }
+{
+    let mut i = from;
+    let mut to: usize = 0;
+    let mut accepted: usize = 0;
+    loop {
+        let Next::Named(k) = orders::next_row(f, i, Parent::FlussoOrdinativi, 5, past) else {
+            return accepted;
+        };
+        let c = k.child;
+        let o = orders::order_of(f, k, past);
+        let j = service::serve_order(t, base, n, year, o);
+        service::put_outcome(out, to, o, code_of(j));
+        accepted += one_of(j);
+        to += 16;
+        i = c.after;
+    }
+}
