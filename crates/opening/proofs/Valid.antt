@@ -23,8 +23,10 @@ use Rattle.entries.proofs.Same.{part-agree, slots-agree, form-agree, Rows, code
 use Rattle.entries.proofs.Same.Rows.{none, row}
 use Rattle.table.specs.Table.{headSize, maxLength, bodies, abiOf, headOk, entryOk, layoutOk, bodiesOk, tableOk, codesOf, entryOf}
 use Rattle.table.proofs.Bodies.{body-at}
-use Rattle.opening.specs.Opening.{firstBody, asked, slotsAsked, needed, requestOk, headBytes, entryBytes, entriesBytes, opened}
-use Rattle.opening.proofs.Laws.{request, needed-long, length-part, length-head, length-entry, length-entries}
+use Rattle.request.specs.Request.{firstBody, asked, slotsAsked, needed, requestOk}
+use Rattle.opening.specs.Opening.{headBytes, entryBytes, entriesBytes, opened}
+use Rattle.request.proofs.Laws.{request, needed-long}
+use Rattle.opening.proofs.Laws.{length-part, length-head, length-entry, length-entries}
 
 -- WHERE A LIST'S PARTS STAND
 

@@ -1,82 +1,18 @@
-// Opening a table: the request judged first, then every byte of the buffer written, or none.
-use ranges::Class;
+// Opening a table: every byte of the buffer written where the request is right and the length fits, or none.
 ghost use mathlib.Core.Path.{_≡_};
 ghost use mathlib.Core.Bool.{true};
 ghost use Prim.Native.Nat.{_+_, _*_, _≤_};
 ghost use lib.ListN.{length, replicate};
 ghost use Rattle.words.specs.Numbers.{put};
 ghost use Rattle.entries.specs.Entry.{requestSize};
-ghost use Rattle.opening.specs.Opening.{firstBody, asked, slotsAsked, needed, bodiesAskedOk, requestOk, headBytes, entryBytes, entriesBytes, opened, openOf, openTable};
+ghost use Rattle.request.specs.Request.{firstBody, asked, needed, requestOk};
+ghost use Rattle.opening.specs.Opening.{headBytes, entryBytes, entriesBytes, opened, openOf, openTable};
 
 // What opening answers.
 pub enum Opened {
     Open,
     WrongRequest,
     WrongLength,
-}
-
-// The ABI digits come first in a request, then the bodies.
-const FIRST: usize = 5;
-
-// The slots of the n bodies asked for, together.
-fn slots_asked(q: &[u8], n: usize) -> usize
-    requires { ⌜ (n ≤ 16) × (firstBody + requestSize * n ≤ length (now q)) ⌝ }
-    ensures { λ r. ⌜ (r ≡ slotsAsked (now (q .entry)) firstBody n) × (r ≤ 65535 * n) ⌝ }
-{
-    let mut at = FIRST;
-    let mut left = n;
-    let mut sum: usize = 0;
-    while 0 < left {
-        sum += entries::slots_of(q, at);
-        at += entries::REQUEST;
-        left -= 1;
-    }
-    sum
-}
-
-// The length of the table that n bodies need.
-fn length_for(q: &[u8], n: usize) -> usize
-    requires { ⌜ (n ≡ asked (now q)) × (n ≤ 16) × (firstBody + requestSize * n ≤ length (now q)) ⌝ }
-    ensures { λ r. ⌜ r ≡ needed (now (q .entry)) ⌝ }
-{
-    table::HEAD + entries::ENTRY * n + record::SLOT * slots_asked(q, n)
-}
-
-// Whether a request of n bodies is right but for its length and count.
-fn bodies_ok(q: &[u8], n: usize) -> bool
-    requires { ⌜ (n ≡ asked (now q)) × (n ≤ 16) × (firstBody + requestSize * n ≡ length (now q)) ⌝ }
-    ensures { λ r. ⌜ r ≡ bodiesAskedOk (now (q .entry)) ⌝ }
-{
-    if !entries::forms_ok(q, FIRST, entries::REQUEST, n) {
-        return false;
-    }
-    if !entries::codes_distinct(q, FIRST, entries::REQUEST, n) {
-        return false;
-    }
-    length_for(q, n) <= 65536
-}
-
-fn request_ok(q: &[u8]) -> bool
-    ensures { λ r. ⌜ r ≡ requestOk (now (q .entry)) ⌝ }
-{
-    if q.len() < FIRST {
-        return false;
-    }
-    if !ranges::are_of(q, 0, FIRST, Class::Digits) {
-        return false;
-    }
-    let rest = q.len() - FIRST;
-    if rest % entries::REQUEST != 0 {
-        return false;
-    }
-    let n = rest / entries::REQUEST;
-    if n < 1 {
-        return false;
-    }
-    if 16 < n {
-        return false;
-    }
-    bodies_ok(q, n)
 }
 
 fn clear(t: &mut [u8])
@@ -96,7 +32,7 @@ fn put_head(t: &mut [u8], q: &[u8], n: usize)
 {
     words::write2(t, 0, n as u64);
     words::write2(t, 2, 1);
-    words::write4(t, 4, length_for(q, n) as u64);
+    words::write4(t, 4, request::length_for(q, n) as u64);
     words::copy_in(t, 8, &q[0..5]);
     let rest = [0u8; 3];
     words::copy_in(t, 13, &rest);
@@ -120,7 +56,7 @@ fn put_entries(t: &mut [u8], q: &[u8], n: usize)
     ensures { λ _. ⌜ now (t .exit) ≡ put (now (t .entry)) 16 (entriesBytes (now (q .entry)) firstBody n (16 + 32 * n)) ⌝ }
 {
     let mut to = table::HEAD;
-    let mut at = FIRST;
+    let mut at = request::FIRST;
     let mut p = table::HEAD + entries::ENTRY * n;
     let mut left = n;
     while 0 < left {
@@ -146,11 +82,11 @@ fn fill(t: &mut [u8], q: &[u8], n: usize)
 pub fn open_table(q: &[u8], t: &mut [u8]) -> Opened
     ensures { λ r. ⌜ (r ≡ openOf (now (q .entry)) (length (now (t .entry)))) × (now (t .exit) ≡ openTable r (now (q .entry)) (now (t .entry))) ⌝ }
 {
-    if !request_ok(q) {
+    if !request::request_ok(q) {
         return Opened::WrongRequest;
     }
-    let n = (q.len() - FIRST) / entries::REQUEST;
-    if t.len() != length_for(q, n) {
+    let n = (q.len() - request::FIRST) / entries::REQUEST;
+    if t.len() != request::length_for(q, n) {
         return Opened::WrongLength;
     }
     fill(t, q, n);

@@ -43,7 +43,7 @@ use Rattle.notices.specs.Notices.{bodyAt, addressed, noticed, noticeBy, noticeT
 use Rattle.desk.specs.declared.FlowAnswer.{FlowAnswer}
 use Rattle.desk.specs.declared.FlowAnswer.the-variants.{TooLong, BrokenMarkup, BrokenStructure, BrokenField, OtherBank, UnknownBody, NoRoom, Taken}
 use Rattle.desk.specs.Desk.{Reading, refused, served, forBody, forFlow, maxFlow, flowReads, flowAnswer, flowTable, flowOutcomes, flowCode}
-use Rattle.opening.specs.Opening.{firstBody, asked, requestOk}
+use Rattle.request.specs.Request.{firstBody, asked, requestOk}
 use Rattle.theorems.specs.Condition3.{Call, flow, execute, reverse, totals, Answer, ofFlow, ofNotice, ofTotals, answer, after, codeOf, namesIn, place, position, who}
 use Rattle.theorems.proofs.Good.{Good, base, size, Alike, abi-is, find-is, place-is, slots-is, ready}
 

@@ -18,8 +18,9 @@ use Rattle.ranges.specs.declared.Found.the-variants.{At, Nothing}
 use Rattle.entries.specs.Entry.{requestSize, codeAt, codesFrom, findCode}
 use Rattle.entries.proofs.Codes.{found-code, found-own}
 use Rattle.table.specs.Table.{tableOk}
-use Rattle.opening.specs.Opening.{firstBody, asked, requestOk, opened}
-use Rattle.opening.proofs.Laws.{request}
+use Rattle.request.specs.Request.{firstBody, asked, requestOk}
+use Rattle.opening.specs.Opening.{opened}
+use Rattle.request.proofs.Laws.{request}
 use Rattle.isolation.specs.Machine.{Isolated, Laws, run}
 use Rattle.isolation.proofs.Runs.{good-run}
 use Rattle.isolation.proofs.Isolated.{isolated}

@@ -23,7 +23,8 @@ use Rattle.table.proofs.Bodies.{body-at, apart}
 use Rattle.table.proofs.Kept.{Contents, same-bodies, same-abi, same-find, same-slots, same-place, same-table}
 use Rattle.service.proofs.Kept.{Kept}
 use Rattle.service.proofs.Own.{Ready}
-use Rattle.opening.specs.Opening.{firstBody, asked, requestOk, opened}
+use Rattle.request.specs.Request.{firstBody, asked, requestOk}
+use Rattle.opening.specs.Opening.{opened}
 use Rattle.opening.proofs.Valid.{opened-bodies, opened-abi, opened-codes, opened-valid}
 use Rattle.theorems.specs.Condition3.{records}
 

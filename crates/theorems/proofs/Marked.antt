@@ -13,7 +13,8 @@ use Rattle.slots.specs.Slots.{usedAt, slotsAt, findIn, distinct}
 use Rattle.body.specs.Body.{slotOk, slotsOk, bodyOk}
 use Rattle.entries.specs.Entry.{codeAt, slotsOf, placeOf, formOk, codesFrom, findCode, distinctCodes}
 use Rattle.table.specs.Table.{headOk, entryOk, layoutOk, bodiesOk, tableOk}
-use Rattle.opening.specs.Opening.{asked, slotsAsked, needed, headBytes as headAsked, entryBytes, entriesBytes, opened}
+use Rattle.request.specs.Request.{asked, slotsAsked, needed}
+use Rattle.opening.specs.Opening.{headBytes as headAsked, entryBytes, entriesBytes, opened}
 use Rattle.lines.specs.Lines.{numberedFrom, sumOf, lineCode}
 use Rattle.rules.specs.Rules.{amountsOf, anyExecuted, situationIn, situationOf, placed, stepped, judgeOrder, written, lineMoves, noticeIn, noticeAt, judgeNotice}
 use Rattle.service.specs.Service.{orderComes, orderStored, outcomeBytes, allOutcomes, noticeComes}

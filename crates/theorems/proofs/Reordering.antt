@@ -5,7 +5,7 @@ use mathlib.Core.Path.{_≡_}
 use mathlib.Core.List.{List}
 use Rattle.isolation.specs.Order.{mine, strays, inOrder}
 use Rattle.isolation.proofs.OrderLaws.{mine-inOrder, strays-inOrder}
-use Rattle.opening.specs.Opening.{asked}
+use Rattle.request.specs.Request.{asked}
 use Rattle.theorems.specs.Condition3.{Call, who}
 
 module _ (q : List ℕ) (cs : List Call) where

@@ -19,7 +19,8 @@ use Rattle.slots.specs.Slots.{usedAt, slotsAt, findIn, distinct}
 use Rattle.body.specs.Body.{slotOk, slotsOk, bodyOk}
 use Rattle.entries.specs.Entry.{codeAt, slotsOf, placeOf, formOk, codesFrom, findCode, distinctCodes}
 use Rattle.table.specs.Table.{entryOf, headOk, entryOk, layoutOk, bodiesOk, tableOk}
-use Rattle.opening.specs.Opening.{asked, slotsAsked, needed, headBytes as headAsked, entryBytes, entriesBytes, opened}
+use Rattle.request.specs.Request.{asked, slotsAsked, needed}
+use Rattle.opening.specs.Opening.{headBytes as headAsked, entryBytes, entriesBytes, opened}
 use Rattle.order.specs.declared.Order.{Order}
 use Rattle.rules.specs.declared.Judged.{Judged}
 use Rattle.rules.specs.declared.Judged.the-variants.{Refused}

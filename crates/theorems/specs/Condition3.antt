@@ -21,7 +21,7 @@ use Rattle.notices.specs.declared.TotalsAnswer.{TotalsAnswer}
 use Rattle.notices.specs.Notices.{noticeAnswer, noticeTable, noticeCodeOf, totalsOf}
 use Rattle.desk.specs.declared.FlowAnswer.{FlowAnswer}
 use Rattle.desk.specs.Desk.{maxFlow, flowReads, flowAnswer, flowTable, flowOutcomes, flowCode}
-use Rattle.opening.specs.Opening.{firstBody, asked}
+use Rattle.request.specs.Request.{firstBody, asked}
 use Rattle.isolation.specs.Machine.{Machine}
 
 -- THE CALLS

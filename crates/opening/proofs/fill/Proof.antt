@@ -1,5 +1,6 @@
 use native.Mathlib.Omega.{arith}
-use Rattle.opening.proofs.Laws.{request, needed-long, filled}
+use Rattle.request.proofs.Laws.{request, needed-long}
+use Rattle.opening.proofs.Laws.{filled}
 use borrow.Author.Needs.{needs}
 use Rattle.opening.proofs.fill.Statement.{statement}
 use Rattle.opening.proofs.fill.Tie as tie

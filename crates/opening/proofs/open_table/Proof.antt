@@ -2,16 +2,17 @@ use mathlib.Core.Path.{_≡_, refl, sym, _∙_}
 use mathlib.Core.Bool.{true}
 use native.Mathlib.Omega.{arith}
 use borrow.Author.Tests.{not-true, not-false}
-use Rattle.opening.specs.Opening.{asked, requestOk}
-use Rattle.opening.proofs.Laws.{request, open-not, open-other, open-done}
+use Rattle.request.specs.Request.{asked, requestOk}
+use Rattle.request.proofs.Laws.{request}
+use Rattle.opening.proofs.Laws.{open-not, open-other, open-done}
 use borrow.Author.Needs.{needs}
 use Rattle.opening.proofs.open_table.Statement.{statement}
 use Rattle.opening.proofs.open_table.Tie as tie
 use Rattle.opening.proofs.open_table.Reads as reads
 use Rattle.opening.proofs.open_table.Lts as lts
 use Rattle.opening.proofs.fill.Reads as fill-reads
-use Rattle.opening.proofs.length_for.Reads as length-for-reads
-use Rattle.opening.proofs.request_ok.Reads as request-ok-reads
+use Rattle.request.proofs.length_for.Reads as length-for-reads
+use Rattle.request.proofs.request_ok.Reads as request-ok-reads
 
 request-ok-requires : tie.Need-request-ok-requires
 request-ok-requires c κs = search needs

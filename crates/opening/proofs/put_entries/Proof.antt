@@ -6,7 +6,8 @@ use Rattle.words.specs.Numbers.{put}
 use Rattle.record.specs.Slot.{slotSize}
 use Rattle.entries.specs.Entry.{entrySize, requestSize}
 use Rattle.table.specs.Table.{headSize}
-use Rattle.opening.specs.Opening.{firstBody, entriesBytes}
+use Rattle.request.specs.Request.{firstBody}
+use Rattle.opening.specs.Opening.{entriesBytes}
 use Rattle.opening.proofs.Laws.{entries-more, entries-done}
 use Rattle.opening.proofs.put_entries.Statement.{statement}
 use Rattle.opening.proofs.put_entries.Tie as tie

@@ -5,7 +5,7 @@ use Rattle.opening.proofs.put_head.Statement.{statement}
 use Rattle.opening.proofs.put_head.Tie as tie
 use Rattle.opening.proofs.put_head.Reads as reads
 use Rattle.opening.proofs.put_head.Lts as lts
-use Rattle.opening.proofs.length_for.Reads as length-for-reads
+use Rattle.request.proofs.length_for.Reads as length-for-reads
 use Rattle.words.proofs.copy_in.Reads as copy-in-reads
 use Rattle.words.proofs.write2.Reads as write2-reads
 use Rattle.words.proofs.write4.Reads as write4-reads

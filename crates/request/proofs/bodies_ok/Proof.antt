@@ -4,15 +4,15 @@ use native.Mathlib.Omega.{arith}
 use borrow.Author.Tests.{not-true, not-false}
 use lib.Dec.{leb}
 use Rattle.table.specs.Table.{maxLength}
-use Rattle.opening.proofs.Laws.{bodies-form, bodies-code, bodies-fit}
+use Rattle.request.proofs.Laws.{bodies-form, bodies-code, bodies-fit}
 use borrow.Author.Needs.{needs}
-use Rattle.opening.proofs.bodies_ok.Statement.{statement}
-use Rattle.opening.proofs.bodies_ok.Tie as tie
-use Rattle.opening.proofs.bodies_ok.Reads as reads
-use Rattle.opening.proofs.bodies_ok.Lts as lts
+use Rattle.request.proofs.bodies_ok.Statement.{statement}
+use Rattle.request.proofs.bodies_ok.Tie as tie
+use Rattle.request.proofs.bodies_ok.Reads as reads
+use Rattle.request.proofs.bodies_ok.Lts as lts
 use Rattle.entries.proofs.codes_distinct.Reads as codes-distinct-reads
 use Rattle.entries.proofs.forms_ok.Reads as forms-ok-reads
-use Rattle.opening.proofs.length_for.Reads as length-for-reads
+use Rattle.request.proofs.length_for.Reads as length-for-reads
 
 forms-ok-requires : tie.Need-forms-ok-requires
 forms-ok-requires c κs = (omega arith, omega arith, omega arith)

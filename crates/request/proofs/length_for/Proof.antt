@@ -1,10 +1,10 @@
-use Rattle.opening.proofs.Laws.{needed-by}
+use Rattle.request.proofs.Laws.{needed-by}
 use borrow.Author.Needs.{needs}
-use Rattle.opening.proofs.length_for.Statement.{statement}
-use Rattle.opening.proofs.length_for.Tie as tie
-use Rattle.opening.proofs.length_for.Reads as reads
-use Rattle.opening.proofs.length_for.Lts as lts
-use Rattle.opening.proofs.slots_asked.Reads as slots-asked-reads
+use Rattle.request.proofs.length_for.Statement.{statement}
+use Rattle.request.proofs.length_for.Tie as tie
+use Rattle.request.proofs.length_for.Reads as reads
+use Rattle.request.proofs.length_for.Lts as lts
+use Rattle.request.proofs.slots_asked.Reads as slots-asked-reads
 
 mul-result : tie.Need-mul-result
 mul-result c = search needs

@@ -1,14 +1,14 @@
 use mathlib.Core.Path.{refl, sym, _∙_}
 use native.Mathlib.Omega.{arith}
 use borrow.Author.Tests.{not-true, not-false}
-use Rattle.opening.specs.Opening.{asked}
-use Rattle.opening.proofs.Laws.{request-short, request-abi, request-part, request-none, request-many, request-rest}
+use Rattle.request.specs.Request.{asked}
+use Rattle.request.proofs.Laws.{request-short, request-abi, request-part, request-none, request-many, request-rest}
 use borrow.Author.Needs.{needs}
-use Rattle.opening.proofs.request_ok.Statement.{statement}
-use Rattle.opening.proofs.request_ok.Tie as tie
-use Rattle.opening.proofs.request_ok.Reads as reads
-use Rattle.opening.proofs.request_ok.Lts as lts
-use Rattle.opening.proofs.bodies_ok.Reads as bodies-ok-reads
+use Rattle.request.proofs.request_ok.Statement.{statement}
+use Rattle.request.proofs.request_ok.Tie as tie
+use Rattle.request.proofs.request_ok.Reads as reads
+use Rattle.request.proofs.request_ok.Lts as lts
+use Rattle.request.proofs.bodies_ok.Reads as bodies-ok-reads
 use Rattle.ranges.proofs.are_of.Reads as are-of-reads
 
 returns : tie.Need-returns

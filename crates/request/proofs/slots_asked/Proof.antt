@@ -2,12 +2,12 @@ use Prim.Native.Nat.{_≤_, _-_, _+_, _*_}
 use mathlib.Core.Path.{_≡_, refl}
 use native.Mathlib.Omega.{arith}
 use Rattle.entries.specs.Entry.{requestSize}
-use Rattle.opening.specs.Opening.{firstBody, slotsAsked}
-use Rattle.opening.proofs.Laws.{slots-more, slots-none}
-use Rattle.opening.proofs.slots_asked.Statement.{statement}
-use Rattle.opening.proofs.slots_asked.Tie as tie
-use Rattle.opening.proofs.slots_asked.Reads as reads
-use Rattle.opening.proofs.slots_asked.Lts as lts
+use Rattle.request.specs.Request.{firstBody, slotsAsked}
+use Rattle.request.proofs.Laws.{slots-more, slots-none}
+use Rattle.request.proofs.slots_asked.Statement.{statement}
+use Rattle.request.proofs.slots_asked.Tie as tie
+use Rattle.request.proofs.slots_asked.Reads as reads
+use Rattle.request.proofs.slots_asked.Lts as lts
 use Rattle.entries.proofs.slots_of.Reads as slots-of-reads
 
 abbrev Inv-loop : tie.InvT-loop
