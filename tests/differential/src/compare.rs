@@ -4,7 +4,7 @@ use reference::{FlowAnswer, NoticeAnswer, Totals};
 
 use crate::case::{Answer, Call, Case};
 use crate::engine::Engine;
-use crate::pen::Pen;
+use crate::pen::{Pen, Place};
 
 /// What differs, in a sentence.
 #[derive(Clone, Debug, PartialEq, Eq)]
@@ -15,21 +15,32 @@ pub struct Difference {
     pub what: String,
 }
 
-/// Guarded memory for the buffers of a call.
+/// Where the buffers of a call lie.
+#[derive(Clone, Copy, Debug, PartialEq, Eq)]
+pub enum Lend {
+    /// Two calls at the end of the pens, two at the beginning: so both engines of a comparison come to both.
+    Turns,
+    /// Always in this place.
+    Always(Place),
+}
+
+/// Guarded memory for the buffers and results of a call.
 pub struct Yard {
+    lend: Lend,
+    calls: usize,
     table: Pen,
     input: Pen,
     outcomes: Pen,
-    calls: usize,
+    results: [Pen; 4],
 }
 
 impl Default for Yard {
     fn default() -> Yard {
-        Yard { table: Pen::new(65_536), input: Pen::new(32_769), outcomes: Pen::new(1_024), calls: 0 }
+        Yard::new(Lend::Turns)
     }
 }
 
-/// What the cells around and under the results hold before a call.
+/// What a result holds before a call.
 const CANARY: u64 = 0xC0DE_C0DE_5A5A_A5A5;
 
 /// What an engine made of a call, besides the table.
@@ -41,65 +52,97 @@ pub struct Served {
     pub outcomes: Vec<u8>,
 }
 
+fn input_of(call: &Call) -> &[u8] {
+    match call {
+        Call::Open { request, .. } => request,
+        Call::Flow { flow, .. } => flow,
+        Call::Execute { body, .. } | Call::Reverse { body, .. } | Call::Totals { body } => body,
+    }
+}
+
 impl Yard {
-    /// Makes one call on an engine with guards around each buffer. `Err` says which byte outside the engine's buffers was written.
+    /// A yard that lends in this way.
+    pub fn new(lend: Lend) -> Yard {
+        let results = std::array::from_fn(|_| Pen::new(8));
+        Yard { lend, calls: 0, table: Pen::new(65_536), input: Pen::new(32_769), outcomes: Pen::new(1_024), results }
+    }
+
+    /// Makes one call on an engine with guards around each buffer and result. `Err` says which byte outside them was written.
     pub fn serve(&mut self, engine: &dyn Engine, table: &mut Vec<u8>, call: &Call) -> Result<Served, String> {
-        // Two calls at the end of the pens, two at the beginning: so both engines of a comparison come to both.
-        let at_end = self.calls % 4 < 2;
-        self.calls += 1;
         if let Call::Open { room, .. } = call {
             *table = noise(*room);
         }
-        self.table.put(table, at_end);
-        let input = match call {
-            Call::Open { request, .. } => request,
-            Call::Flow { flow, .. } => flow,
-            Call::Execute { body, .. } | Call::Reverse { body, .. } | Call::Totals { body } => body,
-        };
-        self.input.put(input, at_end);
-        let room = if let Call::Flow { room, .. } = call { *room } else { 0 };
-        self.outcomes.put(&noise(room), at_end);
-
-        let mut cells = [CANARY; 7];
-        let [_, first, _, second, _, third, _] = &mut cells;
-        let mut balance = [CANARY as i64; 3];
-        let lent = self.table.bytes_mut();
-        let given = self.input.bytes();
-        let answer = match call {
-            Call::Open { .. } => Answer::Open(engine.open(given, lent)),
-            Call::Flow { .. } => {
-                let code = engine.flow(lent, given, self.outcomes.bytes_mut(), first, second, third);
-                Answer::Flow(FlowAnswer { code, place: *first, orders: *second, accepted: *third })
-            }
-            Call::Execute { notice, .. } => {
-                let code = engine.execute(lent, given, notice, first);
-                Answer::Notice(NoticeAnswer { code, cents: *first })
-            }
-            Call::Reverse { notice, .. } => {
-                let code = engine.reverse(lent, given, notice, first);
-                Answer::Notice(NoticeAnswer { code, cents: *first })
-            }
-            Call::Totals { .. } => {
-                let code = engine.totals(lent, given, first, second, third, &mut balance[1]);
-                Answer::Totals(Totals { code, used: *first, paid: *second, collected: *third, balance: balance[1] })
-            }
-        };
+        self.put(table, call);
+        let answer = self.call(engine, call);
         table.copy_from_slice(self.table.bytes());
-
-        let pens = [("table", &self.table), ("input", &self.input), ("outcome buffer", &self.outcomes)];
-        let stray = pens.iter().find_map(|(buffer, pen)| Some((buffer, pen.stray()?)));
-        if let Some((buffer, place)) = stray {
+        if let Some((buffer, place)) = self.stray() {
             let what = format!("a byte at place {place} of the {buffer} was written, outside it");
-            *self = Yard::default();
+            *self = Yard::new(self.lend);
             return Err(what);
         }
-        if self.input.bytes() != input {
+        if self.input.bytes() != input_of(call) {
             return Err("the input was written".into());
         }
-        if cells.iter().step_by(2).any(|&cell| cell != CANARY) || [balance[0], balance[2]] != [CANARY as i64; 2] {
-            return Err("a number beside a result was written".into());
-        }
         Ok(Served { answer, outcomes: self.outcomes.bytes().to_vec() })
+    }
+
+    /// Puts what a call is lent into the pens.
+    fn put(&mut self, table: &[u8], call: &Call) {
+        let place = match self.lend {
+            Lend::Turns if self.calls % 4 < 2 => Place::End,
+            Lend::Turns => Place::Beginning,
+            Lend::Always(place) => place,
+        };
+        self.calls += 1;
+        self.table.put(table, place);
+        self.input.put(input_of(call), place);
+        let room = if let Call::Flow { room, .. } = call { *room } else { 0 };
+        self.outcomes.put(&noise(room), place);
+        self.results.iter_mut().for_each(|result| result.put_number(CANARY, place));
+    }
+
+    /// Makes the call on what the pens hold.
+    fn call(&mut self, engine: &dyn Engine, call: &Call) -> Answer {
+        let [first, second, third, fourth] = &mut self.results;
+        let lent = self.table.bytes_mut();
+        let given = self.input.bytes();
+        match call {
+            Call::Open { .. } => Answer::Open(engine.open(given, lent)),
+            Call::Flow { .. } => {
+                let outcomes = self.outcomes.bytes_mut();
+                let code = engine.flow(lent, given, outcomes, first.number_mut(), second.number_mut(), third.number_mut());
+                Answer::Flow(FlowAnswer { code, place: first.number(), orders: second.number(), accepted: third.number() })
+            }
+            Call::Execute { notice, .. } => {
+                let code = engine.execute(lent, given, notice, first.number_mut());
+                Answer::Notice(NoticeAnswer { code, cents: first.number() })
+            }
+            Call::Reverse { notice, .. } => {
+                let code = engine.reverse(lent, given, notice, first.number_mut());
+                Answer::Notice(NoticeAnswer { code, cents: first.number() })
+            }
+            Call::Totals { .. } => {
+                let (used, paid, collected) = (first.number_mut(), second.number_mut(), third.number_mut());
+                let code = engine.totals(lent, given, used, paid, collected, fourth.signed_mut());
+                let (used, paid, collected) = (first.number(), second.number(), third.number());
+                Answer::Totals(Totals { code, used, paid, collected, balance: fourth.number() as i64 })
+            }
+        }
+    }
+
+    /// The first byte that was written outside what was lent: beside which buffer, and how far from its beginning.
+    fn stray(&self) -> Option<(&'static str, isize)> {
+        let [first, second, third, fourth] = &self.results;
+        let pens = [
+            ("table", &self.table),
+            ("input", &self.input),
+            ("outcome buffer", &self.outcomes),
+            ("first result", first),
+            ("second result", second),
+            ("third result", third),
+            ("fourth result", fourth),
+        ];
+        pens.into_iter().find_map(|(buffer, pen)| Some((buffer, pen.stray()?)))
     }
 
     /// Makes the case's calls on both engines; the first difference. A call on bytes that are no table, or that answers anything at all,

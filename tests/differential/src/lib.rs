@@ -1,7 +1,7 @@
 //! The library against the reference.
 //!
 //! From a seed come cases: tables and calls, whole and damaged. Each is given to the reference and to the engine that is tried, and
-//! every answer, outcome byte and table byte is compared, with guards around each buffer. A case that differs is made as short as it
+//! every answer, outcome byte and table byte is compared, with guards around each buffer and result. A case that differs is made as short as it
 //! can be while it still differs. See `main.rs` for the command line.
 
 pub mod case;
@@ -13,11 +13,12 @@ pub mod isolation;
 pub mod pen;
 pub mod random;
 pub mod shrink;
+pub mod stray;
 pub mod sweep;
 pub mod tables;
 pub mod wrong;
 
 pub use case::{Answer, Call, Case};
 pub use cases::Theme;
-pub use compare::{Difference, Yard};
+pub use compare::{Difference, Lend, Yard};
 pub use engine::{Engine, Reference};

@@ -5,9 +5,11 @@ use std::sync::atomic::{AtomicU64, Ordering};
 use std::time::{Duration, Instant};
 
 use differential::cases::{self, Theme};
+use differential::pen::Place;
 use differential::random::Random;
+use differential::stray::Stray;
 use differential::wrong::{FAULTS, Wrong};
-use differential::{Case, Difference, Engine, Reference, Yard, shrink, sweep};
+use differential::{Case, Difference, Engine, Lend, Reference, Yard, shrink, sweep};
 
 const USAGE: &str = "\
 differential: gives the same cases to the reference and to the library and compares every answer and every byte
@@ -22,7 +24,10 @@ Without arguments: the sweep, then 40000 random cases.
   --stride N     the sweep's every N-th case, then the random cases (with --sweep: none of them)
   --long         the sweep, then 1000000 random cases
   --fuzz         everything changed in many places, and random bytes; with --seconds N (default 30) or --count N
-  --engine E     library (default with the feature native), reference, or a fault: an engine that is wrong on purpose
+  --lend HOW     where buffers and results lie: end (at a page that may not be touched), beginning (after one), turns (default: now at
+                 the one, now at the other), heap (allocations of their own, for a run under valgrind)
+  --engine E     library (default with the feature native), reference, or a fault: an engine that is wrong on purpose; ReadsPast and
+                 ReadsBefore look at a byte they are not lent
   --show         prints the cases instead of trying them
 
 The last line is 'differential: N cases, 0 differences'; the exit status is 1 on a difference.";
@@ -39,6 +44,7 @@ struct Run {
     seconds: Option<u64>,
     stride: usize,
     show: bool,
+    lend: Lend,
     engine: Option<String>,
 }
 
@@ -75,7 +81,17 @@ fn main() -> ExitCode {
 }
 
 fn arguments(mut given: impl Iterator<Item = String>) -> Result<Option<Run>, String> {
-    let mut run = Run { cases: Cases::Random, seed: 1, from: 0, count: None, seconds: None, stride: 1, show: false, engine: None };
+    let mut run = Run {
+        cases: Cases::Random,
+        seed: 1,
+        from: 0,
+        count: None,
+        seconds: None,
+        stride: 1,
+        show: false,
+        lend: Lend::Turns,
+        engine: None,
+    };
     while let Some(argument) = given.next() {
         let mut number = || -> Result<u64, String> {
             let value = given.next().ok_or(format!("{argument} needs a number"))?;
@@ -98,6 +114,7 @@ fn arguments(mut given: impl Iterator<Item = String>) -> Result<Option<Run>, Str
             }
             "--fuzz" => run.cases = Cases::Fuzz,
             "--long" => (run.cases, run.count) = (Cases::SweepAndRandom, Some(1_000_000)),
+            "--lend" => run.lend = lend(&given.next().ok_or("--lend needs a place")?)?,
             "--engine" => run.engine = Some(given.next().ok_or("--engine needs a name")?),
             "--show" => run.show = true,
             "--help" | "-h" => return Ok(None),
@@ -114,6 +131,16 @@ fn arguments(mut given: impl Iterator<Item = String>) -> Result<Option<Run>, Str
     Ok(Some(run))
 }
 
+fn lend(how: &str) -> Result<Lend, String> {
+    match how {
+        "turns" => Ok(Lend::Turns),
+        "end" => Ok(Lend::Always(Place::End)),
+        "beginning" => Ok(Lend::Always(Place::Beginning)),
+        "heap" => Ok(Lend::Always(Place::Heap)),
+        _ => Err(format!("--lend {how} is not known: turns, end, beginning, heap")),
+    }
+}
+
 fn engine(name: Option<&str>) -> Result<Box<dyn Engine>, String> {
     match name {
         #[cfg(feature = "native")]
@@ -128,10 +155,12 @@ fn engine(name: Option<&str>) -> Result<Box<dyn Engine>, String> {
             Ok(Box::new(Reference))
         }
         Some("reference") => Ok(Box::new(Reference)),
+        Some("ReadsPast") => Ok(Box::new(Stray::ReadsPast)),
+        Some("ReadsBefore") => Ok(Box::new(Stray::ReadsBefore)),
         Some(name) => {
             let fault = FAULTS.into_iter().find(|fault| format!("{fault:?}") == name);
             let known: Vec<_> = FAULTS.iter().map(|fault| format!("{fault:?}")).collect();
-            let wrong = || format!("no engine {name}: library, reference, {}", known.join(", "));
+            let wrong = || format!("no engine {name}: library, reference, ReadsPast, ReadsBefore, {}", known.join(", "));
             Ok(Box::new(Wrong(fault.ok_or_else(wrong)?)))
         }
     }
@@ -171,7 +200,7 @@ fn cases_of(run: &Run) -> Box<dyn Iterator<Item = (u64, Option<Theme>, Case)>> {
 
 fn try_all(run: &Run, tried: &dyn Engine) -> ExitCode {
     let start = Instant::now();
-    let mut yard = Yard::default();
+    let mut yard = Yard::new(run.lend);
     let (mut tries, mut calls, mut rows) = (0u64, 0u64, 0u64);
     for (index, theme, case) in cases_of(run) {
         if run.seconds.is_some_and(|seconds| start.elapsed() >= Duration::from_secs(seconds)) {

@@ -1,0 +1,53 @@
+# The text of docs/BENCHMARK.md, with the tables of this run; read by bench/run, whose names it uses.
+# shellcheck shell=bash disable=SC2154
+cat <<TEXT
+# Benchmark
+
+Written by \`bench/run\`, which installs the peers, builds, measures and writes this page anew. It is not a part of \`./test\`.
+
+![time of one flow relative to libxml2 + SQLite](benchmark.svg)
+
+## What is timed
+
+One call that takes a flow, every order of it an INSERIMENTO that is accepted, on an empty table and on a nearly full one (one body of 512 slots, 448
+of them used by orders of one to three lines).
+
+$(part flows)
+
+- **hondivole**: \`hondivole_flow\` through the C interface. The check of the whole table, which every call makes, is within the time.
+- **libxml2 + SQLite**: what a team would build from parts. libxml2's SAX reader (one parser context for all flows, names compared as pointers of its
+  dictionary) gathers each field's text and converts it; SQLite in memory keeps bodies, orders and lines, with primary keys, an index on body, kind,
+  esercizio and number, prepared statements, no mutex and one transaction to a flow, its commit within the time. Each order is looked up and
+  inserted with its lines. It checks line numbers and sums and what conversion needs; it validates nothing of its tables.
+- **pugixml**: \`load_buffer\` with \`parse_default\` on the same bytes and nothing else, as the speed of light. It builds a tree; it checks, converts
+  and keeps nothing.
+
+## Results
+
+$about
+
+Microseconds of one call, and their ratios:
+
+$(part times)
+
+## Goals
+
+By the ratios above:
+
+$(part goals)
+
+## Instructions
+
+Of one call, by callgrind, after a first call to warm up.
+
+$(part counts)
+
+## How it was measured
+
+- The three take turns: a round makes five calls of each in a row and keeps the quickest; the figure is the median of $rounds rounds. Tables are
+  restored before each call, outside the time: by copying the bytes, by deleting the new rows, by freeing the last tree.
+- Every call of the first two is seen to accept all orders of its flow, and every call of pugixml to parse.
+- The bench is compiled with \`cc -O2\`; peers are Debian's packages as they are: libxml2 $(version libxml2-dev), SQLite $(version libsqlite3-dev), pugixml
+  $(version libpugixml-dev); valgrind $(version valgrind).
+- The machine: $machine, processor $processor, $cores cores, load average $load when the run began.
+TEXT
