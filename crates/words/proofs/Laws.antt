@@ -151,3 +151,8 @@ module _ (s : List ℕ) (at v : ℕ) (h : at ≤ length s) where
 
   pub round8 : v < 18446744073709551616 → be8 (put s at (bytes8 v)) at ≡ v
   round8 b = same8 (agree-put s at (bytes8 v) h) (omega arith) ∙ be8-bytes v ∙ mod-eq-of-lt b
+
+-- four bytes, each at its own place value
+pub be4-by : (s : List ℕ) (at : ℕ) → getD s at 0 * 16777216 + getD s (at + 1) 0 * 65536 + getD s (at + 2) 0 * 256 + getD s (at + 3) 0 ≡ be4 s at
+unfolding be4 be2
+be4-by s at = let q : at + 2 + 1 ≡ at + 3 = omega arith in rw q (omega arith)

@@ -17,18 +17,38 @@ pub fn read2(s: &[u8], at: usize) -> u64
     wide(s[at]) * 256 + wide(s[at + 1])
 }
 
+fn wide4(x: u8) -> u32
+    ensures { λ r. ⌜ (r ≡ x) × (r < 256) ⌝ }
+{
+    x as u32
+}
+
+// Four bytes in 32 bits: so small a sum is compiled to one load.
+fn word(s: &[u8], at: usize) -> u32
+    requires { ⌜ at + 4 ≤ length (now s) ⌝ }
+    ensures { λ r. ⌜ (r ≡ be4 (now (s .entry)) at) × (r < 4294967296) ⌝ }
+{
+    wide4(s[at]) * 16777216 + wide4(s[at + 1]) * 65536 + wide4(s[at + 2]) * 256 + wide4(s[at + 3])
+}
+
+fn wide8(x: u32) -> u64
+    ensures { λ r. ⌜ r ≡ x ⌝ }
+{
+    x as u64
+}
+
 pub fn read4(s: &[u8], at: usize) -> u64
     requires { ⌜ at + 4 ≤ length (now s) ⌝ }
     ensures { λ r. ⌜ (r ≡ be4 (now (s .entry)) at) × (r < 4294967296) ⌝ }
 {
-    read2(s, at) * 65536 + read2(s, at + 2)
+    wide8(word(s, at))
 }
 
 pub fn read8(s: &[u8], at: usize) -> u64
     requires { ⌜ at + 8 ≤ length (now s) ⌝ }
     ensures { λ r. ⌜ r ≡ be8 (now (s .entry)) at ⌝ }
 {
-    read4(s, at) * 4294967296 + read4(s, at + 4)
+    wide8(word(s, at)) * 4294967296 + wide8(word(s, at + 4))
 }
 
 // s's bytes from at on are those of v afterwards; all others stay.

@@ -1,36 +1,47 @@
-use borrow.Author.Needs.{needs}
+use native.Mathlib.Omega.{arith}
 use Rattle.words.specs.Numbers.{be8}
+use borrow.Author.Needs.{needs}
 use Rattle.words.proofs.read8.Statement.{statement}
 use Rattle.words.proofs.read8.Tie as tie
 use Rattle.words.proofs.read8.Reads as reads
 use Rattle.words.proofs.read8.Lts as lts
-use Rattle.words.proofs.read4.Reads as read4-reads
+use Rattle.words.proofs.wide8.Reads as wide8-reads
+use Rattle.words.proofs.word.Reads as word-reads
 
--- src/lib.rt:31:5
-read4-requires : tie.Need-read4-requires
-read4-requires c κs = search needs
+word-requires : tie.Need-word-requires
+word-requires c κs = search needs
 
--- src/lib.rt:31:5
+wide8-requires : tie.Need-wide8-requires
+wide8-requires c κs = search needs
+
 mul-result : tie.Need-mul-result
 mul-result c = search needs
 
--- src/lib.rt:31:42
-add-read4 : tie.Need-add-read4
-add-read4 c = search needs
+add-word : tie.Need-add-word
+add-word c = search needs
 
--- src/lib.rt:31:33
-read4-requires-2 : tie.Need-read4-requires-2
-read4-requires-2 c κs = search needs
+word-requires-2 : tie.Need-word-requires-2
+word-requires-2 c κs = search needs
 
--- src/lib.rt:31:5
+wide8-requires-2 : tie.Need-wide8-requires-2
+wide8-requires-2 c κs = search needs
+
 add-result : tie.Need-add-result
 add-result c = search needs
 
--- src/lib.rt:27:1
 returns : tie.Need-returns
 unfolding be8
-returns c = search needs
+returns c = omega arith
 
 pub read8-spec : {M : Type 1} → statement M
 read8-spec =
-    tie.close (tie.spec read4-requires mul-result add-read4 read4-requires-2 add-result returns)
+    tie.close
+    (tie.spec
+    word-requires
+    wide8-requires
+    mul-result
+    add-word
+    word-requires-2
+    wide8-requires-2
+    add-result
+    returns)
