@@ -36,6 +36,13 @@ By the ratios above:
 
 $(part goals)
 
+Where a goal is not met, why:
+
+- **One order.** The call checks the whole table first, 49,200 bytes of it, and the stack checks nothing: it reads and writes the rows of one order. On an empty
+  table the check is a good part of the call, on a nearly full one most of it.
+- **Large flows beside pugixml.** A bare parse reads each byte once. The call reads markup, with every character, name and end tag checked, looks up each named child twice more,
+  for structure and fields and for its order, converts the fields, and judges and stores the orders.
+
 ## Instructions
 
 Of one call, by callgrind, after a first call to warm up.
