@@ -1,8 +1,6 @@
-use mathlib.Core.Path.{_≡_, sym, _∙_}
+use mathlib.Core.Path.{sym, _∙_}
 use native.Mathlib.Omega.{arith}
-use Rattle.rows.specs.declared.Next.the-variants.{Named, Done}
-use Rattle.rows.specs.Kept.{keptFrom, nextOf}
-use Rattle.orders.specs.Orders.{inRow, textIn}
+use Rattle.orders.specs.Orders.{textIn}
 use Rattle.orders.proofs.Laws.{Row-at, row-at}
 use borrow.Author.Needs.{needs}
 use Rattle.orders.proofs.field_text.Statement.{statement}
