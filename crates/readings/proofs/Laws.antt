@@ -1,5 +1,5 @@
 -- Laws of the fields and of the first that breaks.
-use mathlib.Core.Path.{_≡_, refl, ap, _∙_}
+use mathlib.Core.Path.{_≡_, refl, sym, ap, _∙_}
 use mathlib.Core.List.{List, [], _∷_, _++_}
 use Prim.Native.Nat.{ℕ, zero, suc, _+_, _-_}
 use native.Mathlib.Omega.{arith}
@@ -11,7 +11,10 @@ use Rattle.fields.specs.Fields.{fieldStands}
 use Rattle.rows.specs.declared.Parent.{Parent}
 use Rattle.rows.specs.declared.Holds.the-variants.{Text, Rows}
 use Rattle.rows.specs.declared.Kept.{Kept}
-use Rattle.rows.specs.Kept.{keptFrom}
+use Rattle.rows.specs.declared.Next.the-variants.{Named, Done}
+use Rattle.rows.specs.Kept.{keptFrom, nextOf}
+use Rattle.children.proofs.Laws.{Lies}
+use Rattle.rows.proofs.Laws.{next-at, next-done}
 use Rattle.readings.specs.declared.Bad.{Bad}
 use Rattle.readings.specs.declared.Bad.the-variants.{Place, Nowhere}
 use Rattle.readings.specs.Readings.{Field, textOf, fieldsIn, fieldsBy, fieldsAt, badOr, firstBad}
@@ -43,29 +46,24 @@ unfolding fieldsAt
 fields-level zero p s at f = absurd (f refl)
 fields-level (suc e) p s at f = let z : e ≡ suc e - 1 = omega arith in ap (λ (x : ℕ). fieldsBy (λ q a. fieldsAt x q s a) s (keptFrom p s (whiteAt s at))) z
 
--- a named child at a time, a way out of the code at a time
-module _ (dp : Parent → ℕ → List Field) (s : List ℕ) (ks : List Kept) where
-  pub bad-nil : ks ≡ [] → firstBad (fieldsBy dp s ks) ≡ Nowhere
+-- THE CHILD FOUND from i on, where b is the first place from there
+pub record Found (b : Bad) (d : ℕ) (p : Parent) (s : List ℕ) (i : ℕ) (k : Kept) : Type 0 where
+  pub lies : Lies s i (k .child)
+  pub text : (f : Form) (j : Judged) → k .holds ≡ Text f → fieldStands f (textOf s k) ≡ j → b ≡ orBad (badOr (k .child .lt) Nowhere j) (firstBad (fieldsBy (below d s) s (keptFrom p s (k .child .after))))
+  pub rows : (q : Parent) (w : Bad) → k .holds ≡ Rows q → firstBad (fieldsAt (d - 1) q s (k .child .gt + 1)) ≡ w → b ≡ orBad w (firstBad (fieldsBy (below d s) s (keptFrom p s (k .child .after))))
+
+bad-cons : (dp : Parent → ℕ → List Field) (s : List ℕ) (k : Kept) (ks : List Kept) → firstBad (fieldsBy dp s (k ∷ ks)) ≡ orBad (firstBad (fieldsIn dp s k (k .holds))) (firstBad (fieldsBy dp s ks))
+unfolding fieldsBy
+bad-cons dp s k ks = bad-append (fieldsIn dp s k (k .holds)) (fieldsBy dp s ks)
+
+module _ (b : Bad) (d : ℕ) (p : Parent) (s : List ℕ) (i : ℕ) (g : b ≡ firstBad (fieldsBy (below d s) s (keptFrom p s i))) where
+  pub found : (k : Kept) → nextOf (keptFrom p s i) ≡ Named k → Found b d p s i k
+  unfolding firstBad
+  found k e =
+      let a = next-at p s i k e in
+      let c = g ∙ (ap (λ (ks : List Kept). firstBad (fieldsBy (below d s) s ks)) (a .rest) ∙ bad-cons (below d s) s k (keptFrom p s (k .child .after))) in
+      record { lies = a .lies; text = λ f j h x. c ∙ rw (h, x); rows = λ q w h x. c ∙ rw (h, x) }
+
+  pub found-none : nextOf (keptFrom p s i) ≡ Done → Nowhere ≡ b
   unfolding fieldsBy firstBad
-  bad-nil e = rw e
-
-  module _ (k : Kept) (t : List Kept) (e : ks ≡ k ∷ t) where
-    bad-cons : firstBad (fieldsBy dp s ks) ≡ orBad (firstBad (fieldsIn dp s k (k .holds))) (firstBad (fieldsBy dp s t))
-    unfolding fieldsBy
-    bad-cons = rw e (bad-append (fieldsIn dp s k (k .holds)) (fieldsBy dp s t))
-
-    module _ (f : Form) (h : k .holds ≡ Text f) where
-      pub bad-text-stands : fieldStands f (textOf s k) ≡ Stands → firstBad (fieldsBy dp s ks) ≡ firstBad (fieldsBy dp s t)
-      unfolding firstBad
-      bad-text-stands g = bad-cons ∙ rw (h, g)
-
-      pub bad-text-breaks : fieldStands f (textOf s k) ≡ Breaks → firstBad (fieldsBy dp s ks) ≡ Place (k .child .lt)
-      unfolding firstBad
-      bad-text-breaks g = bad-cons ∙ rw (h, g)
-
-    module _ (q : Parent) (h : k .holds ≡ Rows q) where
-      pub bad-rows-stand : firstBad (dp q (k .child .gt + 1)) ≡ Nowhere → firstBad (fieldsBy dp s ks) ≡ firstBad (fieldsBy dp s t)
-      bad-rows-stand g = bad-cons ∙ rw (h, g)
-
-      pub bad-rows-break : (x : ℕ) → firstBad (dp q (k .child .gt + 1)) ≡ Place x → firstBad (fieldsBy dp s ks) ≡ Place x
-      bad-rows-break x g = bad-cons ∙ rw (h, g)
+  found-none e = sym (g ∙ rw (next-done p s i e))

@@ -1,10 +1,9 @@
--- The walk that judges structure and fields together: after some of a level's named children, what is left to say of the others.
-use mathlib.Core.Path.{_≡_, refl, ap, _∙_}
+-- The walk that judges structure and fields together: what is said of each named child.
+use mathlib.Core.Path.{_≡_, refl, sym, ap, _∙_}
 use mathlib.Core.List.{List, [], _∷_, _++_}
-use mathlib.Core.Bool.{Bool, true, false, _&&_, and-true, and-false}
-use Prim.Native.Nat.{ℕ, _+_, _-_, _<_}
+use mathlib.Core.Bool.{Bool, true, false, _&&_, and-false}
+use Prim.Native.Nat.{ℕ, _+_, _-_}
 use native.Mathlib.Omega.{arith}
-use lib.ListN.{length}
 use Rattle.scan.specs.Bytes.{part}
 use Rattle.scan.proofs.Laws.{both}
 use Rattle.tokens.specs.Tokens.{whiteAt}
@@ -18,13 +17,12 @@ use Rattle.rows.specs.declared.Holds.the-variants.{Text, Rows}
 use Rattle.rows.specs.declared.Kept.{Kept}
 use Rattle.rows.specs.Table.{table}
 use Rattle.rows.specs.Kept.{keptFrom}
-use Rattle.structure.specs.Structure.{ranges, textOnly, holdsAt, keptHolds, fitsAt}
-use Rattle.structure.specs.Walk.{filledFrom, countedOf}
-use Rattle.structure.proofs.Walk.{deeper, fits-none, fits-level, goesOn, goes-end, goes-short, goes-other, goes-on}
+use Rattle.structure.specs.Structure.{ranges, all, textOnly, holdsAt, keptHolds, fitsAt}
+use Rattle.structure.proofs.Walk.{deeper, fits-none, fits-level, goesOn, goes-and}
 use Rattle.readings.specs.declared.Bad.{Bad}
 use Rattle.readings.specs.declared.Bad.the-variants.{Place, Nowhere}
 use Rattle.readings.specs.Readings.{Field, textOf, fieldsIn, fieldsBy, fieldsAt, badOr, firstBad}
-use Rattle.readings.proofs.Laws.{orBad, bad-append, below, fields-level, bad-nil}
+use Rattle.readings.proofs.Laws.{orBad, bad-append, below, fields-level}
 use Rattle.standing.specs.Standing.{isNowhere, standsAt, hasForm, textStands}
 
 -- ONE FIELD
@@ -59,56 +57,31 @@ held-by d s k (Text f) = ap (λ b. textOnly s (k .child .gt + 1) && b) (go (fiel
     go Breaks = refl
 held-by d s k (Rows q) = refl
 
--- THE WALK: what is left to say of the children ks after those that are walked
-unfoldable pub left : ℕ → Parent → List ℕ → ℕ → ℕ → List Kept → Bool
-left d p s row n ks = goesOn (ranges (table p)) (keptHolds (deeper d s) s) row n ks && isNowhere (firstBad (fieldsBy (below d s) s ks))
+abbrev pub keptStands : ℕ → List ℕ → Kept → Bool
+keptStands d s k = heldStands d s k (k .holds)
 
+swap : (a b c d : Bool) → ((a && b) && (c && d)) ≡ ((a && c) && (b && d))
+swap true true c d = refl
+swap true false c d = sym (and-false c)
+swap false b c d = refl
+
+kept-all : (d : ℕ) (s : List ℕ) (ks : List Kept) → (all (keptHolds (deeper d s) s) ks && isNowhere (firstBad (fieldsBy (below d s) s ks))) ≡ all (keptStands d s) ks
+unfolding all fieldsBy firstBad
+kept-all d s [] = refl
+kept-all d s (k ∷ ks) =
+    let xs = fieldsIn (below d s) s k (k .holds) in
+    let ys = fieldsBy (below d s) s ks in
+    ap (λ b. all (keptHolds (deeper d s) s) (k ∷ ks) && b) (nowhere-append xs ys)
+    ∙ (swap (keptHolds (deeper d s) s k) (all (keptHolds (deeper d s) s) ks) (isNowhere (firstBad xs)) (isNowhere (firstBad ys)) ∙ rw (held-by d s k (k .holds), kept-all d s ks))
+
+-- ONE LEVEL
 pub stands-none : (p : Parent) (s : List ℕ) (at : ℕ) → standsAt 0 p s at ≡ false
 unfolding standsAt
 stands-none p s at = rw (fits-none p s at)
 
-pub stands-level : (d : ℕ) (p : Parent) (s : List ℕ) (at : ℕ) → (d ≡ 0 → ⊥) → standsAt d p s at ≡ left d p s 0 0 (keptFrom p s (whiteAt s at))
-unfolding standsAt left
-stands-level d p s at f = rw (fits-level d p s at f, fields-level d p s at f)
-
--- a way out of the code at a time
-module _ (d : ℕ) (p : Parent) (s : List ℕ) (row n : ℕ) (ks : List Kept) where
-  pub left-end : ks ≡ [] → row < length (ranges (table p)) → left d p s row n ks ≡ filledFrom (ranges (table p)) row n (length (ranges (table p)))
-  unfolding left
-  left-end e h =
-      rw (goes-end (ranges (table p)) (keptHolds (deeper d s) s) row n ks e h, bad-nil (below d s) s ks e) (and-true (filledFrom (ranges (table p)) row n (length (ranges (table p)))))
-
-  module _ (k : Kept) (t : List Kept) (e : ks ≡ k ∷ t) where
-    pub left-short : filledFrom (ranges (table p)) row n (k .row) ≡ false → left d p s row n ks ≡ false
-    unfolding left
-    left-short g = rw (goes-short (ranges (table p)) (keptHolds (deeper d s) s) row n ks k t e g)
-
-    nowhere-cons : isNowhere (firstBad (fieldsBy (below d s) s ks)) ≡ (isNowhere (firstBad (fieldsIn (below d s) s k (k .holds))) && isNowhere (firstBad (fieldsBy (below d s) s t)))
-    unfolding fieldsBy
-    nowhere-cons = rw e (nowhere-append (fieldsIn (below d s) s k (k .holds)) (fieldsBy (below d s) s t))
-
-    pub left-breaks : heldStands d s k (k .holds) ≡ false → left d p s row n ks ≡ false
-    unfolding left
-    left-breaks x = go (keptHolds (deeper d s) s k) refl (held-by d s k (k .holds) ∙ x)
-      where
-        go : (b : Bool) → keptHolds (deeper d s) s k ≡ b → (b && isNowhere (firstBad (fieldsIn (below d s) s k (k .holds)))) ≡ false
-            → (goesOn (ranges (table p)) (keptHolds (deeper d s) s) row n ks && isNowhere (firstBad (fieldsBy (below d s) s ks))) ≡ false
-        go true h y = rw (nowhere-cons, y) (and-false (goesOn (ranges (table p)) (keptHolds (deeper d s) s) row n ks))
-        go false h y = rw (goes-other (ranges (table p)) (keptHolds (deeper d s) s) row n ks k t e h)
-
-    pub left-on : filledFrom (ranges (table p)) row n (k .row) ≡ true → (m : ℕ) → m ≡ countedOf row n (k .row) → heldStands d s k (k .holds) ≡ true → left d p s row n ks ≡ left d p s (k .row) m t
-    unfolding left
-    left-on g m c x =
-        let h = both (keptHolds (deeper d s) s k) (isNowhere (firstBad (fieldsIn (below d s) s k (k .holds)))) (held-by d s k (k .holds) ∙ x) in
-        rw (goes-on (ranges (table p)) (keptHolds (deeper d s) s) row n ks k t e g m c (h .0), nowhere-cons, h .1)
-
--- what a child's row says that it holds
-module _ (d : ℕ) (s : List ℕ) (k : Kept) where
-  pub held-text : (f : Form) → k .holds ≡ Text f → heldStands d s k (k .holds) ≡ textStands s f (k .child .gt + 1) (k .child .to)
-  held-text f h = rw h
-
-  pub held-rows : (q : Parent) → k .holds ≡ Rows q → heldStands d s k (k .holds) ≡ standsAt (d - 1) q s (k .child .gt + 1)
-  held-rows q h = rw h
+pub stands-level : (d : ℕ) (p : Parent) (s : List ℕ) (at : ℕ) → (d ≡ 0 → ⊥) → standsAt d p s at ≡ goesOn (ranges (table p)) (keptStands d s) 0 0 (keptFrom p s (whiteAt s at))
+unfolding standsAt
+stands-level d p s at f = rw (fits-level d p s at f, fields-level d p s at f) (goes-and _ _ _ _ _ (keptFrom p s (whiteAt s at)) _ (kept-all d s (keptFrom p s (whiteAt s at))))
 
 -- CONTENT THAT STANDS is what the two walks find it to be
 pub stands-parts : (d : ℕ) (p : Parent) (s : List ℕ) (at : ℕ) → standsAt d p s at ≡ true → (fitsAt d p s at ≡ true) × (firstBad (fieldsAt d p s at) ≡ Nowhere)

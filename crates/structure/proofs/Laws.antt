@@ -11,11 +11,9 @@ use borrow.Author.Tests.{eqb-true, leb-true}
 use Rattle.scan.specs.Bytes.{bytes, run}
 use Rattle.scan.proofs.Laws.{both}
 use Rattle.tokens.specs.Tokens.{whiteAt}
-use Rattle.fields.specs.declared.Form.{Form}
 use Rattle.children.specs.declared.Child.{Child}
 use Rattle.rows.specs.declared.Parent.{Parent}
 use Rattle.rows.specs.declared.Holds.{Holds}
-use Rattle.rows.specs.declared.Holds.the-variants.{Text, Rows}
 use Rattle.rows.specs.declared.Spot.{Spot}
 use Rattle.rows.specs.declared.Spot.the-variants.{At, Passed}
 use Rattle.rows.specs.declared.Kept.{Kept}
@@ -24,7 +22,7 @@ use Rattle.children.specs.Child.{childrenFrom}
 use Rattle.rows.specs.Table.{Named, _is_, Row, table, nameIs, among, spotIn}
 use Rattle.rows.specs.Kept.{keepOne, keep, keptFrom, nextOf}
 use Rattle.rows.proofs.Laws.{next-at, next-done}
-use Rattle.structure.specs.Structure.{isNil, all, Range, ranges, takes, rowsOf, isRow, inOrder, textOnly, keptHolds, fitBy, fitsAt}
+use Rattle.structure.specs.Structure.{isNil, all, Range, ranges, takes, rowsOf, isRow, inOrder, keptHolds, fitBy, fitsAt}
 
 no : {A : Type 0} → _≡_ {A = Bool} false true → A
 no e = let z : _≡_ {A = ℕ} 0 1 = cc in absurd (omega arith)
@@ -38,14 +36,6 @@ fits-parts d p s at e = both (inOrder (ranges (table p)) 0 (rowsOf (keptFrom p s
 pub all-parts : (f : Kept → Bool) (k : Kept) (ks : List Kept) → all f (k ∷ ks) ≡ true → (f k ≡ true) × (all f ks ≡ true)
 unfolding all
 all-parts f k ks e = both (f k) (all f ks) e
-
--- what a named child holds, by its row
-module _ (dp : Parent → ℕ → Bool) (s : List ℕ) (k : Kept) where
-  pub holds-text : (f : Form) → k .holds ≡ Text f → keptHolds dp s k ≡ textOnly s (k .child .gt + 1)
-  holds-text f h = rw h
-
-  pub holds-rows : (q : Parent) → k .holds ≡ Rows q → keptHolds dp s k ≡ dp q (k .child .gt + 1)
-  holds-rows q h = rw h
 
 -- THE ROWS IN ORDER, one after the other
 -- a row that takes exactly one element: the first of them stands in it

@@ -7,7 +7,7 @@ use borrow.Author.Tests.{not-true, not-false}
 use lib.ListN.{length, getD, drop}
 use Rattle.scan.specs.Bytes.{isDigit}
 use Rattle.digits.specs.Digits.{digits, digitsAfter}
-use Rattle.digits.proofs.Laws.{p10, p10-zero, one-more, digits-more, digits-not, digits-end, digits-short, digits-long, digits-within}
+use Rattle.digits.proofs.Laws.{p10, p10-zero, OneMore, one-more, digits-more, digits-not, digits-end, digits-short, digits-long, digits-within}
 use Rattle.digits.proofs.digits_of.Statement.{statement}
 use Rattle.digits.proofs.digits_of.Tie as tie
 
@@ -35,41 +35,26 @@ is-digit-requires : tie.Need-is-digit-requires Inv-loop μ-loop
 is-digit-requires c κs = search needs
 
 returns-3 : tie.Need-returns-3 Inv-loop μ-loop
-returns-3 c =
-    let t = c .before .before .before .before .before .before .before .before .args .t .now in
-    let i = c .before .before .before .before .loop .i in
-    let v = c .before .before .before .before .loop .v in
-    sym (c .before .before .before .before .loop .inv .3 ∙ digits-not t i v (c .before .before .before .loop-test .taken) (sym (c .before .is-digit .ensures) ∙ not-true _ (c .if3 .taken)))
+returns-3 c = sym (c .before .before .before .before .loop .inv .3 ∙ digits-not _ _ _ (c .before .before .before .loop-test .taken) (sym (c .before .is-digit .ensures) ∙ not-true _ (c .if3 .taken)))
+
+-- the digit read, and the value with it
+digit : (c : tie.Else3 Inv-loop μ-loop) → isDigit (getD (c .before .before .before .before .before .before .before .before .args .t .now) (c .before .before .before .before .loop .i) 0) ≡ true
+digit c = sym (c .before .is-digit .ensures) ∙ not-false _ (c .if3 .left)
+
+more : (c : tie.Else3 Inv-loop μ-loop) → OneMore (getD (c .before .before .before .before .before .before .before .before .args .t .now) (c .before .before .before .before .loop .i) 0) (c .before .before .before .before .loop .i) (c .before .before .before .before .loop .v)
+more c = one-more _ _ _ (digit c) (c .before .before .before .before .loop .inv .2) (omega arith)
 
 mul-v : tie.Need-mul-v Inv-loop μ-loop
-mul-v c =
-    let t = c .before .before .before .before .before .before .before .before .args .t .now in
-    let i = c .before .before .before .before .loop .i in
-    let v = c .before .before .before .before .loop .v in
-    let d : isDigit (getD t i 0) ≡ true = sym (c .before .is-digit .ensures) ∙ not-false _ (c .if3 .left) in
-    let m = one-more (getD t i 0) i v d (c .before .before .before .before .loop .inv .2) (omega arith) in
-    omega arith
+mul-v c = let m = more c in omega arith
 
 wide-requires : tie.Need-wide-requires Inv-loop μ-loop
 wide-requires c κs = search needs
 
 sub-v : tie.Need-sub-v Inv-loop μ-loop
-sub-v c =
-    let t = c .before .before .before .before .before .before .before .before .before .args .t .now in
-    let i = c .before .before .before .before .before .loop .i in
-    let v = c .before .before .before .before .before .loop .v in
-    let d : isDigit (getD t i 0) ≡ true = sym (c .before .before .is-digit .ensures) ∙ not-false _ (c .before .if3 .left) in
-    let m = one-more (getD t i 0) i v d (c .before .before .before .before .before .loop .inv .2) (omega arith) in
-    omega arith
+sub-v c = let m = more (c .before) in omega arith
 
 add-v : tie.Need-add-v Inv-loop μ-loop
-add-v c =
-    let t = c .before .before .before .before .before .before .before .before .before .args .t .now in
-    let i = c .before .before .before .before .before .loop .i in
-    let v = c .before .before .before .before .before .loop .v in
-    let d : isDigit (getD t i 0) ≡ true = sym (c .before .before .is-digit .ensures) ∙ not-false _ (c .before .if3 .left) in
-    let m = one-more (getD t i 0) i v d (c .before .before .before .before .before .loop .inv .2) (omega arith) in
-    omega arith
+add-v c = let m = more (c .before) in omega arith
 
 add-i : tie.Need-add-i Inv-loop μ-loop
 add-i c = omega arith
@@ -79,20 +64,12 @@ loop-less c = omega arith
 
 loop-again : tie.Need-loop-again Inv-loop μ-loop
 loop-again c =
-    let t = c .before .before .before .before .before .before .before .before .before .args .t .now in
-    let i = c .before .before .before .before .before .loop .i in
-    let v = c .before .before .before .before .before .loop .v in
-    let d : isDigit (getD t i 0) ≡ true = sym (c .before .before .is-digit .ensures) ∙ not-false _ (c .before .if3 .left) in
-    let m = one-more (getD t i 0) i v d (c .before .before .before .before .before .loop .inv .2) (omega arith) in
+    let m = more (c .before) in
     let w = c .wide .ensures in
-    (omega arith, omega arith, omega arith, c .before .before .before .before .before .loop .inv .3 ∙ rw w (digits-more t i v (c .before .before .before .before .loop-test .taken) d))
+    (omega arith, omega arith, omega arith, c .before .before .before .before .before .loop .inv .3 ∙ rw w (digits-more _ _ _ (c .before .before .before .before .loop-test .taken) (digit (c .before))))
 
 returns-4 : tie.Need-returns-4 Inv-loop μ-loop
-returns-4 c =
-    let t = c .before .before .before .before .before .args .t .now in
-    let i = c .before .loop .i in
-    let v = c .before .loop .v in
-    sym (c .before .loop .inv .3 ∙ digits-end t i v (c .loop-test .left))
+returns-4 c = sym (c .before .loop .inv .3 ∙ digits-end _ _ _ (c .loop-test .left))
 
 pub digits-of-spec : {M : Type 1} → statement M
 digits-of-spec =

@@ -6,6 +6,7 @@ use lib.ListN.{length}
 use Rattle.rows.specs.declared.Parent.the-variants.{FlussoOrdinativi}
 use Rattle.rows.specs.declared.Next.the-variants.{Named}
 use Rattle.rows.specs.Kept.{keptFrom, nextOf}
+use Rattle.children.proofs.Laws.{Lies}
 use Rattle.orders.specs.Orders.{inRow, ordersIn}
 use Rattle.orders.proofs.Laws.{row-at, orders-end, orders-one}
 use Rattle.orders.proofs.count_orders.Statement.{statement}
@@ -31,42 +32,27 @@ enum-told c = search needs
 
 returns : tie.Need-returns Inv-loop μ-loop
 returns c =
-    let s = c .before .before .before .before .before .before .args .s .now in
-    let i = c .before .before .before .loop .i in
-    let n = c .before .before .before .loop .inv .2 in
-    let o = ap length (orders-end s i (sym (c .before .before .next-row .ensures) ∙ c .enum-told .given .1)) in
-    omega arith
+    let o = ap length (orders-end _ (c .before .before .before .loop .i) (sym (c .before .before .next-row .ensures) ∙ c .enum-told .given .1)) in
+    omega (arith, c .before .before .before .loop .inv .2)
+
+-- the order found
+named : (c : tie.After-k Inv-loop μ-loop) → nextOf (inRow 5 (keptFrom FlussoOrdinativi (c .before .before .before .before .before .before .args .s .now) (c .before .before .before .loop .i))) ≡ Named (c .k .given .0 .0)
+named c = sym (c .before .before .next-row .ensures) ∙ c .k .given .1
+
+found : (c : tie.After-k Inv-loop μ-loop) → Lies (c .before .before .before .before .before .before .args .s .now) (c .before .before .before .loop .i) (c .k .given .0 .0 .child)
+found c = row-at 5 FlussoOrdinativi _ _ (c .k .given .0 .0) (named c) .lies
 
 add-n : tie.Need-add-n Inv-loop μ-loop
-add-n c =
-    let s = c .before .before .before .before .before .before .before .before .args .s .now in
-    let i = c .before .before .before .before .before .loop .i in
-    let n = c .before .before .before .before .before .loop .inv .2 in
-    let k = c .before .before .k .given .0 .0 in
-    let e : nextOf (inRow 5 (keptFrom FlussoOrdinativi s i)) ≡ Named k = sym (c .before .before .before .before .next-row .ensures) ∙ c .before .before .k .given .1 in
-    let l = row-at 5 FlussoOrdinativi s i k e .lies in
-    omega arith
+add-n c = omega (arith, found (c .before .before))
 
 loop-less : tie.Need-loop-less Inv-loop μ-loop
-loop-less c =
-    let s = c .before .before .before .before .before .before .before .before .args .s .now in
-    let i = c .before .before .before .before .before .loop .i in
-    let n = c .before .before .before .before .before .loop .inv .2 in
-    let k = c .before .before .k .given .0 .0 in
-    let e : nextOf (inRow 5 (keptFrom FlussoOrdinativi s i)) ≡ Named k = sym (c .before .before .before .before .next-row .ensures) ∙ c .before .before .k .given .1 in
-    let l = row-at 5 FlussoOrdinativi s i k e .lies in
-    omega arith
+loop-less c = omega (arith, found (c .before .before))
 
 loop-again : tie.Need-loop-again Inv-loop μ-loop
 loop-again c =
-    let s = c .before .before .before .before .before .before .before .before .args .s .now in
-    let i = c .before .before .before .before .before .loop .i in
-    let n = c .before .before .before .before .before .loop .inv .2 in
-    let k = c .before .before .k .given .0 .0 in
-    let e : nextOf (inRow 5 (keptFrom FlussoOrdinativi s i)) ≡ Named k = sym (c .before .before .before .before .next-row .ensures) ∙ c .before .before .k .given .1 in
-    let l = row-at 5 FlussoOrdinativi s i k e .lies in
-    let o = ap length (orders-one s i k e) in
-    (l .within, omega arith, omega arith)
+    let l = found (c .before .before) in
+    let o = ap length (orders-one _ _ (c .before .before .k .given .0 .0) (named (c .before .before))) in
+    (l .within, omega arith, omega (arith, c .before .before .before .before .before .loop .inv .2))
 
 pub count-orders-spec : {M : Type 1} → statement M
 count-orders-spec =

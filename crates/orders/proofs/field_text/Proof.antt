@@ -1,9 +1,7 @@
-use mathlib.Core.Path.{_≡_, sym, _∙_}
+use mathlib.Core.Path.{sym, _∙_}
 use native.Mathlib.Omega.{arith}
-use Rattle.rows.specs.declared.Next.the-variants.{Named, Done}
-use Rattle.rows.specs.Kept.{keptFrom, nextOf}
-use Rattle.orders.specs.Orders.{inRow, textIn}
-use Rattle.orders.proofs.Laws.{row-at}
+use Rattle.orders.specs.Orders.{textIn}
+use Rattle.orders.proofs.Laws.{Row-at, row-at}
 use borrow.Author.Needs.{needs}
 use Rattle.orders.proofs.field_text.Statement.{statement}
 use Rattle.orders.proofs.field_text.Tie as tie
@@ -14,49 +12,21 @@ next-row-requires c κs = search needs
 enum-known-k : tie.Need-enum-known-k
 enum-known-k c = search needs
 
+-- the child found
+found : (c : tie.After-k) → let a = c .before .before .before .before .before .args in Row-at (a .row) (a .parent) (a .s .now) (a .from) (c .k .given .0 .0)
+found c = row-at _ _ _ _ _ (sym (c .before .before .next-row .ensures) ∙ c .k .given .1)
+
 add-a : tie.Need-add-a
-add-a c =
-    let s = c .before .before .before .before .before .before .before .before .args .s .now in
-    let p = c .before .before .before .before .before .before .before .before .args .parent in
-    let n = c .before .before .before .before .before .before .before .before .args .row in
-    let i = c .before .before .before .before .before .before .before .before .args .from in
-    let k = c .before .before .before .k .given .0 .0 in
-    let e : nextOf (inRow n (keptFrom p s i)) ≡ Named k = sym (c .before .before .before .before .before .next-row .ensures) ∙ c .before .before .before .k .given .1 in
-    let l = row-at n p s i k e .lies in
-    omega arith
+add-a c = omega (arith, found (c .before .before .before) .lies)
 
 sub-result : tie.Need-sub-result
-sub-result c =
-    let s = c .before .before .before .before .before .before .before .before .args .s .now in
-    let p = c .before .before .before .before .before .before .before .before .args .parent in
-    let n = c .before .before .before .before .before .before .before .before .args .row in
-    let i = c .before .before .before .before .before .before .before .before .args .from in
-    let k = c .before .before .before .k .given .0 .0 in
-    let e : nextOf (inRow n (keptFrom p s i)) ≡ Named k = sym (c .before .before .before .before .before .next-row .ensures) ∙ c .before .before .before .k .given .1 in
-    let l = row-at n p s i k e .lies in
-    omega arith
+sub-result c = omega (arith, found (c .before .before .before) .lies)
 
 part-result-start : tie.Need-part-result-start
-part-result-start c =
-    let s = c .before .before .before .before .before .before .before .before .args .s .now in
-    let p = c .before .before .before .before .before .before .before .before .args .parent in
-    let n = c .before .before .before .before .before .before .before .before .args .row in
-    let i = c .before .before .before .before .before .before .before .before .args .from in
-    let k = c .before .before .before .k .given .0 .0 in
-    let e : nextOf (inRow n (keptFrom p s i)) ≡ Named k = sym (c .before .before .before .before .before .next-row .ensures) ∙ c .before .before .before .k .given .1 in
-    let l = row-at n p s i k e .lies in
-    omega arith
+part-result-start c = omega (arith, found (c .before .before .before) .lies)
 
 part-result-end : tie.Need-part-result-end
-part-result-end c =
-    let s = c .before .before .before .before .before .before .before .before .args .s .now in
-    let p = c .before .before .before .before .before .before .before .before .args .parent in
-    let n = c .before .before .before .before .before .before .before .before .args .row in
-    let i = c .before .before .before .before .before .before .before .before .args .from in
-    let k = c .before .before .before .k .given .0 .0 in
-    let e : nextOf (inRow n (keptFrom p s i)) ≡ Named k = sym (c .before .before .before .before .before .next-row .ensures) ∙ c .before .before .before .k .given .1 in
-    let l = row-at n p s i k e .lies in
-    omega arith
+part-result-end c = omega (arith, found (c .before .before .before) .lies)
 
 enum-told : tie.Need-enum-told
 enum-told c = search needs
@@ -72,25 +42,11 @@ part-result-end-2 c = search needs
 
 returns : tie.Need-returns
 unfolding textIn
-returns c =
-    let s = c .before .before .before .before .before .before .before .before .before .args .s .now in
-    let p = c .before .before .before .before .before .before .before .before .before .args .parent in
-    let n = c .before .before .before .before .before .before .before .before .before .args .row in
-    let i = c .before .before .before .before .before .before .before .before .before .args .from in
-    let k = c .before .before .before .before .k .given .0 .0 in
-    let e : nextOf (inRow n (keptFrom p s i)) ≡ Named k = sym (c .before .before .before .before .before .before .next-row .ensures) ∙ c .before .before .before .before .k .given .1 in
-    let l = row-at n p s i k e .lies in
-    rw e
+returns c = rw (found (c .before .before .before .before) .rest)
 
 returns-2 : tie.Need-returns-2
 unfolding textIn
-returns-2 c =
-    let s = c .before .before .before .before .before .before .args .s .now in
-    let p = c .before .before .before .before .before .before .args .parent in
-    let n = c .before .before .before .before .before .before .args .row in
-    let i = c .before .before .before .before .before .before .args .from in
-    let e : nextOf (inRow n (keptFrom p s i)) ≡ Done = sym (c .before .before .before .next-row .ensures) ∙ c .before .enum-told .given .1 in
-    rw e
+returns-2 c = rw (sym (c .before .before .before .next-row .ensures) ∙ c .before .enum-told .given .1)
 
 pub field-text-spec : {M : Type 1} → statement M
 field-text-spec =

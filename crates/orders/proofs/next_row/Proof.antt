@@ -5,6 +5,7 @@ use borrow.Author.Needs.{needs}
 use lib.ListN.{length}
 use Rattle.rows.specs.declared.Next.the-variants.{Named}
 use Rattle.rows.specs.Kept.{keptFrom, nextOf}
+use Rattle.children.proofs.Laws.{Lies}
 use Rattle.rows.proofs.Laws.{next-at}
 use Rattle.orders.specs.Orders.{inRow}
 use Rattle.orders.proofs.Laws.{row-done, row-other, row-one}
@@ -30,43 +31,23 @@ enum-told : tie.Need-enum-told Inv-loop μ-loop
 enum-told c = search needs
 
 returns : tie.Need-returns Inv-loop μ-loop
-returns c =
-    let s = c .before .before .before .before .before .before .args .s .now in
-    let p = c .before .before .before .before .before .before .args .parent in
-    let n = c .before .before .before .before .before .before .args .row in
-    let i = c .before .before .before .loop .i in
-    sym (ap nextOf (c .before .before .before .loop .inv .1 ∙ row-done n p s i (sym (c .before .before .next-named .ensures) ∙ c .enum-told .given .1)))
+returns c = sym (ap nextOf (c .before .before .before .loop .inv .1 ∙ row-done _ _ _ (c .before .before .before .loop .i) (sym (c .before .before .next-named .ensures) ∙ c .enum-told .given .1)))
+
+-- the child found
+named : (c : tie.After-k Inv-loop μ-loop) → let a = c .before .before .before .before .before .before .args in nextOf (keptFrom (a .parent) (a .s .now) (c .before .before .before .loop .i)) ≡ Named (c .k .given .0 .0)
+named c = sym (c .before .before .next-named .ensures) ∙ c .k .given .1
+
+found : (c : tie.After-k Inv-loop μ-loop) → let a = c .before .before .before .before .before .before .args in Lies (a .s .now) (c .before .before .before .loop .i) (c .k .given .0 .0 .child)
+found c = next-at _ _ _ (c .k .given .0 .0) (named c) .lies
 
 returns-2 : tie.Need-returns-2 Inv-loop μ-loop
-returns-2 c =
-    let s = c .before .before .before .before .before .before .before .before .before .before .args .s .now in
-    let p = c .before .before .before .before .before .before .before .before .before .before .args .parent in
-    let n = c .before .before .before .before .before .before .before .before .before .before .args .row in
-    let i = c .before .before .before .before .before .before .before .loop .i in
-    let k = c .before .before .before .before .k .given .0 .0 in
-    let e : nextOf (keptFrom p s i) ≡ Named k = sym (c .before .before .before .before .before .before .next-named .ensures) ∙ c .before .before .before .before .k .given .1 in
-    sym (ap nextOf (c .before .before .before .before .before .before .before .loop .inv .1 ∙ row-one n p s i k e (c .if1 .taken)))
+returns-2 c = sym (ap nextOf (c .before .before .before .before .before .before .before .loop .inv .1 ∙ row-one _ _ _ _ (c .before .before .before .before .k .given .0 .0) (named (c .before .before .before .before)) (c .if1 .taken)))
 
 loop-less : tie.Need-loop-less Inv-loop μ-loop
-loop-less c =
-    let s = c .before .before .before .before .before .before .before .before .before .before .args .s .now in
-    let p = c .before .before .before .before .before .before .before .before .before .before .args .parent in
-    let n = c .before .before .before .before .before .before .before .before .before .before .args .row in
-    let i = c .before .before .before .before .before .before .before .loop .i in
-    let k = c .before .before .before .before .k .given .0 .0 in
-    let e : nextOf (keptFrom p s i) ≡ Named k = sym (c .before .before .before .before .before .before .next-named .ensures) ∙ c .before .before .before .before .k .given .1 in
-    let l = next-at p s i k e .lies in
-    omega arith
+loop-less c = omega (arith, found (c .before .before .before .before))
 
 loop-again : tie.Need-loop-again Inv-loop μ-loop
-loop-again c =
-    let s = c .before .before .before .before .before .before .before .before .before .before .args .s .now in
-    let p = c .before .before .before .before .before .before .before .before .before .before .args .parent in
-    let n = c .before .before .before .before .before .before .before .before .before .before .args .row in
-    let i = c .before .before .before .before .before .before .before .loop .i in
-    let k = c .before .before .before .before .k .given .0 .0 in
-    let e : nextOf (keptFrom p s i) ≡ Named k = sym (c .before .before .before .before .before .before .next-named .ensures) ∙ c .before .before .before .before .k .given .1 in
-    (next-at p s i k e .lies .within, c .before .before .before .before .before .before .before .loop .inv .1 ∙ row-other n p s i k e (c .if1 .left))
+loop-again c = (found (c .before .before .before .before) .within, c .before .before .before .before .before .before .before .loop .inv .1 ∙ row-other _ _ _ _ (c .before .before .before .before .k .given .0 .0) (named (c .before .before .before .before)) (c .if1 .left))
 
 pub next-row-spec : {M : Type 1} → statement M
 next-row-spec =

@@ -5,15 +5,9 @@ use borrow.Author.Needs.{needs}
 use lib.ListN.{length}
 use Rattle.scan.specs.Bytes.{isWhite}
 use Rattle.scan.proofs.Laws.{run-within}
-use Rattle.fields.specs.declared.Judged.the-variants.{Stands, Breaks}
-use Rattle.fields.specs.Fields.{fieldStands}
-use Rattle.rows.specs.declared.Next.the-variants.{Named, Done}
-use Rattle.rows.specs.declared.Holds.the-variants.{Text, Rows}
-use Rattle.rows.specs.Kept.{keptFrom, nextOf}
-use Rattle.rows.proofs.Laws.{next-at, next-done}
-use Rattle.readings.specs.declared.Bad.the-variants.{Place, Nowhere}
-use Rattle.readings.specs.Readings.{textOf, fieldsBy, fieldsAt, firstBad}
-use Rattle.readings.proofs.Laws.{below, fields-none, fields-level, bad-nil, bad-text-stands, bad-text-breaks, bad-rows-stand, bad-rows-break}
+use Rattle.rows.specs.Kept.{keptFrom}
+use Rattle.readings.specs.Readings.{fieldsBy, fieldsAt, firstBad}
+use Rattle.readings.proofs.Laws.{below, fields-none, fields-level, Found, found, found-none}
 use Prim.Native.Nat.{ℕ, _<_}
 use borrow.Fn.Kinds.{In}
 use borrow.Fn.PlainCycle.{Measures, is, falls, and}
@@ -45,6 +39,10 @@ first-bad-Inv-loop s at parent d past i₀ i = (i ≤ length s) × (firstBad (fi
 abbrev first-bad-μ-loop : first-bad-lts.MeasureT-loop
 first-bad-μ-loop s at parent d past i₀ i = length s - i
 
+-- the child found
+first-bad-found : (t : ℕ) (c : first-bad-lts.After-k (first-bad-calls t) (first-bad-at t) first-bad.Post first-bad-Inv-loop first-bad-μ-loop) → let a = c .before .before .before .before .before .before .before .before .args in Found (firstBad (fieldsAt (a .d) (a .parent) (a .s .now) (a .at))) (a .d) (a .parent) (a .s .now) (c .before .before .before .loop .i) (c .k .given .0 .0)
+first-bad-found t c = found _ _ _ _ _ (c .before .before .before .loop .inv .1) _ (sym (c .before .before .next-named .ensures) ∙ c .k .given .1)
+
 first-bad-returns : (t : ℕ) → first-bad-lts.Need-returns (first-bad-calls t) (first-bad-at t) first-bad.Post first-bad-Inv-loop first-bad-μ-loop
 first-bad-returns t c = rw (c .if1 .taken) (sym (fields-none (c .before .before .before .args .parent) (c .before .before .before .args .s .now) (c .before .before .before .args .at)))
 
@@ -67,61 +65,22 @@ first-bad-enum-told : (t : ℕ) → first-bad-lts.Need-enum-told (first-bad-call
 first-bad-enum-told t c = search needs
 
 first-bad-returns-2 : (t : ℕ) → first-bad-lts.Need-returns-2 (first-bad-calls t) (first-bad-at t) first-bad.Post first-bad-Inv-loop first-bad-μ-loop
-first-bad-returns-2 t c =
-    let s = c .before .before .before .before .before .before .before .before .args .s .now in
-    let p = c .before .before .before .before .before .before .before .before .args .parent in
-    let i = c .before .before .before .loop .i in
-    let d = c .before .before .before .before .before .before .before .before .args .d in
-    let inv = c .before .before .before .loop .inv .1 in
-    let e : nextOf (keptFrom p s i) ≡ Done = sym (c .before .before .next-named .ensures) ∙ c .enum-told .given .1 in
-    sym (inv ∙ bad-nil (below d s) s (keptFrom p s i) (next-done p s i e))
+first-bad-returns-2 t c = found-none _ _ _ _ _ (c .before .before .before .loop .inv .1) (sym (c .before .before .next-named .ensures) ∙ c .enum-told .given .1)
 
 first-bad-add-from : (t : ℕ) → first-bad-lts.Need-add-from (first-bad-calls t) (first-bad-at t) first-bad.Post first-bad-Inv-loop first-bad-μ-loop
-first-bad-add-from t c =
-    let s = c .before .before .before .before .before .before .before .before .before .before .before .args .s .now in
-    let p = c .before .before .before .before .before .before .before .before .before .before .before .args .parent in
-    let i = c .before .before .before .before .before .before .loop .i in
-    let k = c .before .before .before .k .given .0 .0 in
-    let e : nextOf (keptFrom p s i) ≡ Named k = sym (c .before .before .before .before .before .next-named .ensures) ∙ c .before .before .before .k .given .1 in
-    let a = next-at p s i k e in
-    let l = a .lies in
-    omega arith
+first-bad-add-from t c = omega (arith, first-bad-found t (c .before .before .before) .lies)
 
 first-bad-enum-known-h : (t : ℕ) → first-bad-lts.Need-enum-known-h (first-bad-calls t) (first-bad-at t) first-bad.Post first-bad-Inv-loop first-bad-μ-loop
 first-bad-enum-known-h t c = search needs
 
 first-bad-sub-field-stands : (t : ℕ) → first-bad-lts.Need-sub-field-stands (first-bad-calls t) (first-bad-at t) first-bad.Post first-bad-Inv-loop first-bad-μ-loop
-first-bad-sub-field-stands t c =
-    let s = c .before .before .before .before .before .before .before .before .before .before .before .before .before .before .args .s .now in
-    let p = c .before .before .before .before .before .before .before .before .before .before .before .before .before .before .args .parent in
-    let i = c .before .before .before .before .before .before .before .before .before .loop .i in
-    let k = c .before .before .before .before .before .before .k .given .0 .0 in
-    let e : nextOf (keptFrom p s i) ≡ Named k = sym (c .before .before .before .before .before .before .before .before .next-named .ensures) ∙ c .before .before .before .before .before .before .k .given .1 in
-    let a = next-at p s i k e in
-    let l = a .lies in
-    omega arith
+first-bad-sub-field-stands t c = omega (arith, first-bad-found t (c .before .before .before .before .before .before) .lies)
 
 first-bad-part-field-stands-start : (t : ℕ) → first-bad-lts.Need-part-field-stands-start (first-bad-calls t) (first-bad-at t) first-bad.Post first-bad-Inv-loop first-bad-μ-loop
-first-bad-part-field-stands-start t c =
-    let s = c .before .before .before .before .before .before .before .before .before .before .before .before .before .before .args .s .now in
-    let p = c .before .before .before .before .before .before .before .before .before .before .before .before .before .before .args .parent in
-    let i = c .before .before .before .before .before .before .before .before .before .loop .i in
-    let k = c .before .before .before .before .before .before .k .given .0 .0 in
-    let e : nextOf (keptFrom p s i) ≡ Named k = sym (c .before .before .before .before .before .before .before .before .next-named .ensures) ∙ c .before .before .before .before .before .before .k .given .1 in
-    let a = next-at p s i k e in
-    let l = a .lies in
-    omega arith
+first-bad-part-field-stands-start t c = omega (arith, first-bad-found t (c .before .before .before .before .before .before) .lies)
 
 first-bad-part-field-stands-end : (t : ℕ) → first-bad-lts.Need-part-field-stands-end (first-bad-calls t) (first-bad-at t) first-bad.Post first-bad-Inv-loop first-bad-μ-loop
-first-bad-part-field-stands-end t c =
-    let s = c .before .before .before .before .before .before .before .before .before .before .before .before .before .before .args .s .now in
-    let p = c .before .before .before .before .before .before .before .before .before .before .before .before .before .before .args .parent in
-    let i = c .before .before .before .before .before .before .before .before .before .loop .i in
-    let k = c .before .before .before .before .before .before .k .given .0 .0 in
-    let e : nextOf (keptFrom p s i) ≡ Named k = sym (c .before .before .before .before .before .before .before .before .next-named .ensures) ∙ c .before .before .before .before .before .before .k .given .1 in
-    let a = next-at p s i k e in
-    let l = a .lies in
-    omega arith
+first-bad-part-field-stands-end t c = omega (arith, first-bad-found t (c .before .before .before .before .before .before) .lies)
 
 first-bad-field-stands-requires : (t : ℕ) → first-bad-lts.Need-field-stands-requires (first-bad-calls t) (first-bad-at t) first-bad.Post first-bad-Inv-loop first-bad-μ-loop
 first-bad-field-stands-requires t c κs = search needs
@@ -130,54 +89,16 @@ first-bad-enum-told-2 : (t : ℕ) → first-bad-lts.Need-enum-told-2 (first-bad-
 first-bad-enum-told-2 t c = search needs
 
 first-bad-loop-less : (t : ℕ) → first-bad-lts.Need-loop-less (first-bad-calls t) (first-bad-at t) first-bad.Post first-bad-Inv-loop first-bad-μ-loop
-first-bad-loop-less t c =
-    let s = c .before .before .before .before .before .before .before .before .before .before .before .before .before .before .before .before .before .before .args .s .now in
-    let p = c .before .before .before .before .before .before .before .before .before .before .before .before .before .before .before .before .before .before .args .parent in
-    let i = c .before .before .before .before .before .before .before .before .before .before .before .before .before .loop .i in
-    let k = c .before .before .before .before .before .before .before .before .before .before .k .given .0 .0 in
-    let e : nextOf (keptFrom p s i) ≡ Named k = sym (c .before .before .before .before .before .before .before .before .before .before .before .before .next-named .ensures) ∙ c .before .before .before .before .before .before .before .before .before .before .k .given .1 in
-    let a = next-at p s i k e in
-    let l = a .lies in
-    omega arith
+first-bad-loop-less t c = omega (arith, first-bad-found t (c .before .before .before .before .before .before .before .before .before .before) .lies)
 
 first-bad-loop-again : (t : ℕ) → first-bad-lts.Need-loop-again (first-bad-calls t) (first-bad-at t) first-bad.Post first-bad-Inv-loop first-bad-μ-loop
-first-bad-loop-again t c =
-    let s = c .before .before .before .before .before .before .before .before .before .before .before .before .before .before .before .before .before .before .args .s .now in
-    let p = c .before .before .before .before .before .before .before .before .before .before .before .before .before .before .before .before .before .before .args .parent in
-    let i = c .before .before .before .before .before .before .before .before .before .before .before .before .before .loop .i in
-    let k = c .before .before .before .before .before .before .before .before .before .before .k .given .0 .0 in
-    let e : nextOf (keptFrom p s i) ≡ Named k = sym (c .before .before .before .before .before .before .before .before .before .before .before .before .next-named .ensures) ∙ c .before .before .before .before .before .before .before .before .before .before .k .given .1 in
-    let a = next-at p s i k e in
-    let l = a .lies in
-    let d = c .before .before .before .before .before .before .before .before .before .before .before .before .before .before .before .before .before .before .args .d in
-    let inv = c .before .before .before .before .before .before .before .before .before .before .before .before .before .loop .inv .1 in
-    let ks = keptFrom p s i in
-    let u = keptFrom p s (k .child .after) in
-    let f = c .before .before .before .before .before .h .given .0 .0 in
-    let o : k .holds ≡ Text f = c .before .before .before .before .before .h .given .1 in
-    let x : fieldStands f (textOf s k) ≡ Stands = sym (c .before .before .field-stands .ensures) ∙ c .enum-told2 .given .1 in
-    (l .within, inv ∙ bad-text-stands (below d s) s ks k u (a .rest) f o x)
+first-bad-loop-again t c = let f = first-bad-found t (c .before .before .before .before .before .before .before .before .before .before) in (f .lies .within, f .text _ _ (c .before .before .before .before .before .h .given .1) (sym (c .before .before .field-stands .ensures) ∙ c .enum-told2 .given .1))
 
 first-bad-enum-told-3 : (t : ℕ) → first-bad-lts.Need-enum-told-3 (first-bad-calls t) (first-bad-at t) first-bad.Post first-bad-Inv-loop first-bad-μ-loop
 first-bad-enum-told-3 t c = search needs
 
 first-bad-returns-3 : (t : ℕ) → first-bad-lts.Need-returns-3 (first-bad-calls t) (first-bad-at t) first-bad.Post first-bad-Inv-loop first-bad-μ-loop
-first-bad-returns-3 t c =
-    let s = c .before .before .before .before .before .before .before .before .before .before .before .before .before .before .before .before .before .before .args .s .now in
-    let p = c .before .before .before .before .before .before .before .before .before .before .before .before .before .before .before .before .before .before .args .parent in
-    let i = c .before .before .before .before .before .before .before .before .before .before .before .before .before .loop .i in
-    let k = c .before .before .before .before .before .before .before .before .before .before .k .given .0 .0 in
-    let e : nextOf (keptFrom p s i) ≡ Named k = sym (c .before .before .before .before .before .before .before .before .before .before .before .before .next-named .ensures) ∙ c .before .before .before .before .before .before .before .before .before .before .k .given .1 in
-    let a = next-at p s i k e in
-    let l = a .lies in
-    let d = c .before .before .before .before .before .before .before .before .before .before .before .before .before .before .before .before .before .before .args .d in
-    let inv = c .before .before .before .before .before .before .before .before .before .before .before .before .before .loop .inv .1 in
-    let ks = keptFrom p s i in
-    let u = keptFrom p s (k .child .after) in
-    let f = c .before .before .before .before .before .h .given .0 .0 in
-    let o : k .holds ≡ Text f = c .before .before .before .before .before .h .given .1 in
-    let x : fieldStands f (textOf s k) ≡ Breaks = sym (c .before .before .field-stands .ensures) ∙ c .enum-told3 .given .1 in
-    sym (inv ∙ bad-text-breaks (below d s) s ks k u (a .rest) f o x)
+first-bad-returns-3 t c = sym (first-bad-found t (c .before .before .before .before .before .before .before .before .before .before) .text _ _ (c .before .before .before .before .before .h .given .1) (sym (c .before .before .field-stands .ensures) ∙ c .enum-told3 .given .1))
 
 first-bad-enum-known-h-2 : (t : ℕ) → first-bad-lts.Need-enum-known-h-2 (first-bad-calls t) (first-bad-at t) first-bad.Post first-bad-Inv-loop first-bad-μ-loop
 first-bad-enum-known-h-2 t c = search needs
@@ -186,68 +107,22 @@ first-bad-sub-first-bad : (t : ℕ) → first-bad-lts.Need-sub-first-bad (first-
 first-bad-sub-first-bad t c = omega (arith, c .before .before .before .before .before .before .before .before .before .before .before .if1 .left)
 
 first-bad-first-bad-requires : (t : ℕ) → first-bad-lts.Need-first-bad-requires (first-bad-calls t) (first-bad-at t) first-bad.Post first-bad-Inv-loop first-bad-μ-loop
-first-bad-first-bad-requires t c κs =
-    let s = c .before .before .before .before .before .before .before .before .before .before .before .before .before .before .args .s .now in
-    let p = c .before .before .before .before .before .before .before .before .before .before .before .before .before .before .args .parent in
-    let i = c .before .before .before .before .before .before .before .before .before .loop .i in
-    let k = c .before .before .before .before .before .before .k .given .0 .0 in
-    let e : nextOf (keptFrom p s i) ≡ Named k = sym (c .before .before .before .before .before .before .before .before .next-named .ensures) ∙ c .before .before .before .before .before .before .k .given .1 in
-    let a = next-at p s i k e in
-    let l = a .lies in
-    (omega (arith, c .before .before .before .before .before .before .before .before .before .before .before .if1 .left), (omega arith, c .before .before .before .before .before .before .before .before .before .before .before .before .before .before .pre .1 .1))
+first-bad-first-bad-requires t c κs = (omega (arith, c .before .before .before .before .before .before .before .before .before .before .before .if1 .left), (omega (arith, first-bad-found t (c .before .before .before .before .before .before) .lies), c .before .before .before .before .before .before .before .before .before .before .before .before .before .before .pre .1 .1))
 
 first-bad-enum-known-p : (t : ℕ) → first-bad-lts.Need-enum-known-p (first-bad-calls t) (first-bad-at t) first-bad.Post first-bad-Inv-loop first-bad-μ-loop
 first-bad-enum-known-p t c = search needs
 
 first-bad-returns-4 : (t : ℕ) → first-bad-lts.Need-returns-4 (first-bad-calls t) (first-bad-at t) first-bad.Post first-bad-Inv-loop first-bad-μ-loop
-first-bad-returns-4 t c =
-    let s = c .before .before .before .before .before .before .before .before .before .before .before .before .before .before .before .before .before .before .args .s .now in
-    let p = c .before .before .before .before .before .before .before .before .before .before .before .before .before .before .before .before .before .before .args .parent in
-    let i = c .before .before .before .before .before .before .before .before .before .before .before .before .before .loop .i in
-    let k = c .before .before .before .before .before .before .before .before .before .before .k .given .0 .0 in
-    let e : nextOf (keptFrom p s i) ≡ Named k = sym (c .before .before .before .before .before .before .before .before .before .before .before .before .next-named .ensures) ∙ c .before .before .before .before .before .before .before .before .before .before .k .given .1 in
-    let a = next-at p s i k e in
-    let l = a .lies in
-    let d = c .before .before .before .before .before .before .before .before .before .before .before .before .before .before .before .before .before .before .args .d in
-    let inv = c .before .before .before .before .before .before .before .before .before .before .before .before .before .loop .inv .1 in
-    let ks = keptFrom p s i in
-    let u = keptFrom p s (k .child .after) in
-    let q = c .before .before .before .before .before .h2 .given .0 .0 in
-    let o : k .holds ≡ Rows q = c .before .before .before .before .before .h2 .given .1 in
-    let x : firstBad (fieldsAt (d - 1) q s (k .child .gt + 1)) ≡ Place (c .before .p .given .0 .0) = sym (c .before .before .before .first-bad .ensures) ∙ c .before .p .given .1 in
-    sym (inv ∙ bad-rows-break (below d s) s ks k u (a .rest) q o (c .before .p .given .0 .0) x)
+first-bad-returns-4 t c = sym (first-bad-found t (c .before .before .before .before .before .before .before .before .before .before) .rows _ _ (c .before .before .before .before .before .h2 .given .1) (sym (c .before .before .before .first-bad .ensures) ∙ c .before .p .given .1))
 
 first-bad-enum-told-4 : (t : ℕ) → first-bad-lts.Need-enum-told-4 (first-bad-calls t) (first-bad-at t) first-bad.Post first-bad-Inv-loop first-bad-μ-loop
 first-bad-enum-told-4 t c = search needs
 
 first-bad-loop-less-2 : (t : ℕ) → first-bad-lts.Need-loop-less-2 (first-bad-calls t) (first-bad-at t) first-bad.Post first-bad-Inv-loop first-bad-μ-loop
-first-bad-loop-less-2 t c =
-    let s = c .before .before .before .before .before .before .before .before .before .before .before .before .before .before .before .before .before .args .s .now in
-    let p = c .before .before .before .before .before .before .before .before .before .before .before .before .before .before .before .before .before .args .parent in
-    let i = c .before .before .before .before .before .before .before .before .before .before .before .before .loop .i in
-    let k = c .before .before .before .before .before .before .before .before .before .k .given .0 .0 in
-    let e : nextOf (keptFrom p s i) ≡ Named k = sym (c .before .before .before .before .before .before .before .before .before .before .before .next-named .ensures) ∙ c .before .before .before .before .before .before .before .before .before .k .given .1 in
-    let a = next-at p s i k e in
-    let l = a .lies in
-    omega arith
+first-bad-loop-less-2 t c = omega (arith, first-bad-found t (c .before .before .before .before .before .before .before .before .before) .lies)
 
 first-bad-loop-again-2 : (t : ℕ) → first-bad-lts.Need-loop-again-2 (first-bad-calls t) (first-bad-at t) first-bad.Post first-bad-Inv-loop first-bad-μ-loop
-first-bad-loop-again-2 t c =
-    let s = c .before .before .before .before .before .before .before .before .before .before .before .before .before .before .before .before .before .args .s .now in
-    let p = c .before .before .before .before .before .before .before .before .before .before .before .before .before .before .before .before .before .args .parent in
-    let i = c .before .before .before .before .before .before .before .before .before .before .before .before .loop .i in
-    let k = c .before .before .before .before .before .before .before .before .before .k .given .0 .0 in
-    let e : nextOf (keptFrom p s i) ≡ Named k = sym (c .before .before .before .before .before .before .before .before .before .before .before .next-named .ensures) ∙ c .before .before .before .before .before .before .before .before .before .k .given .1 in
-    let a = next-at p s i k e in
-    let l = a .lies in
-    let d = c .before .before .before .before .before .before .before .before .before .before .before .before .before .before .before .before .before .args .d in
-    let inv = c .before .before .before .before .before .before .before .before .before .before .before .before .loop .inv .1 in
-    let ks = keptFrom p s i in
-    let u = keptFrom p s (k .child .after) in
-    let q = c .before .before .before .before .h2 .given .0 .0 in
-    let o : k .holds ≡ Rows q = c .before .before .before .before .h2 .given .1 in
-    let x : firstBad (fieldsAt (d - 1) q s (k .child .gt + 1)) ≡ Nowhere = sym (c .before .before .first-bad .ensures) ∙ c .enum-told4 .given .1 in
-    (l .within, inv ∙ bad-rows-stand (below d s) s ks k u (a .rest) q o x)
+first-bad-loop-again-2 t c = let f = first-bad-found t (c .before .before .before .before .before .before .before .before .before) in (f .lies .within, f .rows _ _ (c .before .before .before .before .h2 .given .1) (sym (c .before .before .first-bad .ensures) ∙ c .enum-told4 .given .1))
 
 pub +first-bad-spec : {M : Type 1} → statement M
 +first-bad-spec = close μ-first-bad λ t. first-bad-lts.spec (first-bad-calls t)

@@ -1,22 +1,14 @@
-use mathlib.Core.Path.{_≡_, sym, _∙_}
-use mathlib.Core.Bool.{true}
-use Prim.Native.Nat.{_+_, _-_, _≤_}
+use mathlib.Core.Path.{sym, _∙_}
+use Prim.Native.Nat.{_+_, _-_}
 use native.Mathlib.Omega.{arith}
 use borrow.Author.Needs.{needs}
 use borrow.Author.Tests.{not-true, not-false}
 use lib.ListN.{length}
 use Rattle.scan.specs.Bytes.{isWhite}
 use Rattle.scan.proofs.Laws.{run-within}
-use Rattle.rows.specs.declared.Next.the-variants.{Named, Done}
-use Rattle.rows.specs.Table.{table}
-use Rattle.rows.specs.Kept.{keptFrom, nextOf}
-use Rattle.rows.proofs.Laws.{next-at, next-done}
-use Rattle.structure.specs.Structure.{ranges}
-use Rattle.structure.specs.Walk.{filledFrom}
-use Rattle.structure.proofs.Laws.{kept-row}
-use Rattle.structure.proofs.Walk.{counted-within, some-row}
+use Rattle.structure.proofs.Walk.{some-row, Goes, Found, found, found-none}
 use Rattle.standing.specs.Standing.{standsAt}
-use Rattle.standing.proofs.Laws.{heldStands, held-text, held-rows, left, stands-none, stands-level, left-end, left-short, left-breaks, left-on}
+use Rattle.standing.proofs.Laws.{keptStands, stands-none, stands-level}
 use Prim.Native.Nat.{ℕ, _<_}
 use borrow.Fn.Kinds.{In}
 use borrow.Fn.PlainCycle.{Measures, is, falls, and}
@@ -45,10 +37,14 @@ abbrev stands-calls : ℕ → stands-lts.Claims
 stands-calls t = (white-end-reads.Asked, white-end-reads.Learnt, next-named-reads.Asked, next-named-reads.Learnt, rows-reads.Asked, rows-reads.Learnt, filled-reads.Asked, filled-reads.Learnt, counted-reads.Asked, counted-reads.Learnt, text-stands-reads.Asked, text-stands-reads.Learnt, stands-below t, stands.Post)
 
 abbrev stands-Inv-loop : stands-lts.InvT-loop
-stands-Inv-loop s at parent d past i₀ row₀ n₀ i row n = (i ≤ length s) × (n ≤ i) × (row < length (ranges (table parent))) × (standsAt d parent s at ≡ left d parent s row n (keptFrom parent s i))
+stands-Inv-loop s at parent d past i₀ row₀ n₀ i row n = Goes (standsAt d parent s at) (keptStands d s) parent s i row n
 
 abbrev stands-μ-loop : stands-lts.MeasureT-loop
 stands-μ-loop s at parent d past i₀ row₀ n₀ i row n = length s - i
+
+-- the child found
+stands-found : (t : ℕ) (c : stands-lts.After-k (stands-calls t) (stands-at t) stands.Post stands-Inv-loop stands-μ-loop) → let a = c .before .before .before .before .before .before .before .before .args in let l = c .before .before .before .loop in Found (standsAt (a .d) (a .parent) (a .s .now) (a .at)) (keptStands (a .d) (a .s .now)) (a .parent) (a .s .now) (l .i) (l .row) (l .n) (c .k .given .0 .0)
+stands-found t c = found _ _ _ _ _ _ _ (c .before .before .before .loop .inv) _ (sym (c .before .before .next-named .ensures) ∙ c .k .given .1)
 
 stands-returns : (t : ℕ) → stands-lts.Need-returns (stands-calls t) (stands-at t) stands.Post stands-Inv-loop stands-μ-loop
 stands-returns t c = rw (c .if1 .taken) (sym (stands-none (c .before .before .before .args .parent) (c .before .before .before .args .s .now) (c .before .before .before .args .at)))
@@ -79,122 +75,34 @@ stands-filled-requires : (t : ℕ) → stands-lts.Need-filled-requires (stands-c
 stands-filled-requires t c κs = search needs
 
 stands-returns-2 : (t : ℕ) → stands-lts.Need-returns-2 (stands-calls t) (stands-at t) stands.Post stands-Inv-loop stands-μ-loop
-stands-returns-2 t c =
-    let s = c .before .before .before .before .before .before .before .before .before .before .args .s .now in
-    let p = c .before .before .before .before .before .before .before .before .before .before .args .parent in
-    let i = c .before .before .before .before .before .loop .i in
-    let d = c .before .before .before .before .before .before .before .before .before .before .args .d in
-    let row = c .before .before .before .before .before .loop .row in
-    let n = c .before .before .before .before .before .loop .n in
-    let inv = c .before .before .before .before .before .loop .inv .3 in
-    let ks = keptFrom p s i in
-    let e : nextOf (keptFrom p s i) ≡ Done = sym (c .before .before .before .before .next-named .ensures) ∙ c .before .before .enum-told .given .1 in
-    c .filled .ensures ∙ rw (c .before .rows .ensures) (sym (inv ∙ left-end d p s row n ks (next-done p s i e) (c .before .before .before .before .before .loop .inv .2)))
+stands-returns-2 t c = c .filled .ensures ∙ rw (c .before .rows .ensures) (found-none _ _ _ _ _ _ _ (c .before .before .before .before .before .loop .inv) (sym (c .before .before .before .before .next-named .ensures) ∙ c .before .before .enum-told .given .1))
 
 stands-add-from : (t : ℕ) → stands-lts.Need-add-from (stands-calls t) (stands-at t) stands.Post stands-Inv-loop stands-μ-loop
-stands-add-from t c =
-    let s = c .before .before .before .before .before .before .before .before .before .before .before .args .s .now in
-    let p = c .before .before .before .before .before .before .before .before .before .before .before .args .parent in
-    let i = c .before .before .before .before .before .before .loop .i in
-    let k = c .before .before .before .k .given .0 .0 in
-    let e : nextOf (keptFrom p s i) ≡ Named k = sym (c .before .before .before .before .before .next-named .ensures) ∙ c .before .before .before .k .given .1 in
-    let a = next-at p s i k e in
-    let l = a .lies in
-    omega arith
+stands-add-from t c = omega (arith, stands-found t (c .before .before .before) .lies)
 
 stands-filled-requires-2 : (t : ℕ) → stands-lts.Need-filled-requires-2 (stands-calls t) (stands-at t) stands.Post stands-Inv-loop stands-μ-loop
 stands-filled-requires-2 t c κs = search needs
 
 stands-returns-3 : (t : ℕ) → stands-lts.Need-returns-3 (stands-calls t) (stands-at t) stands.Post stands-Inv-loop stands-μ-loop
-stands-returns-3 t c =
-    let s = c .before .before .before .before .before .before .before .before .before .before .before .before .before .args .s .now in
-    let p = c .before .before .before .before .before .before .before .before .before .before .before .before .before .args .parent in
-    let i = c .before .before .before .before .before .before .before .before .loop .i in
-    let k = c .before .before .before .before .before .k .given .0 .0 in
-    let e : nextOf (keptFrom p s i) ≡ Named k = sym (c .before .before .before .before .before .before .before .next-named .ensures) ∙ c .before .before .before .before .before .k .given .1 in
-    let a = next-at p s i k e in
-    let l = a .lies in
-    let d = c .before .before .before .before .before .before .before .before .before .before .before .before .before .args .d in
-    let row = c .before .before .before .before .before .before .before .before .loop .row in
-    let n = c .before .before .before .before .before .before .before .before .loop .n in
-    let inv = c .before .before .before .before .before .before .before .before .loop .inv .3 in
-    let ks = keptFrom p s i in
-    let u = keptFrom p s (k .child .after) in
-    sym (inv ∙ left-short d p s row n ks k u (a .rest) (sym (c .before .filled2 .ensures) ∙ not-true _ (c .if2 .taken)))
+stands-returns-3 t c = stands-found t (c .before .before .before .before .before) .short (sym (c .before .filled2 .ensures) ∙ not-true _ (c .if2 .taken))
 
 stands-counted-requires : (t : ℕ) → stands-lts.Need-counted-requires (stands-calls t) (stands-at t) stands.Post stands-Inv-loop stands-μ-loop
-stands-counted-requires t c κs =
-    let s = c .before .before .before .before .before .before .before .before .before .before .before .before .before .args .s .now in
-    let p = c .before .before .before .before .before .before .before .before .before .before .before .before .before .args .parent in
-    let i = c .before .before .before .before .before .before .before .before .loop .i in
-    let k = c .before .before .before .before .before .k .given .0 .0 in
-    let e : nextOf (keptFrom p s i) ≡ Named k = sym (c .before .before .before .before .before .before .before .next-named .ensures) ∙ c .before .before .before .before .before .k .given .1 in
-    let a = next-at p s i k e in
-    let l = a .lies in
-    omega (arith, c .before .before .before .before .before .before .before .before .loop .inv .1)
+stands-counted-requires t c κs = omega (arith, stands-found t (c .before .before .before .before .before) .lies, c .before .before .before .before .before .before .before .before .loop .inv .1)
 
 stands-enum-known-h : (t : ℕ) → stands-lts.Need-enum-known-h (stands-calls t) (stands-at t) stands.Post stands-Inv-loop stands-μ-loop
 stands-enum-known-h t c = search needs
 
 stands-text-stands-requires : (t : ℕ) → stands-lts.Need-text-stands-requires (stands-calls t) (stands-at t) stands.Post stands-Inv-loop stands-μ-loop
-stands-text-stands-requires t c κs =
-    let s = c .before .before .before .before .before .before .before .before .before .before .before .before .before .before .before .before .before .args .s .now in
-    let p = c .before .before .before .before .before .before .before .before .before .before .before .before .before .before .before .before .before .args .parent in
-    let i = c .before .before .before .before .before .before .before .before .before .before .before .before .loop .i in
-    let k = c .before .before .before .before .before .before .before .before .before .k .given .0 .0 in
-    let e : nextOf (keptFrom p s i) ≡ Named k = sym (c .before .before .before .before .before .before .before .before .before .before .before .next-named .ensures) ∙ c .before .before .before .before .before .before .before .before .before .k .given .1 in
-    let a = next-at p s i k e in
-    let l = a .lies in
-    (omega arith, omega arith, c .before .before .before .before .before .before .before .before .before .before .before .before .before .before .before .before .before .pre .1 .1)
+stands-text-stands-requires t c κs = let l = stands-found t (c .before .before .before .before .before .before .before .before .before) .lies in (omega arith, omega arith, c .before .before .before .before .before .before .before .before .before .before .before .before .before .before .before .before .before .pre .1 .1)
 
 stands-returns-4 : (t : ℕ) → stands-lts.Need-returns-4 (stands-calls t) (stands-at t) stands.Post stands-Inv-loop stands-μ-loop
-stands-returns-4 t c =
-    let s = c .before .before .before .before .before .before .before .before .before .before .before .before .before .before .before .before .before .before .before .args .s .now in
-    let p = c .before .before .before .before .before .before .before .before .before .before .before .before .before .before .before .before .before .before .before .args .parent in
-    let i = c .before .before .before .before .before .before .before .before .before .before .before .before .before .before .loop .i in
-    let k = c .before .before .before .before .before .before .before .before .before .before .before .k .given .0 .0 in
-    let e : nextOf (keptFrom p s i) ≡ Named k = sym (c .before .before .before .before .before .before .before .before .before .before .before .before .before .next-named .ensures) ∙ c .before .before .before .before .before .before .before .before .before .before .before .k .given .1 in
-    let a = next-at p s i k e in
-    let l = a .lies in
-    let d = c .before .before .before .before .before .before .before .before .before .before .before .before .before .before .before .before .before .before .before .args .d in
-    let row = c .before .before .before .before .before .before .before .before .before .before .before .before .before .before .loop .row in
-    let n = c .before .before .before .before .before .before .before .before .before .before .before .before .before .before .loop .n in
-    let inv = c .before .before .before .before .before .before .before .before .before .before .before .before .before .before .loop .inv .3 in
-    let ks = keptFrom p s i in
-    let u = keptFrom p s (k .child .after) in
-    let o = held-text d s k (c .before .before .before .h .given .0 .0) (c .before .before .before .h .given .1) in
-    sym (inv ∙ left-breaks d p s row n ks k u (a .rest) (o ∙ (sym (c .before .text-stands .ensures) ∙ not-true _ (c .if3 .taken))))
+stands-returns-4 t c = stands-found t (c .before .before .before .before .before .before .before .before .before .before .before) .other (rw (c .before .before .before .h .given .1) (sym (c .before .text-stands .ensures) ∙ not-true _ (c .if3 .taken)))
 
 stands-loop-less : (t : ℕ) → stands-lts.Need-loop-less (stands-calls t) (stands-at t) stands.Post stands-Inv-loop stands-μ-loop
-stands-loop-less t c =
-    let s = c .before .before .before .before .before .before .before .before .before .before .before .before .before .before .before .before .before .before .before .args .s .now in
-    let p = c .before .before .before .before .before .before .before .before .before .before .before .before .before .before .before .before .before .before .before .args .parent in
-    let i = c .before .before .before .before .before .before .before .before .before .before .before .before .before .before .loop .i in
-    let k = c .before .before .before .before .before .before .before .before .before .before .before .k .given .0 .0 in
-    let e : nextOf (keptFrom p s i) ≡ Named k = sym (c .before .before .before .before .before .before .before .before .before .before .before .before .before .next-named .ensures) ∙ c .before .before .before .before .before .before .before .before .before .before .before .k .given .1 in
-    let a = next-at p s i k e in
-    let l = a .lies in
-    omega arith
+stands-loop-less t c = omega (arith, stands-found t (c .before .before .before .before .before .before .before .before .before .before .before) .lies)
 
 stands-loop-again : (t : ℕ) → stands-lts.Need-loop-again (stands-calls t) (stands-at t) stands.Post stands-Inv-loop stands-μ-loop
-stands-loop-again t c =
-    let s = c .before .before .before .before .before .before .before .before .before .before .before .before .before .before .before .before .before .before .before .args .s .now in
-    let p = c .before .before .before .before .before .before .before .before .before .before .before .before .before .before .before .before .before .before .before .args .parent in
-    let i = c .before .before .before .before .before .before .before .before .before .before .before .before .before .before .loop .i in
-    let k = c .before .before .before .before .before .before .before .before .before .before .before .k .given .0 .0 in
-    let e : nextOf (keptFrom p s i) ≡ Named k = sym (c .before .before .before .before .before .before .before .before .before .before .before .before .before .next-named .ensures) ∙ c .before .before .before .before .before .before .before .before .before .before .before .k .given .1 in
-    let a = next-at p s i k e in
-    let l = a .lies in
-    let d = c .before .before .before .before .before .before .before .before .before .before .before .before .before .before .before .before .before .before .before .args .d in
-    let row = c .before .before .before .before .before .before .before .before .before .before .before .before .before .before .loop .row in
-    let n = c .before .before .before .before .before .before .before .before .before .before .before .before .before .before .loop .n in
-    let inv = c .before .before .before .before .before .before .before .before .before .before .before .before .before .before .loop .inv .3 in
-    let ks = keptFrom p s i in
-    let u = keptFrom p s (k .child .after) in
-    let g : filledFrom (ranges (table p)) row n (k .row) ≡ true = sym (c .before .before .before .before .before .before .before .filled2 .ensures) ∙ not-false _ (c .before .before .before .before .before .before .if2 .left) in
-    let o = held-text d s k (c .before .before .before .h .given .0 .0) (c .before .before .before .h .given .1) in
-    let x : heldStands d s k (k .holds) ≡ true = o ∙ (sym (c .before .text-stands .ensures) ∙ not-false _ (c .if3 .left)) in
-    (l .within, counted-within row n (k .row) (c .before .before .before .before .before .counted .result) (k .child .after) (c .before .before .before .before .before .counted .ensures) (omega (arith, c .before .before .before .before .before .before .before .before .before .before .before .before .before .before .loop .inv .1)), kept-row p s i k u (a .rest), inv ∙ left-on d p s row n ks k u (a .rest) g (c .before .before .before .before .before .counted .result) (c .before .before .before .before .before .counted .ensures) x)
+stands-loop-again t c = stands-found t (c .before .before .before .before .before .before .before .before .before .before .before) .on (sym (c .before .before .before .before .before .before .before .filled2 .ensures) ∙ not-false _ (c .before .before .before .before .before .before .if2 .left)) _ (c .before .before .before .before .before .counted .ensures) (rw (c .before .before .before .h .given .1) (sym (c .before .text-stands .ensures) ∙ not-false _ (c .if3 .left)))
 
 stands-enum-known-h-2 : (t : ℕ) → stands-lts.Need-enum-known-h-2 (stands-calls t) (stands-at t) stands.Post stands-Inv-loop stands-μ-loop
 stands-enum-known-h-2 t c = search needs
@@ -203,64 +111,16 @@ stands-sub-stands : (t : ℕ) → stands-lts.Need-sub-stands (stands-calls t) (s
 stands-sub-stands t c = omega (arith, c .before .before .before .before .before .before .before .before .before .before .before .before .before .before .if1 .left)
 
 stands-stands-requires : (t : ℕ) → stands-lts.Need-stands-requires (stands-calls t) (stands-at t) stands.Post stands-Inv-loop stands-μ-loop
-stands-stands-requires t c κs =
-    let s = c .before .before .before .before .before .before .before .before .before .before .before .before .before .before .before .before .before .args .s .now in
-    let p = c .before .before .before .before .before .before .before .before .before .before .before .before .before .before .before .before .before .args .parent in
-    let i = c .before .before .before .before .before .before .before .before .before .before .before .before .loop .i in
-    let k = c .before .before .before .before .before .before .before .before .before .k .given .0 .0 in
-    let e : nextOf (keptFrom p s i) ≡ Named k = sym (c .before .before .before .before .before .before .before .before .before .before .before .next-named .ensures) ∙ c .before .before .before .before .before .before .before .before .before .k .given .1 in
-    let a = next-at p s i k e in
-    let l = a .lies in
-    (omega (arith, c .before .before .before .before .before .before .before .before .before .before .before .before .before .before .if1 .left), (omega arith, c .before .before .before .before .before .before .before .before .before .before .before .before .before .before .before .before .before .pre .1 .1))
+stands-stands-requires t c κs = (omega (arith, c .before .before .before .before .before .before .before .before .before .before .before .before .before .before .if1 .left), (omega (arith, stands-found t (c .before .before .before .before .before .before .before .before .before) .lies), c .before .before .before .before .before .before .before .before .before .before .before .before .before .before .before .before .before .pre .1 .1))
 
 stands-returns-5 : (t : ℕ) → stands-lts.Need-returns-5 (stands-calls t) (stands-at t) stands.Post stands-Inv-loop stands-μ-loop
-stands-returns-5 t c =
-    let s = c .before .before .before .before .before .before .before .before .before .before .before .before .before .before .before .before .before .before .before .args .s .now in
-    let p = c .before .before .before .before .before .before .before .before .before .before .before .before .before .before .before .before .before .before .before .args .parent in
-    let i = c .before .before .before .before .before .before .before .before .before .before .before .before .before .before .loop .i in
-    let k = c .before .before .before .before .before .before .before .before .before .before .before .k .given .0 .0 in
-    let e : nextOf (keptFrom p s i) ≡ Named k = sym (c .before .before .before .before .before .before .before .before .before .before .before .before .before .next-named .ensures) ∙ c .before .before .before .before .before .before .before .before .before .before .before .k .given .1 in
-    let a = next-at p s i k e in
-    let l = a .lies in
-    let d = c .before .before .before .before .before .before .before .before .before .before .before .before .before .before .before .before .before .before .before .args .d in
-    let row = c .before .before .before .before .before .before .before .before .before .before .before .before .before .before .loop .row in
-    let n = c .before .before .before .before .before .before .before .before .before .before .before .before .before .before .loop .n in
-    let inv = c .before .before .before .before .before .before .before .before .before .before .before .before .before .before .loop .inv .3 in
-    let ks = keptFrom p s i in
-    let u = keptFrom p s (k .child .after) in
-    let o = held-rows d s k (c .before .before .before .h2 .given .0 .0) (c .before .before .before .h2 .given .1) in
-    sym (inv ∙ left-breaks d p s row n ks k u (a .rest) (o ∙ (sym (c .before .stands .ensures) ∙ not-true _ (c .if4 .taken))))
+stands-returns-5 t c = stands-found t (c .before .before .before .before .before .before .before .before .before .before .before) .other (rw (c .before .before .before .h2 .given .1) (sym (c .before .stands .ensures) ∙ not-true _ (c .if4 .taken)))
 
 stands-loop-less-2 : (t : ℕ) → stands-lts.Need-loop-less-2 (stands-calls t) (stands-at t) stands.Post stands-Inv-loop stands-μ-loop
-stands-loop-less-2 t c =
-    let s = c .before .before .before .before .before .before .before .before .before .before .before .before .before .before .before .before .before .before .before .args .s .now in
-    let p = c .before .before .before .before .before .before .before .before .before .before .before .before .before .before .before .before .before .before .before .args .parent in
-    let i = c .before .before .before .before .before .before .before .before .before .before .before .before .before .before .loop .i in
-    let k = c .before .before .before .before .before .before .before .before .before .before .before .k .given .0 .0 in
-    let e : nextOf (keptFrom p s i) ≡ Named k = sym (c .before .before .before .before .before .before .before .before .before .before .before .before .before .next-named .ensures) ∙ c .before .before .before .before .before .before .before .before .before .before .before .k .given .1 in
-    let a = next-at p s i k e in
-    let l = a .lies in
-    omega arith
+stands-loop-less-2 t c = omega (arith, stands-found t (c .before .before .before .before .before .before .before .before .before .before .before) .lies)
 
 stands-loop-again-2 : (t : ℕ) → stands-lts.Need-loop-again-2 (stands-calls t) (stands-at t) stands.Post stands-Inv-loop stands-μ-loop
-stands-loop-again-2 t c =
-    let s = c .before .before .before .before .before .before .before .before .before .before .before .before .before .before .before .before .before .before .before .args .s .now in
-    let p = c .before .before .before .before .before .before .before .before .before .before .before .before .before .before .before .before .before .before .before .args .parent in
-    let i = c .before .before .before .before .before .before .before .before .before .before .before .before .before .before .loop .i in
-    let k = c .before .before .before .before .before .before .before .before .before .before .before .k .given .0 .0 in
-    let e : nextOf (keptFrom p s i) ≡ Named k = sym (c .before .before .before .before .before .before .before .before .before .before .before .before .before .next-named .ensures) ∙ c .before .before .before .before .before .before .before .before .before .before .before .k .given .1 in
-    let a = next-at p s i k e in
-    let l = a .lies in
-    let d = c .before .before .before .before .before .before .before .before .before .before .before .before .before .before .before .before .before .before .before .args .d in
-    let row = c .before .before .before .before .before .before .before .before .before .before .before .before .before .before .loop .row in
-    let n = c .before .before .before .before .before .before .before .before .before .before .before .before .before .before .loop .n in
-    let inv = c .before .before .before .before .before .before .before .before .before .before .before .before .before .before .loop .inv .3 in
-    let ks = keptFrom p s i in
-    let u = keptFrom p s (k .child .after) in
-    let g : filledFrom (ranges (table p)) row n (k .row) ≡ true = sym (c .before .before .before .before .before .before .before .filled2 .ensures) ∙ not-false _ (c .before .before .before .before .before .before .if2 .left) in
-    let o = held-rows d s k (c .before .before .before .h2 .given .0 .0) (c .before .before .before .h2 .given .1) in
-    let x : heldStands d s k (k .holds) ≡ true = o ∙ (sym (c .before .stands .ensures) ∙ not-false _ (c .if4 .left)) in
-    (l .within, counted-within row n (k .row) (c .before .before .before .before .before .counted .result) (k .child .after) (c .before .before .before .before .before .counted .ensures) (omega (arith, c .before .before .before .before .before .before .before .before .before .before .before .before .before .before .loop .inv .1)), kept-row p s i k u (a .rest), inv ∙ left-on d p s row n ks k u (a .rest) g (c .before .before .before .before .before .counted .result) (c .before .before .before .before .before .counted .ensures) x)
+stands-loop-again-2 t c = stands-found t (c .before .before .before .before .before .before .before .before .before .before .before) .on (sym (c .before .before .before .before .before .before .before .filled2 .ensures) ∙ not-false _ (c .before .before .before .before .before .before .if2 .left)) _ (c .before .before .before .before .before .counted .ensures) (rw (c .before .before .before .h2 .given .1) (sym (c .before .stands .ensures) ∙ not-false _ (c .if4 .left)))
 
 pub +stands-spec : {M : Type 1} → statement M
 +stands-spec = close μ-stands λ t. stands-lts.spec (stands-calls t)

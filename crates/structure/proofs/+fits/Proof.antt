@@ -1,20 +1,13 @@
-use mathlib.Core.Path.{_≡_, sym, _∙_}
-use mathlib.Core.Bool.{true}
-use Prim.Native.Nat.{_+_, _-_, _≤_}
+use mathlib.Core.Path.{sym, _∙_}
+use Prim.Native.Nat.{_+_, _-_}
 use native.Mathlib.Omega.{arith}
 use borrow.Author.Needs.{needs}
 use borrow.Author.Tests.{not-true, not-false}
 use lib.ListN.{length}
 use Rattle.scan.specs.Bytes.{isWhite}
 use Rattle.scan.proofs.Laws.{run-within}
-use Rattle.rows.specs.declared.Next.the-variants.{Named, Done}
-use Rattle.rows.specs.Table.{table}
-use Rattle.rows.specs.Kept.{keptFrom, nextOf}
-use Rattle.rows.proofs.Laws.{next-at, next-done}
-use Rattle.structure.specs.Structure.{ranges, keptHolds, fitsAt}
-use Rattle.structure.specs.Walk.{filledFrom}
-use Rattle.structure.proofs.Laws.{kept-row, holds-text, holds-rows}
-use Rattle.structure.proofs.Walk.{counted-within, some-row, deeper, fits-none, fits-level, goesOn, goes-end, goes-short, goes-other, goes-on}
+use Rattle.structure.specs.Structure.{keptHolds, fitsAt}
+use Rattle.structure.proofs.Walk.{some-row, deeper, fits-none, fits-level, Goes, Found, found, found-none}
 use Prim.Native.Nat.{ℕ, _<_}
 use borrow.Fn.Kinds.{In}
 use borrow.Fn.PlainCycle.{Measures, is, falls, and}
@@ -43,10 +36,14 @@ abbrev fits-calls : ℕ → fits-lts.Claims
 fits-calls t = (white-end-reads.Asked, white-end-reads.Learnt, next-named-reads.Asked, next-named-reads.Learnt, rows-reads.Asked, rows-reads.Learnt, filled-reads.Asked, filled-reads.Learnt, counted-reads.Asked, counted-reads.Learnt, text-only-reads.Asked, text-only-reads.Learnt, fits-below t, fits.Post)
 
 abbrev fits-Inv-loop : fits-lts.InvT-loop
-fits-Inv-loop s at parent d past i₀ row₀ n₀ i row n = (i ≤ length s) × (n ≤ i) × (row < length (ranges (table parent))) × (fitsAt d parent s at ≡ goesOn (ranges (table parent)) (keptHolds (deeper d s) s) row n (keptFrom parent s i))
+fits-Inv-loop s at parent d past i₀ row₀ n₀ i row n = Goes (fitsAt d parent s at) (keptHolds (deeper d s) s) parent s i row n
 
 abbrev fits-μ-loop : fits-lts.MeasureT-loop
 fits-μ-loop s at parent d past i₀ row₀ n₀ i row n = length s - i
+
+-- the child found
+fits-found : (t : ℕ) (c : fits-lts.After-k (fits-calls t) (fits-at t) fits.Post fits-Inv-loop fits-μ-loop) → let a = c .before .before .before .before .before .before .before .before .args in let l = c .before .before .before .loop in Found (fitsAt (a .d) (a .parent) (a .s .now) (a .at)) (keptHolds (deeper (a .d) (a .s .now)) (a .s .now)) (a .parent) (a .s .now) (l .i) (l .row) (l .n) (c .k .given .0 .0)
+fits-found t c = found _ _ _ _ _ _ _ (c .before .before .before .loop .inv) _ (sym (c .before .before .next-named .ensures) ∙ c .k .given .1)
 
 fits-returns : (t : ℕ) → fits-lts.Need-returns (fits-calls t) (fits-at t) fits.Post fits-Inv-loop fits-μ-loop
 fits-returns t c = rw (c .if1 .taken) (sym (fits-none (c .before .before .before .args .parent) (c .before .before .before .args .s .now) (c .before .before .before .args .at)))
@@ -77,130 +74,34 @@ fits-filled-requires : (t : ℕ) → fits-lts.Need-filled-requires (fits-calls t
 fits-filled-requires t c κs = search needs
 
 fits-returns-2 : (t : ℕ) → fits-lts.Need-returns-2 (fits-calls t) (fits-at t) fits.Post fits-Inv-loop fits-μ-loop
-fits-returns-2 t c =
-    let s = c .before .before .before .before .before .before .before .before .before .before .args .s .now in
-    let p = c .before .before .before .before .before .before .before .before .before .before .args .parent in
-    let i = c .before .before .before .before .before .loop .i in
-    let d = c .before .before .before .before .before .before .before .before .before .before .args .d in
-    let row = c .before .before .before .before .before .loop .row in
-    let n = c .before .before .before .before .before .loop .n in
-    let inv = c .before .before .before .before .before .loop .inv .3 in
-    let rs = ranges (table p) in
-    let f = keptHolds (deeper d s) s in
-    let ks = keptFrom p s i in
-    let e : nextOf (keptFrom p s i) ≡ Done = sym (c .before .before .before .before .next-named .ensures) ∙ c .before .before .enum-told .given .1 in
-    c .filled .ensures ∙ rw (c .before .rows .ensures) (sym (inv ∙ goes-end rs f row n ks (next-done p s i e) (c .before .before .before .before .before .loop .inv .2)))
+fits-returns-2 t c = c .filled .ensures ∙ rw (c .before .rows .ensures) (found-none _ _ _ _ _ _ _ (c .before .before .before .before .before .loop .inv) (sym (c .before .before .before .before .next-named .ensures) ∙ c .before .before .enum-told .given .1))
 
 fits-add-from : (t : ℕ) → fits-lts.Need-add-from (fits-calls t) (fits-at t) fits.Post fits-Inv-loop fits-μ-loop
-fits-add-from t c =
-    let s = c .before .before .before .before .before .before .before .before .before .before .before .args .s .now in
-    let p = c .before .before .before .before .before .before .before .before .before .before .before .args .parent in
-    let i = c .before .before .before .before .before .before .loop .i in
-    let k = c .before .before .before .k .given .0 .0 in
-    let e : nextOf (keptFrom p s i) ≡ Named k = sym (c .before .before .before .before .before .next-named .ensures) ∙ c .before .before .before .k .given .1 in
-    let a = next-at p s i k e in
-    let l = a .lies in
-    omega arith
+fits-add-from t c = omega (arith, fits-found t (c .before .before .before) .lies)
 
 fits-filled-requires-2 : (t : ℕ) → fits-lts.Need-filled-requires-2 (fits-calls t) (fits-at t) fits.Post fits-Inv-loop fits-μ-loop
 fits-filled-requires-2 t c κs = search needs
 
 fits-returns-3 : (t : ℕ) → fits-lts.Need-returns-3 (fits-calls t) (fits-at t) fits.Post fits-Inv-loop fits-μ-loop
-fits-returns-3 t c =
-    let s = c .before .before .before .before .before .before .before .before .before .before .before .before .before .args .s .now in
-    let p = c .before .before .before .before .before .before .before .before .before .before .before .before .before .args .parent in
-    let i = c .before .before .before .before .before .before .before .before .loop .i in
-    let k = c .before .before .before .before .before .k .given .0 .0 in
-    let e : nextOf (keptFrom p s i) ≡ Named k = sym (c .before .before .before .before .before .before .before .next-named .ensures) ∙ c .before .before .before .before .before .k .given .1 in
-    let a = next-at p s i k e in
-    let l = a .lies in
-    let d = c .before .before .before .before .before .before .before .before .before .before .before .before .before .args .d in
-    let row = c .before .before .before .before .before .before .before .before .loop .row in
-    let n = c .before .before .before .before .before .before .before .before .loop .n in
-    let inv = c .before .before .before .before .before .before .before .before .loop .inv .3 in
-    let rs = ranges (table p) in
-    let f = keptHolds (deeper d s) s in
-    let ks = keptFrom p s i in
-    let u = keptFrom p s (k .child .after) in
-    sym (inv ∙ goes-short rs f row n ks k u (a .rest) (sym (c .before .filled2 .ensures) ∙ not-true _ (c .if2 .taken)))
+fits-returns-3 t c = fits-found t (c .before .before .before .before .before) .short (sym (c .before .filled2 .ensures) ∙ not-true _ (c .if2 .taken))
 
 fits-counted-requires : (t : ℕ) → fits-lts.Need-counted-requires (fits-calls t) (fits-at t) fits.Post fits-Inv-loop fits-μ-loop
-fits-counted-requires t c κs =
-    let s = c .before .before .before .before .before .before .before .before .before .before .before .before .before .args .s .now in
-    let p = c .before .before .before .before .before .before .before .before .before .before .before .before .before .args .parent in
-    let i = c .before .before .before .before .before .before .before .before .loop .i in
-    let k = c .before .before .before .before .before .k .given .0 .0 in
-    let e : nextOf (keptFrom p s i) ≡ Named k = sym (c .before .before .before .before .before .before .before .next-named .ensures) ∙ c .before .before .before .before .before .k .given .1 in
-    let a = next-at p s i k e in
-    let l = a .lies in
-    omega (arith, c .before .before .before .before .before .before .before .before .loop .inv .1)
+fits-counted-requires t c κs = omega (arith, fits-found t (c .before .before .before .before .before) .lies, c .before .before .before .before .before .before .before .before .loop .inv .1)
 
 fits-enum-told-2 : (t : ℕ) → fits-lts.Need-enum-told-2 (fits-calls t) (fits-at t) fits.Post fits-Inv-loop fits-μ-loop
 fits-enum-told-2 t c = search needs
 
 fits-text-only-requires : (t : ℕ) → fits-lts.Need-text-only-requires (fits-calls t) (fits-at t) fits.Post fits-Inv-loop fits-μ-loop
-fits-text-only-requires t c κs =
-    let s = c .before .before .before .before .before .before .before .before .before .before .before .before .before .before .before .before .args .s .now in
-    let p = c .before .before .before .before .before .before .before .before .before .before .before .before .before .before .before .before .args .parent in
-    let i = c .before .before .before .before .before .before .before .before .before .before .before .loop .i in
-    let k = c .before .before .before .before .before .before .before .before .k .given .0 .0 in
-    let e : nextOf (keptFrom p s i) ≡ Named k = sym (c .before .before .before .before .before .before .before .before .before .before .next-named .ensures) ∙ c .before .before .before .before .before .before .before .before .k .given .1 in
-    let a = next-at p s i k e in
-    let l = a .lies in
-    (omega arith, c .before .before .before .before .before .before .before .before .before .before .before .before .before .before .before .before .pre .1 .1)
+fits-text-only-requires t c κs = (omega (arith, fits-found t (c .before .before .before .before .before .before .before .before) .lies), c .before .before .before .before .before .before .before .before .before .before .before .before .before .before .before .before .pre .1 .1)
 
 fits-returns-4 : (t : ℕ) → fits-lts.Need-returns-4 (fits-calls t) (fits-at t) fits.Post fits-Inv-loop fits-μ-loop
-fits-returns-4 t c =
-    let s = c .before .before .before .before .before .before .before .before .before .before .before .before .before .before .before .before .before .before .args .s .now in
-    let p = c .before .before .before .before .before .before .before .before .before .before .before .before .before .before .before .before .before .before .args .parent in
-    let i = c .before .before .before .before .before .before .before .before .before .before .before .before .before .loop .i in
-    let k = c .before .before .before .before .before .before .before .before .before .before .k .given .0 .0 in
-    let e : nextOf (keptFrom p s i) ≡ Named k = sym (c .before .before .before .before .before .before .before .before .before .before .before .before .next-named .ensures) ∙ c .before .before .before .before .before .before .before .before .before .before .k .given .1 in
-    let a = next-at p s i k e in
-    let l = a .lies in
-    let d = c .before .before .before .before .before .before .before .before .before .before .before .before .before .before .before .before .before .before .args .d in
-    let row = c .before .before .before .before .before .before .before .before .before .before .before .before .before .loop .row in
-    let n = c .before .before .before .before .before .before .before .before .before .before .before .before .before .loop .n in
-    let inv = c .before .before .before .before .before .before .before .before .before .before .before .before .before .loop .inv .3 in
-    let rs = ranges (table p) in
-    let f = keptHolds (deeper d s) s in
-    let ks = keptFrom p s i in
-    let u = keptFrom p s (k .child .after) in
-    let o = holds-text (deeper d s) s k (c .before .before .enum-told2 .given .0 .0) (c .before .before .enum-told2 .given .1) in
-    sym (inv ∙ goes-other rs f row n ks k u (a .rest) (o ∙ (sym (c .before .text-only .ensures) ∙ not-true _ (c .if3 .taken))))
+fits-returns-4 t c = fits-found t (c .before .before .before .before .before .before .before .before .before .before) .other (rw (c .before .before .enum-told2 .given .1) (sym (c .before .text-only .ensures) ∙ not-true _ (c .if3 .taken)))
 
 fits-loop-less : (t : ℕ) → fits-lts.Need-loop-less (fits-calls t) (fits-at t) fits.Post fits-Inv-loop fits-μ-loop
-fits-loop-less t c =
-    let s = c .before .before .before .before .before .before .before .before .before .before .before .before .before .before .before .before .before .before .args .s .now in
-    let p = c .before .before .before .before .before .before .before .before .before .before .before .before .before .before .before .before .before .before .args .parent in
-    let i = c .before .before .before .before .before .before .before .before .before .before .before .before .before .loop .i in
-    let k = c .before .before .before .before .before .before .before .before .before .before .k .given .0 .0 in
-    let e : nextOf (keptFrom p s i) ≡ Named k = sym (c .before .before .before .before .before .before .before .before .before .before .before .before .next-named .ensures) ∙ c .before .before .before .before .before .before .before .before .before .before .k .given .1 in
-    let a = next-at p s i k e in
-    let l = a .lies in
-    omega arith
+fits-loop-less t c = omega (arith, fits-found t (c .before .before .before .before .before .before .before .before .before .before) .lies)
 
 fits-loop-again : (t : ℕ) → fits-lts.Need-loop-again (fits-calls t) (fits-at t) fits.Post fits-Inv-loop fits-μ-loop
-fits-loop-again t c =
-    let s = c .before .before .before .before .before .before .before .before .before .before .before .before .before .before .before .before .before .before .args .s .now in
-    let p = c .before .before .before .before .before .before .before .before .before .before .before .before .before .before .before .before .before .before .args .parent in
-    let i = c .before .before .before .before .before .before .before .before .before .before .before .before .before .loop .i in
-    let k = c .before .before .before .before .before .before .before .before .before .before .k .given .0 .0 in
-    let e : nextOf (keptFrom p s i) ≡ Named k = sym (c .before .before .before .before .before .before .before .before .before .before .before .before .next-named .ensures) ∙ c .before .before .before .before .before .before .before .before .before .before .k .given .1 in
-    let a = next-at p s i k e in
-    let l = a .lies in
-    let d = c .before .before .before .before .before .before .before .before .before .before .before .before .before .before .before .before .before .before .args .d in
-    let row = c .before .before .before .before .before .before .before .before .before .before .before .before .before .loop .row in
-    let n = c .before .before .before .before .before .before .before .before .before .before .before .before .before .loop .n in
-    let inv = c .before .before .before .before .before .before .before .before .before .before .before .before .before .loop .inv .3 in
-    let rs = ranges (table p) in
-    let f = keptHolds (deeper d s) s in
-    let ks = keptFrom p s i in
-    let u = keptFrom p s (k .child .after) in
-    let o = holds-text (deeper d s) s k (c .before .before .enum-told2 .given .0 .0) (c .before .before .enum-told2 .given .1) in
-    let g : filledFrom rs row n (k .row) ≡ true = sym (c .before .before .before .before .before .before .filled2 .ensures) ∙ not-false _ (c .before .before .before .before .before .if2 .left) in
-    let x : f k ≡ true = o ∙ (sym (c .before .text-only .ensures) ∙ not-false _ (c .if3 .left)) in
-    (l .within, counted-within row n (k .row) (c .before .before .before .before .counted .result) (k .child .after) (c .before .before .before .before .counted .ensures) (omega (arith, c .before .before .before .before .before .before .before .before .before .before .before .before .before .loop .inv .1)), kept-row p s i k u (a .rest), inv ∙ goes-on rs f row n ks k u (a .rest) g (c .before .before .before .before .counted .result) (c .before .before .before .before .counted .ensures) x)
+fits-loop-again t c = fits-found t (c .before .before .before .before .before .before .before .before .before .before) .on (sym (c .before .before .before .before .before .before .filled2 .ensures) ∙ not-false _ (c .before .before .before .before .before .if2 .left)) _ (c .before .before .before .before .counted .ensures) (rw (c .before .before .enum-told2 .given .1) (sym (c .before .text-only .ensures) ∙ not-false _ (c .if3 .left)))
 
 fits-enum-known-h : (t : ℕ) → fits-lts.Need-enum-known-h (fits-calls t) (fits-at t) fits.Post fits-Inv-loop fits-μ-loop
 fits-enum-known-h t c = search needs
@@ -209,68 +110,16 @@ fits-sub-fits : (t : ℕ) → fits-lts.Need-sub-fits (fits-calls t) (fits-at t) 
 fits-sub-fits t c = omega (arith, c .before .before .before .before .before .before .before .before .before .before .before .before .before .before .if1 .left)
 
 fits-fits-requires : (t : ℕ) → fits-lts.Need-fits-requires (fits-calls t) (fits-at t) fits.Post fits-Inv-loop fits-μ-loop
-fits-fits-requires t c κs =
-    let s = c .before .before .before .before .before .before .before .before .before .before .before .before .before .before .before .before .before .args .s .now in
-    let p = c .before .before .before .before .before .before .before .before .before .before .before .before .before .before .before .before .before .args .parent in
-    let i = c .before .before .before .before .before .before .before .before .before .before .before .before .loop .i in
-    let k = c .before .before .before .before .before .before .before .before .before .k .given .0 .0 in
-    let e : nextOf (keptFrom p s i) ≡ Named k = sym (c .before .before .before .before .before .before .before .before .before .before .before .next-named .ensures) ∙ c .before .before .before .before .before .before .before .before .before .k .given .1 in
-    let a = next-at p s i k e in
-    let l = a .lies in
-    (omega (arith, c .before .before .before .before .before .before .before .before .before .before .before .before .before .before .if1 .left), (omega arith, c .before .before .before .before .before .before .before .before .before .before .before .before .before .before .before .before .before .pre .1 .1))
+fits-fits-requires t c κs = (omega (arith, c .before .before .before .before .before .before .before .before .before .before .before .before .before .before .if1 .left), (omega (arith, fits-found t (c .before .before .before .before .before .before .before .before .before) .lies), c .before .before .before .before .before .before .before .before .before .before .before .before .before .before .before .before .before .pre .1 .1))
 
 fits-returns-5 : (t : ℕ) → fits-lts.Need-returns-5 (fits-calls t) (fits-at t) fits.Post fits-Inv-loop fits-μ-loop
-fits-returns-5 t c =
-    let s = c .before .before .before .before .before .before .before .before .before .before .before .before .before .before .before .before .before .before .before .args .s .now in
-    let p = c .before .before .before .before .before .before .before .before .before .before .before .before .before .before .before .before .before .before .before .args .parent in
-    let i = c .before .before .before .before .before .before .before .before .before .before .before .before .before .before .loop .i in
-    let k = c .before .before .before .before .before .before .before .before .before .before .before .k .given .0 .0 in
-    let e : nextOf (keptFrom p s i) ≡ Named k = sym (c .before .before .before .before .before .before .before .before .before .before .before .before .before .next-named .ensures) ∙ c .before .before .before .before .before .before .before .before .before .before .before .k .given .1 in
-    let a = next-at p s i k e in
-    let l = a .lies in
-    let d = c .before .before .before .before .before .before .before .before .before .before .before .before .before .before .before .before .before .before .before .args .d in
-    let row = c .before .before .before .before .before .before .before .before .before .before .before .before .before .before .loop .row in
-    let n = c .before .before .before .before .before .before .before .before .before .before .before .before .before .before .loop .n in
-    let inv = c .before .before .before .before .before .before .before .before .before .before .before .before .before .before .loop .inv .3 in
-    let rs = ranges (table p) in
-    let f = keptHolds (deeper d s) s in
-    let ks = keptFrom p s i in
-    let u = keptFrom p s (k .child .after) in
-    let o = holds-rows (deeper d s) s k (c .before .before .before .h .given .0 .0) (c .before .before .before .h .given .1) in
-    sym (inv ∙ goes-other rs f row n ks k u (a .rest) (o ∙ (sym (c .before .fits2 .ensures) ∙ not-true _ (c .if4 .taken))))
+fits-returns-5 t c = fits-found t (c .before .before .before .before .before .before .before .before .before .before .before) .other (rw (c .before .before .before .h .given .1) (sym (c .before .fits2 .ensures) ∙ not-true _ (c .if4 .taken)))
 
 fits-loop-less-2 : (t : ℕ) → fits-lts.Need-loop-less-2 (fits-calls t) (fits-at t) fits.Post fits-Inv-loop fits-μ-loop
-fits-loop-less-2 t c =
-    let s = c .before .before .before .before .before .before .before .before .before .before .before .before .before .before .before .before .before .before .before .args .s .now in
-    let p = c .before .before .before .before .before .before .before .before .before .before .before .before .before .before .before .before .before .before .before .args .parent in
-    let i = c .before .before .before .before .before .before .before .before .before .before .before .before .before .before .loop .i in
-    let k = c .before .before .before .before .before .before .before .before .before .before .before .k .given .0 .0 in
-    let e : nextOf (keptFrom p s i) ≡ Named k = sym (c .before .before .before .before .before .before .before .before .before .before .before .before .before .next-named .ensures) ∙ c .before .before .before .before .before .before .before .before .before .before .before .k .given .1 in
-    let a = next-at p s i k e in
-    let l = a .lies in
-    omega arith
+fits-loop-less-2 t c = omega (arith, fits-found t (c .before .before .before .before .before .before .before .before .before .before .before) .lies)
 
 fits-loop-again-2 : (t : ℕ) → fits-lts.Need-loop-again-2 (fits-calls t) (fits-at t) fits.Post fits-Inv-loop fits-μ-loop
-fits-loop-again-2 t c =
-    let s = c .before .before .before .before .before .before .before .before .before .before .before .before .before .before .before .before .before .before .before .args .s .now in
-    let p = c .before .before .before .before .before .before .before .before .before .before .before .before .before .before .before .before .before .before .before .args .parent in
-    let i = c .before .before .before .before .before .before .before .before .before .before .before .before .before .before .loop .i in
-    let k = c .before .before .before .before .before .before .before .before .before .before .before .k .given .0 .0 in
-    let e : nextOf (keptFrom p s i) ≡ Named k = sym (c .before .before .before .before .before .before .before .before .before .before .before .before .before .next-named .ensures) ∙ c .before .before .before .before .before .before .before .before .before .before .before .k .given .1 in
-    let a = next-at p s i k e in
-    let l = a .lies in
-    let d = c .before .before .before .before .before .before .before .before .before .before .before .before .before .before .before .before .before .before .before .args .d in
-    let row = c .before .before .before .before .before .before .before .before .before .before .before .before .before .before .loop .row in
-    let n = c .before .before .before .before .before .before .before .before .before .before .before .before .before .before .loop .n in
-    let inv = c .before .before .before .before .before .before .before .before .before .before .before .before .before .before .loop .inv .3 in
-    let rs = ranges (table p) in
-    let f = keptHolds (deeper d s) s in
-    let ks = keptFrom p s i in
-    let u = keptFrom p s (k .child .after) in
-    let o = holds-rows (deeper d s) s k (c .before .before .before .h .given .0 .0) (c .before .before .before .h .given .1) in
-    let g : filledFrom rs row n (k .row) ≡ true = sym (c .before .before .before .before .before .before .before .filled2 .ensures) ∙ not-false _ (c .before .before .before .before .before .before .if2 .left) in
-    let x : f k ≡ true = o ∙ (sym (c .before .fits2 .ensures) ∙ not-false _ (c .if4 .left)) in
-    (l .within, counted-within row n (k .row) (c .before .before .before .before .before .counted .result) (k .child .after) (c .before .before .before .before .before .counted .ensures) (omega (arith, c .before .before .before .before .before .before .before .before .before .before .before .before .before .before .loop .inv .1)), kept-row p s i k u (a .rest), inv ∙ goes-on rs f row n ks k u (a .rest) g (c .before .before .before .before .before .counted .result) (c .before .before .before .before .before .counted .ensures) x)
+fits-loop-again-2 t c = fits-found t (c .before .before .before .before .before .before .before .before .before .before .before) .on (sym (c .before .before .before .before .before .before .before .filled2 .ensures) ∙ not-false _ (c .before .before .before .before .before .before .if2 .left)) _ (c .before .before .before .before .before .counted .ensures) (rw (c .before .before .before .h .given .1) (sym (c .before .fits2 .ensures) ∙ not-false _ (c .if4 .left)))
 
 pub +fits-spec : {M : Type 1} → statement M
 +fits-spec = close μ-fits λ t. fits-lts.spec (fits-calls t)
