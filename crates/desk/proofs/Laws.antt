@@ -36,9 +36,9 @@ use Rattle.rules.specs.Rules.{codeOf}
 use Rattle.service.specs.Service.{orderComes, orderLeaves, outcomeBytes, one, allLeave, allOutcomes, allAccepted}
 use Rattle.desk.specs.declared.FlowAnswer.{FlowAnswer}
 use Rattle.desk.specs.declared.FlowAnswer.the-variants.{InvalidTable, TooLong, OtherBank, UnknownBody, NoRoom, Taken}
-use Rattle.desk.specs.Desk.{maxFlow, forBank, forFlow, flowReads}
+use Rattle.desk.specs.Desk.{maxFlow, forBank, forFlow, flowReads, Gives, FlowPromise}
 use Rattle.serving.specs.Served.{ordersFrom, Rooted}
-use Rattle.desk.specs.Steps.{headerFrom, roomFor, bodyFor, Gives}
+use Rattle.desk.specs.Steps.{headerFrom, roomFor, bodyFor}
 
 -- THE BODY of an entry: the entry stands in the table, and its slots do
 pub record Placed (t : List ℕ) (b : ℕ) : Type 0 where
@@ -89,16 +89,16 @@ module _ (f : List ℕ) (at from : ℕ) (z : from ≡ whiteAt f at) where
       subst (λ (x : ℕ). Rooted f past x) (sym z) (record { within = run-within isWhite f at (s .within); holds = standing f at (s .fits); noted = n })
 
 module _ (t f out : List ℕ) where
-  pub flow-invalid : tableOk t ≡ false → Gives t out (flowReads t f (length out)) InvalidTable t out
+  pub flow-invalid : tableOk t ≡ false → FlowPromise t f out InvalidTable t out
   unfolding flowReads
   flow-invalid e = rw e (refl, refl, refl)
 
   module _ (e : tableOk t ≡ true) where
-    pub flow-long : maxFlow < length f → Gives t out (flowReads t f (length out)) TooLong t out
+    pub flow-long : maxFlow < length f → FlowPromise t f out TooLong t out
     unfolding flowReads
     flow-long l = rw (e, lt-leb (length f) maxFlow l) (refl, refl, refl)
 
     pub flow-read : {v : Verdict} {r : FlowAnswer} {t′ out′ : List ℕ} → length f ≤ maxFlow → verdictOf f ≡ v → Gives t out (forFlow t f (length out) v) r t′ out′
-        → Gives t out (flowReads t f (length out)) r t′ out′
+        → FlowPromise t f out r t′ out′
     unfolding flowReads
     flow-read l w g = rw (e, le-leb (length f) maxFlow l, w) g

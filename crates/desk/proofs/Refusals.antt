@@ -10,29 +10,24 @@ use Rattle.rules.specs.Rules.{codeOf}
 use Rattle.service.specs.Service.{orderComes, orderLeaves, outcomeBytes, allOutcomes}
 use Rattle.desk.specs.declared.FlowAnswer.{FlowAnswer}
 use Rattle.desk.specs.declared.FlowAnswer.the-variants.{InvalidTable, TooLong, BrokenMarkup, BrokenStructure, BrokenField, OtherBank, UnknownBody, NoRoom, Taken}
-use Rattle.desk.specs.Desk.{Reading, refused, served, flowReads, flowAnswer, flowTable, flowOutcomes, flowCode, flowOrdersOf, flowAccepted}
-use Rattle.desk.specs.Steps.{Gives}
+use Rattle.desk.specs.Desk.{Reading, refused, served, flowReads, flowAnswer, flowTable, flowOutcomes, FlowPromise, flowReply, flowCode}
 use Rattle.serving.proofs.Laws.{outcome-length}
 
--- what `take_flow` promises of its answer and of the two buffers afterwards
-abbrev pub Promise : List ℕ → List ℕ → List ℕ → FlowAnswer → List ℕ → List ℕ → Type 0
-Promise t f out r t′ out′ = Gives t out (flowReads t f (length out)) r t′ out′
-
 -- "Codes 1 to 10 change no buffer"
-pub refused-keeps : (t f out : List ℕ) {a r : FlowAnswer} {t′ out′ : List ℕ} → flowReads t f (length out) ≡ refused a → Promise t f out r t′ out′ → (r ≡ a) × (t′ ≡ t) × (out′ ≡ out)
+pub refused-keeps : (t f out : List ℕ) {a r : FlowAnswer} {t′ out′ : List ℕ} → flowReads t f (length out) ≡ refused a → FlowPromise t f out r t′ out′ → (r ≡ a) × (t′ ≡ t) × (out′ ≡ out)
 refused-keeps t f out e p = rw e at p
 
 coded : (t out : List ℕ) (g : Reading) → (flowCode (flowAnswer t g) ≡ 0 → ⊥) → (flowTable t g ≡ t) × (flowOutcomes t out g ≡ out)
 coded t out (refused a) h = (refl, refl)
 coded t out (served base n year os) h = absurd (h refl)
 
-pub code-keeps : (t f out : List ℕ) {r : FlowAnswer} {t′ out′ : List ℕ} → (flowCode r ≡ 0 → ⊥) → Promise t f out r t′ out′ → (t′ ≡ t) × (out′ ≡ out)
+pub code-keeps : (t f out : List ℕ) {r : FlowAnswer} {t′ out′ : List ℕ} → (flowCode r ≡ 0 → ⊥) → FlowPromise t f out r t′ out′ → (t′ ≡ t) × (out′ ≡ out)
 code-keeps t f out h p =
     let k = coded t out (flowReads t f (length out)) (λ z. h (ap flowCode (p .0) ∙ z)) in
     (p .1 ∙ k .0, p .2 ∙ k .1)
 
 -- "A refusal gives orders and accepted 0"
-pub code-zeros : (r : FlowAnswer) → (flowCode r ≡ 0 → ⊥) → (flowOrdersOf r ≡ 0) × (flowAccepted r ≡ 0)
+pub code-zeros : (r : FlowAnswer) → (flowCode r ≡ 0 → ⊥) → (flowReply r .orders ≡ 0) × (flowReply r .accepted ≡ 0)
 code-zeros InvalidTable h = (refl, refl)
 code-zeros TooLong h = (refl, refl)
 code-zeros BrokenMarkup h = (refl, refl)
@@ -44,7 +39,7 @@ code-zeros NoRoom h = (refl, refl)
 code-zeros (Taken orders accepted) h = absurd (h refl)
 
 -- there is no second result
-pub one-result : (t f out : List ℕ) {r r′ : FlowAnswer} {u u′ o o′ : List ℕ} → Promise t f out r u o → Promise t f out r′ u′ o′ → (r ≡ r′) × (u ≡ u′) × (o ≡ o′)
+pub one-result : (t f out : List ℕ) {r r′ : FlowAnswer} {u u′ o o′ : List ℕ} → FlowPromise t f out r u o → FlowPromise t f out r′ u′ o′ → (r ≡ r′) × (u ≡ u′) × (o ≡ o′)
 one-result t f out p q = (p .0 ∙ sym (q .0), p .1 ∙ sym (q .1), p .2 ∙ sym (q .2))
 
 -- "Each writes 16 outcome bytes"; "Outcome bytes past the last order stay"
@@ -59,7 +54,7 @@ outcomes-length t base n year (o ∷ os) =
     let s = length-append v w in
     omega arith
 
-pub outcomes-past : (t f out : List ℕ) {base n year : ℕ} {os : List Order} {r : FlowAnswer} {t′ out′ : List ℕ} → flowReads t f (length out) ≡ served base n year os → Promise t f out r t′ out′
+pub outcomes-past : (t f out : List ℕ) {base n year : ℕ} {os : List Order} {r : FlowAnswer} {t′ out′ : List ℕ} → flowReads t f (length out) ≡ served base n year os → FlowPromise t f out r t′ out′
     → (i : ℕ) → 16 * length os ≤ i → getD out′ i 0 ≡ getD out i 0
 outcomes-past t f out {base} {n} {year} {os} e p i h =
     let q = rw e at p in

@@ -1,5 +1,6 @@
 -- A flow's call (document 01, "Answers"): what it answers, and every byte of table and outcomes that it leaves.
 use Prim.Native.Nat.{ℕ, zero, suc, _+_, _*_, _-_}
+use mathlib.Core.Path.{_≡_}
 use mathlib.Core.Bool.{Bool, true, false, cond}
 use mathlib.Core.List.{List, [], _∷_, _++_}
 use lib.ListN.{length}
@@ -71,47 +72,42 @@ abbrev pub flowOutcomes : List ℕ → List ℕ → Reading → List ℕ
 flowOutcomes t out (refused a) = out
 flowOutcomes t out (served base n year os) = put out 0 (allOutcomes t base n year os)
 
--- document 01's code, place, orders and accepted: "A refusal gives orders and accepted 0; place is 0 but for code 5"
+-- THE PROMISE of a flow's call
+
+-- answer, table and outcomes are those of a reading
+abbrev pub Gives : List ℕ → List ℕ → Reading → FlowAnswer → List ℕ → List ℕ → Type 0
+Gives t out g a t′ out′ = (a ≡ flowAnswer t g) × (t′ ≡ flowTable t g) × (out′ ≡ flowOutcomes t out g)
+
+-- on the table t and the flow f, with the outcome buffer out lent: the answer a, and the two buffers afterwards
+abbrev pub FlowPromise : List ℕ → List ℕ → List ℕ → FlowAnswer → List ℕ → List ℕ → Type 0
+FlowPromise t f out a t′ out′ = Gives t out (flowReads t f (length out)) a t′ out′
+
+-- DOCUMENT 01'S NUMBERS of an answer: "A refusal gives orders and accepted 0; place is 0 but for code 5"
+pub record FlowReply : Type 0 where
+  pub code : ℕ
+  pub place : ℕ
+  pub orders : ℕ
+  pub accepted : ℕ
+
+abbrev refusal : ℕ → FlowReply
+refusal c = record { code = c; place = 0; orders = 0; accepted = 0 }
+
+abbrev pub flowReply : FlowAnswer → FlowReply
+flowReply InvalidTable = refusal 1
+flowReply TooLong = refusal 2
+flowReply BrokenMarkup = refusal 3
+flowReply BrokenStructure = refusal 4
+flowReply (BrokenField p) = record { code = 5; place = p; orders = 0; accepted = 0 }
+flowReply OtherBank = refusal 6
+flowReply UnknownBody = refusal 7
+flowReply NoRoom = refusal 8
+flowReply (Taken n m) = record { code = 0; place = 0; orders = n; accepted = m }
+
 abbrev pub flowCode : FlowAnswer → ℕ
-flowCode InvalidTable = 1
-flowCode TooLong = 2
-flowCode BrokenMarkup = 3
-flowCode BrokenStructure = 4
-flowCode (BrokenField p) = 5
-flowCode OtherBank = 6
-flowCode UnknownBody = 7
-flowCode NoRoom = 8
-flowCode (Taken orders accepted) = 0
+flowCode a = flowReply a .code
 
-abbrev pub flowPlace : FlowAnswer → ℕ
-flowPlace (BrokenField p) = p
-flowPlace InvalidTable = 0
-flowPlace TooLong = 0
-flowPlace BrokenMarkup = 0
-flowPlace BrokenStructure = 0
-flowPlace OtherBank = 0
-flowPlace UnknownBody = 0
-flowPlace NoRoom = 0
-flowPlace (Taken orders accepted) = 0
-
-abbrev pub flowOrdersOf : FlowAnswer → ℕ
-flowOrdersOf (Taken orders accepted) = orders
-flowOrdersOf InvalidTable = 0
-flowOrdersOf TooLong = 0
-flowOrdersOf BrokenMarkup = 0
-flowOrdersOf BrokenStructure = 0
-flowOrdersOf (BrokenField p) = 0
-flowOrdersOf OtherBank = 0
-flowOrdersOf UnknownBody = 0
-flowOrdersOf NoRoom = 0
-
-abbrev pub flowAccepted : FlowAnswer → ℕ
-flowAccepted (Taken orders accepted) = accepted
-flowAccepted InvalidTable = 0
-flowAccepted TooLong = 0
-flowAccepted BrokenMarkup = 0
-flowAccepted BrokenStructure = 0
-flowAccepted (BrokenField p) = 0
-flowAccepted OtherBank = 0
-flowAccepted UnknownBody = 0
-flowAccepted NoRoom = 0
+-- the promise in these numbers
+abbrev pub FlowReplies : List ℕ → List ℕ → List ℕ → FlowReply → List ℕ → List ℕ → Type 0
+FlowReplies t f out n t′ out′ =
+    (a : FlowAnswer) × FlowPromise t f out a t′ out′
+    × (n .code ≡ flowReply a .code) × (n .place ≡ flowReply a .place) × (n .orders ≡ flowReply a .orders) × (n .accepted ≡ flowReply a .accepted)

@@ -1,6 +1,5 @@
 -- What the steps of a flow's call give, for the contracts of the functions that take them.
 use Prim.Native.Nat.{ℕ}
-use mathlib.Core.Path.{_≡_}
 use mathlib.Core.List.{List}
 use Rattle.rows.specs.declared.Parent.the-variants.{FlussoOrdinativi}
 use Rattle.rows.specs.Kept.{keptFrom}
@@ -9,8 +8,7 @@ use Rattle.orders.specs.Orders.{Header, headerIn}
 use Rattle.entries.specs.Entry.{slotsOf, placeOf}
 use Rattle.table.specs.Table.{bodyOf, entryOf}
 use Rattle.notices.specs.Notices.{bodyAt}
-use Rattle.desk.specs.declared.FlowAnswer.{FlowAnswer}
-use Rattle.desk.specs.Desk.{Reading, withRoom, forBody, flowAnswer, flowTable, flowOutcomes}
+use Rattle.desk.specs.Desk.{Reading, withRoom, forBody}
 
 -- the header of the root's children from a place on
 abbrev pub headerFrom : List ℕ → ℕ → Header
@@ -22,7 +20,3 @@ roomFor t room h os b = withRoom room (placeOf t (entryOf b)) (slotsOf t (entryO
 
 abbrev pub bodyFor : List ℕ → ℕ → Header → List Order → Reading
 bodyFor t room h os = forBody room (h .esercizio) os (bodyAt t (bodyOf t (h .ente)))
-
--- answer, table and outcomes are those of a reading
-abbrev pub Gives : List ℕ → List ℕ → Reading → FlowAnswer → List ℕ → List ℕ → Type 0
-Gives t out g a t′ out′ = (a ≡ flowAnswer t g) × (t′ ≡ flowTable t g) × (out′ ≡ flowOutcomes t out g)

@@ -12,9 +12,9 @@ ghost use Rattle.markup.specs.Noted.{Noted};
 ghost use Rattle.table.specs.Table.{bodies, tableOk};
 ghost use Rattle.flow.specs.declared.Verdict.the-variants.{Stands};
 ghost use Rattle.flow.specs.Flow.{verdictOf, headerOf, flowOrders};
-ghost use Rattle.desk.specs.Desk.{forBank, maxFlow, flowReads, flowAnswer, flowTable, flowOutcomes};
+ghost use Rattle.desk.specs.Desk.{forBank, maxFlow, Gives, FlowPromise};
 ghost use Rattle.serving.specs.Served.{ordersFrom, Rooted};
-ghost use Rattle.desk.specs.Steps.{headerFrom, roomFor, bodyFor, Gives};
+ghost use Rattle.desk.specs.Steps.{headerFrom, roomFor, bodyFor};
 
 // What a flow's call answers.
 pub enum FlowAnswer {
@@ -94,7 +94,7 @@ fn for_bank(t: &mut [u8], f: &[u8], at: usize, out: &mut [u8], past: &[u32]) -> 
 // Reads a flow that is not too long, noting in `past` where its elements end, and serves it.
 fn take_noted(t: &mut [u8], f: &[u8], out: &mut [u8], past: &mut [u32]) -> FlowAnswer
     requires { ⌜ (tableOk (now t) ≡ true) × (length (now f) ≤ maxFlow) × Noted (now f) (now past) ⌝ }
-    ensures { λ r. ⌜ (r ≡ flowAnswer (now (t .entry)) (flowReads (now (t .entry)) (now (f .entry)) (length (now (out .entry))))) × (now (t .exit) ≡ flowTable (now (t .entry)) (flowReads (now (t .entry)) (now (f .entry)) (length (now (out .entry))))) × (now (out .exit) ≡ flowOutcomes (now (t .entry)) (now (out .entry)) (flowReads (now (t .entry)) (now (f .entry)) (length (now (out .entry))))) ⌝ }
+    ensures { λ r. ⌜ FlowPromise (now (t .entry)) (now (f .entry)) (now (out .entry)) r (now (t .exit)) (now (out .exit)) ⌝ }
 {
     match flow::verdict_of(f, past) {
         Verdict::MarkupBreaks(_) => FlowAnswer::BrokenMarkup,
@@ -107,7 +107,7 @@ fn take_noted(t: &mut [u8], f: &[u8], out: &mut [u8], past: &mut [u32]) -> FlowA
 // Takes a flow. Every byte of table and outcomes is determined, and none changes where the flow is refused. A short flow needs few notes, and
 // their zeros are a good part of its time.
 pub fn take_flow(t: &mut [u8], f: &[u8], out: &mut [u8]) -> FlowAnswer
-    ensures { λ r. ⌜ (r ≡ flowAnswer (now (t .entry)) (flowReads (now (t .entry)) (now (f .entry)) (length (now (out .entry))))) × (now (t .exit) ≡ flowTable (now (t .entry)) (flowReads (now (t .entry)) (now (f .entry)) (length (now (out .entry))))) × (now (out .exit) ≡ flowOutcomes (now (t .entry)) (now (out .entry)) (flowReads (now (t .entry)) (now (f .entry)) (length (now (out .entry))))) ⌝ }
+    ensures { λ r. ⌜ FlowPromise (now (t .entry)) (now (f .entry)) (now (out .entry)) r (now (t .exit)) (now (out .exit)) ⌝ }
 {
     if !table::table_ok(t) {
         return FlowAnswer::InvalidTable;

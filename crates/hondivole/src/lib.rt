@@ -4,10 +4,9 @@ use notices::NoticeAnswer;
 use opening::Opened;
 ghost use mathlib.Core.Path.{_≡_};
 ghost use mathlib.Core.Bool.{true, false};
-ghost use lib.ListN.{length};
-ghost use Rattle.opening.specs.Opening.{openOf, openCode, openTable};
-ghost use Rattle.desk.specs.Desk.{flowReads, flowAnswer, flowTable, flowOutcomes, flowCode, flowPlace, flowOrdersOf, flowAccepted};
-ghost use Rattle.notices.specs.Notices.{noticeAnswer, noticeTable, noticeCodeOf, noticeCentsOf, totalsOf};
+ghost use Rattle.opening.specs.Opening.{openCode, OpenReplies};
+ghost use Rattle.desk.specs.Desk.{flowReply, FlowReplies};
+ghost use Rattle.notices.specs.Notices.{noticeCodeOf, noticeCentsOf, NoticeReplies, TotalsPromise};
 
 fn open_code(o: Opened) -> u64
     ensures { λ r. ⌜ r ≡ openCode o ⌝ }
@@ -22,14 +21,13 @@ fn open_code(o: Opened) -> u64
 // Opens a table.
 #[no_mangle]
 pub extern "C" fn hondivole_open(request: &[u8], table: &mut [u8]) -> u64
-    ensures { λ r. ⌜ r ≡ openCode (openOf (now (request .entry)) (length (now (table .entry)))) ⌝ }
-    ensures { λ _. ⌜ now (table .exit) ≡ openTable (openOf (now (request .entry)) (length (now (table .entry)))) (now (request .entry)) (now (table .entry)) ⌝ }
+    ensures { λ r. ⌜ OpenReplies (now (request .entry)) (now (table .entry)) r (now (table .exit)) ⌝ }
 {
     open_code(opening::open_table(request, table))
 }
 
 fn flow_code(a: FlowAnswer) -> u64
-    ensures { λ r. ⌜ r ≡ flowCode a ⌝ }
+    ensures { λ r. ⌜ r ≡ flowReply a .code ⌝ }
 {
     match a {
         FlowAnswer::InvalidTable => 1,
@@ -45,7 +43,7 @@ fn flow_code(a: FlowAnswer) -> u64
 }
 
 fn flow_place(a: FlowAnswer) -> u64
-    ensures { λ r. ⌜ r ≡ flowPlace a ⌝ }
+    ensures { λ r. ⌜ r ≡ flowReply a .place ⌝ }
 {
     match a {
         FlowAnswer::InvalidTable => 0,
@@ -61,7 +59,7 @@ fn flow_place(a: FlowAnswer) -> u64
 }
 
 fn flow_orders(a: FlowAnswer) -> u64
-    ensures { λ r. ⌜ r ≡ flowOrdersOf a ⌝ }
+    ensures { λ r. ⌜ r ≡ flowReply a .orders ⌝ }
 {
     match a {
         FlowAnswer::InvalidTable => 0,
@@ -77,7 +75,7 @@ fn flow_orders(a: FlowAnswer) -> u64
 }
 
 fn flow_accepted(a: FlowAnswer) -> u64
-    ensures { λ r. ⌜ r ≡ flowAccepted a ⌝ }
+    ensures { λ r. ⌜ r ≡ flowReply a .accepted ⌝ }
 {
     match a {
         FlowAnswer::InvalidTable => 0,
@@ -102,12 +100,7 @@ pub extern "C" fn hondivole_flow(
     orders: &mut u64,
     accepted: &mut u64,
 ) -> u64
-    ensures { λ r. ⌜ r ≡ flowCode (flowAnswer (now (table .entry)) (flowReads (now (table .entry)) (now (flow .entry)) (length (now (outcomes .entry))))) ⌝ }
-    ensures { λ _. ⌜ now (place .exit) ≡ flowPlace (flowAnswer (now (table .entry)) (flowReads (now (table .entry)) (now (flow .entry)) (length (now (outcomes .entry))))) ⌝ }
-    ensures { λ _. ⌜ now (orders .exit) ≡ flowOrdersOf (flowAnswer (now (table .entry)) (flowReads (now (table .entry)) (now (flow .entry)) (length (now (outcomes .entry))))) ⌝ }
-    ensures { λ _. ⌜ now (accepted .exit) ≡ flowAccepted (flowAnswer (now (table .entry)) (flowReads (now (table .entry)) (now (flow .entry)) (length (now (outcomes .entry))))) ⌝ }
-    ensures { λ _. ⌜ now (table .exit) ≡ flowTable (now (table .entry)) (flowReads (now (table .entry)) (now (flow .entry)) (length (now (outcomes .entry)))) ⌝ }
-    ensures { λ _. ⌜ now (outcomes .exit) ≡ flowOutcomes (now (table .entry)) (now (outcomes .entry)) (flowReads (now (table .entry)) (now (flow .entry)) (length (now (outcomes .entry)))) ⌝ }
+    ensures { λ r. ⌜ FlowReplies (now (table .entry)) (now (flow .entry)) (now (outcomes .entry)) (record { code = r; place = now (place .exit); orders = now (orders .exit); accepted = now (accepted .exit) }) (now (table .exit)) (now (outcomes .exit)) ⌝ }
 {
     let a = desk::take_flow(table, flow, outcomes);
     *place = flow_place(a);
@@ -149,9 +142,7 @@ pub extern "C" fn hondivole_execute(
     line: u64,
     cents: &mut u64,
 ) -> u64
-    ensures { λ r. ⌜ r ≡ noticeCodeOf (noticeAnswer (now (table .entry)) true (now (body .entry)) (record { kind = kind; esercizio = esercizio; number = number }) line) ⌝ }
-    ensures { λ _. ⌜ now (cents .exit) ≡ noticeCentsOf (noticeAnswer (now (table .entry)) true (now (body .entry)) (record { kind = kind; esercizio = esercizio; number = number }) line) ⌝ }
-    ensures { λ _. ⌜ now (table .exit) ≡ noticeTable (now (table .entry)) true (now (body .entry)) (record { kind = kind; esercizio = esercizio; number = number }) line ⌝ }
+    ensures { λ r. ⌜ NoticeReplies (now (table .entry)) true (now (body .entry)) (record { kind = kind; esercizio = esercizio; number = number }) line r (now (cents .exit)) (now (table .exit)) ⌝ }
 {
     let a = notices::execute(table, body, kind, esercizio, number, line);
     *cents = notice_cents(a);
@@ -169,9 +160,7 @@ pub extern "C" fn hondivole_reverse(
     line: u64,
     cents: &mut u64,
 ) -> u64
-    ensures { λ r. ⌜ r ≡ noticeCodeOf (noticeAnswer (now (table .entry)) false (now (body .entry)) (record { kind = kind; esercizio = esercizio; number = number }) line) ⌝ }
-    ensures { λ _. ⌜ now (cents .exit) ≡ noticeCentsOf (noticeAnswer (now (table .entry)) false (now (body .entry)) (record { kind = kind; esercizio = esercizio; number = number }) line) ⌝ }
-    ensures { λ _. ⌜ now (table .exit) ≡ noticeTable (now (table .entry)) false (now (body .entry)) (record { kind = kind; esercizio = esercizio; number = number }) line ⌝ }
+    ensures { λ r. ⌜ NoticeReplies (now (table .entry)) false (now (body .entry)) (record { kind = kind; esercizio = esercizio; number = number }) line r (now (cents .exit)) (now (table .exit)) ⌝ }
 {
     let a = notices::reverse(table, body, kind, esercizio, number, line);
     *cents = notice_cents(a);
@@ -188,11 +177,7 @@ pub extern "C" fn hondivole_totals(
     collected: &mut u64,
     balance: &mut i64,
 ) -> u64
-    ensures { λ r. ⌜ r ≡ totalsOf (now (table .entry)) (now (body .entry)) .code ⌝ }
-    ensures { λ _. ⌜ now (used .exit) ≡ totalsOf (now (table .entry)) (now (body .entry)) .used ⌝ }
-    ensures { λ _. ⌜ now (paid .exit) ≡ totalsOf (now (table .entry)) (now (body .entry)) .paid ⌝ }
-    ensures { λ _. ⌜ now (collected .exit) ≡ totalsOf (now (table .entry)) (now (body .entry)) .collected ⌝ }
-    ensures { λ _. ⌜ now (balance .exit) ≡ totalsOf (now (table .entry)) (now (body .entry)) .balance ⌝ }
+    ensures { λ r. ⌜ TotalsPromise (now (table .entry)) (now (body .entry)) (record { code = r; used = now (used .exit); paid = now (paid .exit); collected = now (collected .exit); balance = now (balance .exit) }) ⌝ }
 {
     let a = notices::totals(table, body);
     *used = a.used;

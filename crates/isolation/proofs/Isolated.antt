@@ -13,7 +13,7 @@ use lib.ListN.{getElem?}
 use Rattle.isolation.specs.Order.{keep, is, nobody, mine, strays, bodies, inOrder}
 use Rattle.isolation.proofs.OrderLaws.{keep-append, is-same, is-other, mine-inOrder}
 use Rattle.isolation.specs.Machine.{Machine, Laws, Isolated, Line, whose, run, log, number, tickets, ticket}
-use Rattle.isolation.proofs.Runs.{good-run, alone, sorted-log, any-order}
+use Rattle.isolation.proofs.Runs.{good-run, rest-run, alone, sorted-log, two-runs, any-order}
 
 module _ {A : Type 0} where
   keep-comm : (p q : A → Bool) (xs : List A) → keep p (keep q xs) ≡ keep q (keep p xs)
@@ -76,11 +76,13 @@ Numbered M = record {
   Call = ℕ × M .Call;
   Answer = M .Answer;
   Part = M .Part;
+  Rest = M .Rest;
   count = M .count;
   who = λ c. M .who (c .1);
   answer = λ c s. M .answer (c .1) s;
   next = λ c s. M .next (c .1) s;
   part = M .part;
+  rest = M .rest;
 }
 
 -- the laws do not look at the number
@@ -91,6 +93,7 @@ numbered-laws M Good laws = record {
   stray-state = λ c. laws .stray-state (c .1);
   stray-answer = λ c. laws .stray-answer (c .1);
   other = λ c. laws .other (c .1);
+  frame = λ c. laws .frame (c .1);
   own = λ c. laws .own (c .1);
   whole = laws .whole;
 }
@@ -159,8 +162,13 @@ isolated M Good laws s g = record {
       ∙ ap (ticket k) (sym (tickets-log M (number 0 cs) s))
       ∙ (rw zero-add at (answer-at M k 0 cs s));
   final = λ cs. any-order M Good laws s g (inOrder (M .who) (M .count) cs) cs (λ b k. mine-inOrder (M .who) b (M .count) k cs) .0;
-  alone-answers = λ cs b k. alone M Good laws cs b s s g g refl .0;
-  alone-records = λ cs b k. alone M Good laws cs b s s g g refl .1;
+  alone-answers = λ cs b k. alone M Good laws cs b k s s g g refl .0;
+  alone-records = λ cs b k. alone M Good laws cs b k s s g g refl .1;
   stray-state = λ cs c e. laws .stray-state c (run M cs s) (good-run M Good laws cs s g) e;
   stray-answer = λ cs c e. laws .stray-answer c (run M cs s) s (good-run M Good laws cs s g) g e;
+  step = λ cs c a b k e n. laws .other c (run M cs s) a b k (good-run M Good laws cs s g) e n;
+  frame = λ cs. rest-run M Good laws cs s g;
+  whole = λ cs ds f.
+      laws .whole (run M cs s) (run M ds s) (good-run M Good laws cs s g) (good-run M Good laws ds s g) (rest-run M Good laws cs s g ∙ sym (rest-run M Good laws ds s g)) f;
+  two-runs = two-runs M Good laws s g;
 }

@@ -20,6 +20,7 @@ module _ (Call Answer Part : Type 0) (count : ℕ) (who : Call → Option ℕ) (
     Call = Call;
     Answer = Answer;
     Part = Part;
+    Rest = Unit {0};
     count = count;
     who = who;
     refusal = refusal;
@@ -27,6 +28,7 @@ module _ (Call Answer Part : Type 0) (count : ℕ) (who : Call → Option ℕ) (
     leaves = leaves;
     part = λ b s. getD s b blank;
     put = λ b p s. set s b p;
+    rest = λ s. tt;
   }
 
   module _ (Fits : ℕ → Part → Type 0) (named : (c : Call) (b : ℕ) → who c ≡ some b → b < count)
@@ -44,7 +46,8 @@ module _ (Call Answer Part : Type 0) (count : ℕ) (who : Call → Option ℕ) (
       put-good = λ s g b k p f. record { len = length-set s b p ∙ g .len; each = λ a h. each s g b k p f a h (ℕ-discrete a b) };
       part-same = λ s g b k p f. getD-set-same s b p blank (omega (arith, g .len));
       part-other = λ s g b k p f a d. getD-set-other s b a p blank d;
-      whole = λ s t g h e. ext-getD blank s t (g .len ∙ sym (h .len)) (λ b k. e b (omega (arith, g .len)));
+      put-rest = λ s g b k p f. refl;
+      whole = λ s t g h r e. ext-getD blank s t (g .len ∙ sym (h .len)) (λ b k. e b (omega (arith, g .len)));
     }
       where
         each : (s : List Part) → Listed s → (b : ℕ) → b < count → (p : Part) → Fits b p → (a : ℕ) → a < count → Dec (a ≡ b) → Fits a (getD (set s b p) a blank)

@@ -4,7 +4,7 @@ use mathlib.Core.Bool.{Bool, true, false, true≢false}
 use mathlib.Core.Logic.{_≢_}
 use mathlib.Core.Option.{Option, none, some}
 use mathlib.Core.List.{List, [], _∷_, _++_}
-use Prim.Native.Nat.{ℕ, zero, suc, _<_}
+use Prim.Native.Nat.{ℕ, zero, suc, _<_, _≤_}
 use native.Mathlib.Omega.{arith}
 use Rattle.isolation.specs.Order.{is, nobody, mine, strays, bodies, inOrder}
 use Rattle.isolation.proofs.OrderLaws.{is-some, is-same, mine-inOrder, mine-bodies-past}
@@ -31,18 +31,23 @@ module _ (M : Machine) (Good : M .State → Type 0) (laws : Laws M Good) where
   good-run [] s g = g
   good-run (c ∷ cs) s g = good-run cs (M .next c s) (laws .stays c s g)
 
+  -- what no body owns
+  pub rest-run : (cs : List (M .Call)) (s : M .State) → Good s → M .rest (run M cs s) ≡ M .rest s
+  rest-run [] s g = refl
+  rest-run (c ∷ cs) s g = rest-run cs (M .next c s) (laws .stays c s g) ∙ laws .frame c s g
+
   -- a call that is not b's leaves b's part
-  pub not-mine : (c : M .Call) (b : ℕ) (s : M .State) → Good s → is b (M .who c) ≡ false → M .part b (M .next c s) ≡ M .part b s
-  not-mine c b s g n = go (M .who c) refl n
+  pub not-mine : (c : M .Call) (b : ℕ) (s : M .State) → b < M .count → Good s → is b (M .who c) ≡ false → M .part b (M .next c s) ≡ M .part b s
+  not-mine c b s l g n = go (M .who c) refl n
     where
       go : (o : Option ℕ) → M .who c ≡ o → is b o ≡ false → M .part b (M .next c s) ≡ M .part b s
       go none e n = ap (M .part b) (laws .stray-state c s g e)
-      go (some a) e n = laws .other c s b a g e (λ k. true≢false (sym (is-same a) ∙ rw k at n))
+      go (some a) e n = laws .other c s b a l g e (λ k. true≢false (sym (is-same a) ∙ rw k at n))
 
   -- THE HEART: where s and t agree on b's part, b gets and holds the same in both
-  pub alone : (cs : List (M .Call)) (b : ℕ) (s t : M .State) → Good s → Good t → M .part b s ≡ M .part b t → Alone M cs b s t
-  alone [] b s t g h e = (refl, e)
-  alone (c ∷ cs) b s t g h e = go (alone cs b) (is b (M .who c)) refl
+  pub alone : (cs : List (M .Call)) (b : ℕ) → b < M .count → (s t : M .State) → Good s → Good t → M .part b s ≡ M .part b t → Alone M cs b s t
+  alone [] b l s t g h e = (refl, e)
+  alone (c ∷ cs) b l s t g h e = go (alone cs b l) (is b (M .who c)) refl
     where
       go : ((s t : M .State) → Good s → Good t → M .part b s ≡ M .part b t → Alone M cs b s t)
           → (u : Bool) → is b (M .who c) ≡ u → Alone M (c ∷ cs) b s t
@@ -50,7 +55,7 @@ module _ (M : Machine) (Good : M .State → Type 0) (laws : Laws M Good) where
           let o = laws .own c s t b g h (is-some b (M .who c) m) e in
           let r = ih (M .next c s) (M .next c t) (laws .stays c s g) (laws .stays c t h) (o .1) in
           rw m (ap₂ {C = List (Line M)} (λ a l. (c, a) ∷ l) (o .0) (r .0), r .1)
-      go ih false m = rw m (ih (M .next c s) t (laws .stays c s g) h (not-mine c b s g m ∙ e))
+      go ih false m = rw m (ih (M .next c s) t (laws .stays c s g) h (not-mine c b s l g m ∙ e))
 
   pub strays-log : (cs : List (M .Call)) (s t : M .State) → Good s → Good t → strays (whose M) (log M cs s) ≡ log M (strays (M .who) cs) t
   strays-log [] s t g h = refl
@@ -61,45 +66,53 @@ module _ (M : Machine) (Good : M .State → Type 0) (laws : Laws M Good) where
       go ih none e = rw e (ap₂ {C = List (Line M)} (λ a l. (c, a) ∷ l) (laws .stray-answer c s t g h e) (ih (M .next c s) (M .next c t) (laws .stays c s g) (laws .stays c t h)))
       go ih (some b) e = rw e (ih (M .next c s) t (laws .stays c s g) h)
 
-  bodies-log : (n : ℕ) (cs : List (M .Call)) (s : M .State) → Good s → log M (bodies (M .who) n cs) s ≡ bodies (whose M) n (log M cs s)
-  bodies-log zero cs s g = refl
-  bodies-log (suc n) cs s g =
+  bodies-log : (n : ℕ) → n ≤ M .count → (cs : List (M .Call)) (s : M .State) → Good s → log M (bodies (M .who) n cs) s ≡ bodies (whose M) n (log M cs s)
+  bodies-log zero l cs s g = refl
+  bodies-log (suc n) l cs s g =
       let t = run M (bodies (M .who) n cs) s in
       let h : Good t = good-run (bodies (M .who) n cs) s g in
-      let e : M .part n s ≡ M .part n t = sym (rw (mine-bodies-past (M .who) n n (omega arith) cs) at (alone (bodies (M .who) n cs) n s s g g refl .1)) in
+      let e : M .part n s ≡ M .part n t = sym (rw (mine-bodies-past (M .who) n n (omega arith) cs) at (alone (bodies (M .who) n cs) n (omega arith) s s g g refl .1)) in
       log-append M (bodies (M .who) n cs) (mine (M .who) n cs) s
-      ∙ ap₂ {C = List (Line M)} _++_ (bodies-log n cs s g) (sym (alone cs n s t g h e .0))
+      ∙ ap₂ {C = List (Line M)} _++_ (bodies-log n (omega arith) cs s g) (sym (alone cs n (omega arith) s t g h e .0))
 
   -- the log of serving body after body is the log in the order called, sorted body by body
   pub sorted-log : (cs : List (M .Call)) (s : M .State) → Good s → log M (inOrder (M .who) (M .count) cs) s ≡ inOrder (whose M) (M .count) (log M cs s)
   sorted-log cs s g =
       let first = bodies (M .who) (M .count) cs in
       log-append M first (strays (M .who) cs) s
-      ∙ ap₂ {C = List (Line M)} _++_ (bodies-log (M .count) cs s g) (sym (strays-log cs s (run M first s) g (good-run first s g)))
+      ∙ ap₂ {C = List (Line M)} _++_ (bodies-log (M .count) (omega arith) cs s g) (sym (strays-log cs s (run M first s) g (good-run first s g)))
 
   -- the same by the place of a call: c, called after `before` and before `after`, is answered as when it is served in its body's turn,
   -- after every call of the bodies listed before b and after b's own earlier calls
   pub in-turn : (fresh : M .State) → Good fresh → (before : List (M .Call)) (c : M .Call) (after : List (M .Call)) (b : ℕ) → M .who c ≡ some b
       → M .answer c (run M before fresh) ≡ M .answer c (run M (bodies (M .who) b (before ++ c ∷ after) ++ mine (M .who) b before) fresh)
   in-turn s g before c after b e =
+      let l = laws .named c b e in
       let first = bodies (M .who) b (before ++ c ∷ after) in
       let t = run M first s in
       let h : Good t = good-run first s g in
-      let p : M .part b s ≡ M .part b t = sym (rw (mine-bodies-past (M .who) b b (omega arith) (before ++ c ∷ after)) at (alone first b s s g g refl .1)) in
+      let p : M .part b s ≡ M .part b t = sym (rw (mine-bodies-past (M .who) b b (omega arith) (before ++ c ∷ after)) at (alone first b l s s g g refl .1)) in
       rw run-append (laws .own c (run M before s) (run M (mine (M .who) b before) t) b (good-run before s g) (good-run (mine (M .who) b before) t h) e
-      (alone before b s t g h p .1) .0)
+      (alone before b l s t g h p .1) .0)
 
   -- and as if the other bodies had never called
   pub by-itself : (fresh : M .State) → Good fresh → (before : List (M .Call)) (c : M .Call) (b : ℕ) → M .who c ≡ some b
       → M .answer c (run M before fresh) ≡ M .answer c (run M (mine (M .who) b before) fresh)
   by-itself s g before c b e =
-      laws .own c (run M before s) (run M (mine (M .who) b before) s) b (good-run before s g) (good-run (mine (M .who) b before) s g) e (alone before b s s g g refl .1) .0
+      laws .own c (run M before s) (run M (mine (M .who) b before) s) b (good-run before s g) (good-run (mine (M .who) b before) s g) e (alone before b (laws .named c b e) s s g g refl .1) .0
+
+  -- two sequences in which body b makes the same calls in the same order, whatever else they hold
+  pub two-runs : (fresh : M .State) → Good fresh → (cs ds : List (M .Call)) (b : ℕ) → b < M .count → mine (M .who) b cs ≡ mine (M .who) b ds
+      → (mine (whose M) b (log M cs fresh) ≡ mine (whose M) b (log M ds fresh)) × (M .part b (run M cs fresh) ≡ M .part b (run M ds fresh))
+  two-runs s g cs ds b k e =
+      let x = alone cs b k s s g g refl in
+      let y = alone ds b k s s g g refl in
+      (x .0 ∙ ap (λ l. log M l s) e ∙ sym (y .0), x .1 ∙ ap (λ l. M .part b (run M l s)) e ∙ sym (y .1))
 
   -- any two sequences in which each body makes the same calls in the same order, whatever else they hold
   pub any-order : (fresh : M .State) → Good fresh → (cs ds : List (M .Call)) → ((b : ℕ) → b < M .count → mine (M .who) b cs ≡ mine (M .who) b ds)
       → (run M cs fresh ≡ run M ds fresh) × ((b : ℕ) → b < M .count → mine (whose M) b (log M cs fresh) ≡ mine (whose M) b (log M ds fresh))
   any-order s g cs ds h = (
-    laws .whole (run M cs s) (run M ds s) (good-run cs s g) (good-run ds s g)
-        (λ b k. alone cs b s s g g refl .1 ∙ ap (λ l. M .part b (run M l s)) (h b k) ∙ sym (alone ds b s s g g refl .1)),
-    λ b k. alone cs b s s g g refl .0 ∙ ap (λ l. log M l s) (h b k) ∙ sym (alone ds b s s g g refl .0),
+    laws .whole (run M cs s) (run M ds s) (good-run cs s g) (good-run ds s g) (rest-run cs s g ∙ sym (rest-run ds s g)) (λ b k. two-runs s g cs ds b k (h b k) .1),
+    λ b k. two-runs s g cs ds b k (h b k) .0,
   )

@@ -1,6 +1,7 @@
 -- Notices and totals (document 01, "Answers"): which body a call names, what it answers, and every byte it leaves.
 use Prim.Native.Nat.{ℕ, zero, suc, _+_}
 use lib.IntN.{ℤ, pos, _-ℤ_}
+use mathlib.Core.Path.{_≡_}
 use mathlib.Core.Bool.{Bool, true, false, cond}
 use mathlib.Core.List.{List}
 use Rattle.ranges.specs.declared.Found.{Found}
@@ -52,6 +53,10 @@ noticeAnswer t executing code k line = noticeBy t executing k line (addressed t 
 abbrev pub noticeTable : List ℕ → Bool → List ℕ → Key → ℕ → List ℕ
 noticeTable t executing code k line = noticeTableBy t executing k line (addressed t code)
 
+-- THE PROMISE of a notice's call: of execution (true) or reversal (false), for the body with this code, of a line of the order with this key
+abbrev pub NoticePromise : List ℕ → Bool → List ℕ → Key → ℕ → NoticeAnswer → List ℕ → Type 0
+NoticePromise t executing code k line a t′ = (a ≡ noticeAnswer t executing code k line) × (t′ ≡ noticeTable t executing code k line)
+
 -- document 01's code and cents: "cents 0 on refusal"
 abbrev pub noticeCodeOf : NoticeAnswer → ℕ
 noticeCodeOf InvalidTable = 1
@@ -64,6 +69,11 @@ noticeCentsOf InvalidTable = 0
 noticeCentsOf UnknownBody = 0
 noticeCentsOf (Done cents) = cents
 noticeCentsOf (Declined c) = 0
+
+-- the promise in these numbers
+abbrev pub NoticeReplies : List ℕ → Bool → List ℕ → Key → ℕ → ℕ → ℕ → List ℕ → Type 0
+NoticeReplies t executing code k line n cents t′ =
+    (a : NoticeAnswer) × NoticePromise t executing code k line a t′ × (n ≡ noticeCodeOf a) × (cents ≡ noticeCentsOf a)
 
 -- TOTALS: "Totals name a body: code (0, 1, 7), used slots, cents paid (executed mandato lines), cents collected (executed reversale lines), and the
 -- balance, collected less paid, which may be below zero. A refusal gives zeros."
@@ -87,3 +97,7 @@ totalsBy t (Body base n) = bodyTotals t base n
 
 unfoldable pub totalsOf : List ℕ → List ℕ → TotalsAnswer
 totalsOf t code = totalsBy t (addressed t code)
+
+-- THE PROMISE of a totals call, which is lent the table to read only
+abbrev pub TotalsPromise : List ℕ → List ℕ → TotalsAnswer → Type 0
+TotalsPromise t code a = a ≡ totalsOf t code

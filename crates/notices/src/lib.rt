@@ -9,7 +9,7 @@ ghost use lib.IntN.{pos, _-ℤ_};
 ghost use lib.ListN.{length};
 ghost use Rattle.record.specs.Slot.{slotSize};
 ghost use Rattle.body.specs.Body.{bodyOk};
-ghost use Rattle.notices.specs.Notices.{addressed, noticed, noticeAnswer, noticeTable, zeroTotals, bodyTotals, totalsOf};
+ghost use Rattle.notices.specs.Notices.{addressed, noticed, NoticePromise, zeroTotals, bodyTotals, TotalsPromise};
 
 // The body that a code names: where its slots begin and how many they are.
 pub enum Addressed {
@@ -61,7 +61,7 @@ fn answer_of(n: Noticed) -> NoticeAnswer
 }
 
 fn notice(t: &mut [u8], code: &[u8], executing: bool, key: Key, line: u64) -> NoticeAnswer
-    ensures { λ r. ⌜ (r ≡ noticeAnswer (now (t .entry)) executing (now (code .entry)) key line) × (now (t .exit) ≡ noticeTable (now (t .entry)) executing (now (code .entry)) key line) ⌝ }
+    ensures { λ r. ⌜ NoticePromise (now (t .entry)) executing (now (code .entry)) key line r (now (t .exit)) ⌝ }
 {
     match addressed_by(t, code) {
         Addressed::Invalid => NoticeAnswer::InvalidTable,
@@ -86,7 +86,7 @@ pub fn execute(
     number: u64,
     line: u64,
 ) -> NoticeAnswer
-    ensures { λ r. ⌜ (r ≡ noticeAnswer (now (t .entry)) true (now (code .entry)) (record { kind = kind; esercizio = esercizio; number = number }) line) × (now (t .exit) ≡ noticeTable (now (t .entry)) true (now (code .entry)) (record { kind = kind; esercizio = esercizio; number = number }) line) ⌝ }
+    ensures { λ r. ⌜ NoticePromise (now (t .entry)) true (now (code .entry)) (record { kind = kind; esercizio = esercizio; number = number }) line r (now (t .exit)) ⌝ }
 {
     notice(
         t,
@@ -110,7 +110,7 @@ pub fn reverse(
     number: u64,
     line: u64,
 ) -> NoticeAnswer
-    ensures { λ r. ⌜ (r ≡ noticeAnswer (now (t .entry)) false (now (code .entry)) (record { kind = kind; esercizio = esercizio; number = number }) line) × (now (t .exit) ≡ noticeTable (now (t .entry)) false (now (code .entry)) (record { kind = kind; esercizio = esercizio; number = number }) line) ⌝ }
+    ensures { λ r. ⌜ NoticePromise (now (t .entry)) false (now (code .entry)) (record { kind = kind; esercizio = esercizio; number = number }) line r (now (t .exit)) ⌝ }
 {
     notice(
         t,
@@ -165,7 +165,7 @@ fn body_totals(t: &[u8], base: usize, n: usize) -> TotalsAnswer
 
 // A body's totals: used slots, cents paid and collected, and the balance, which may be below zero.
 pub fn totals(t: &[u8], code: &[u8]) -> TotalsAnswer
-    ensures { λ r. ⌜ r ≡ totalsOf (now (t .entry)) (now (code .entry)) ⌝ }
+    ensures { λ r. ⌜ TotalsPromise (now (t .entry)) (now (code .entry)) r ⌝ }
 {
     match addressed_by(t, code) {
         Addressed::Invalid => no_totals(1),

@@ -189,7 +189,8 @@ module _ (q : List ℕ) (ok : requestOk q ≡ true) where
         (omega (arith, length-contents));
   }
 
-  past : (i : ℕ) → headSize + entrySize * asked q ≤ i → getD (opened q) i 0 ≡ 0
+  -- every slot is empty
+  pub past : (i : ℕ) → headSize + entrySize * asked q ≤ i → getD (opened q) i 0 ≡ 0
   unfolding opened
   past i l =
       let m : ℕ = headSize + entrySize * asked q in

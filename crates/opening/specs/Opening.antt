@@ -1,6 +1,7 @@
 -- Opening a table (document 01, "The table": "Opening takes five ABI digits followed by 20 bytes per body (an entry's bytes 0 to 19) and a buffer of
 -- exactly the needed length, and fills it, every slot empty; its answer is a code").
 use Prim.Native.Nat.{ℕ, zero, suc, _+_, _*_}
+use mathlib.Core.Path.{_≡_}
 use mathlib.Core.Bool.{cond}
 use mathlib.Core.List.{List, [], _∷_, _++_}
 use lib.ListN.{length, replicate}
@@ -49,3 +50,11 @@ abbrev pub openTable : Opened → List ℕ → List ℕ → List ℕ
 openTable Open q t = opened q
 openTable WrongRequest q t = t
 openTable WrongLength q t = t
+
+-- THE PROMISE of opening, of the request q and the lent buffer t
+abbrev pub OpenPromise : List ℕ → List ℕ → Opened → List ℕ → Type 0
+OpenPromise q t a t′ = (a ≡ openOf q (length t)) × (t′ ≡ openTable a q t)
+
+-- the promise in document 01's number
+abbrev pub OpenReplies : List ℕ → List ℕ → ℕ → List ℕ → Type 0
+OpenReplies q t n t′ = (a : Opened) × OpenPromise q t a t′ × (n ≡ openCode a)

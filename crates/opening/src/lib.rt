@@ -6,7 +6,7 @@ ghost use lib.ListN.{length, replicate};
 ghost use Rattle.words.specs.Numbers.{put};
 ghost use Rattle.entries.specs.Entry.{requestSize};
 ghost use Rattle.request.specs.Request.{firstBody, asked, needed, requestOk};
-ghost use Rattle.opening.specs.Opening.{headBytes, entryBytes, entriesBytes, opened, openOf, openTable};
+ghost use Rattle.opening.specs.Opening.{headBytes, entryBytes, entriesBytes, opened, OpenPromise};
 
 // What opening answers.
 pub enum Opened {
@@ -80,7 +80,7 @@ fn fill(t: &mut [u8], q: &[u8], n: usize)
 
 // Opens a table in the lent buffer: every byte is written, or none.
 pub fn open_table(q: &[u8], t: &mut [u8]) -> Opened
-    ensures { λ r. ⌜ (r ≡ openOf (now (q .entry)) (length (now (t .entry)))) × (now (t .exit) ≡ openTable r (now (q .entry)) (now (t .entry))) ⌝ }
+    ensures { λ r. ⌜ OpenPromise (now (q .entry)) (now (t .entry)) r (now (t .exit)) ⌝ }
 {
     if !request::request_ok(q) {
         return Opened::WrongRequest;

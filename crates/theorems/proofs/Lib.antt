@@ -1,7 +1,13 @@
 pub mod Good
+pub mod Named
+pub mod Steps
 pub mod Calls
+pub mod Worth
 pub mod Condition3
+pub mod History
 pub mod Marked
+pub mod Codes
+pub mod Accepted
 pub mod NoSecond
 pub mod Reordering
 pub mod Wrong

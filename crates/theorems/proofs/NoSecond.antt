@@ -1,51 +1,43 @@
--- NO SECOND ANSWER (document 01, "How tight the promises are"): what each public call promises of its answer and of every byte of the buffers that it
--- may write, and that two results that both meet a promise are one. Nothing is asked of the input.
+-- NO SECOND ANSWER (document 01, "How tight the promises are"): two results that both keep the promise of a public call are one, answer and every byte
+-- of the buffers that it may write. Nothing is asked of the input. The promises are those that the calls' own contracts cite.
 use Prim.Native.Nat.{ℕ}
-use mathlib.Core.Path.{_≡_, sym, _∙_}
+use mathlib.Core.Path.{_≡_, sym, ap, _∙_}
 use mathlib.Core.Bool.{Bool}
 use mathlib.Core.List.{List}
-use lib.ListN.{length}
 use Rattle.record.specs.declared.Key.{Key}
 use Rattle.opening.specs.declared.Opened.{Opened}
-use Rattle.opening.specs.Opening.{openOf, openTable}
+use Rattle.opening.specs.Opening.{openTable, OpenPromise}
 use Rattle.notices.specs.declared.NoticeAnswer.{NoticeAnswer}
 use Rattle.notices.specs.declared.TotalsAnswer.{TotalsAnswer}
-use Rattle.notices.specs.Notices.{noticeAnswer, noticeTable, totalsOf}
+use Rattle.notices.specs.Notices.{NoticePromise, TotalsPromise}
 use Rattle.desk.specs.declared.FlowAnswer.{FlowAnswer}
-use Rattle.desk.specs.Desk.{flowReads, flowAnswer, flowTable, flowOutcomes}
+use Rattle.desk.specs.Desk.{FlowPromise, FlowReply, flowReply, FlowReplies}
 
 -- what equals one thing is one thing
 one : {A : Type 0} {x y z : A} → x ≡ z → y ≡ z → x ≡ y
 one e d = e ∙ sym d
 
--- open_table, of the request q and the buffer t
-abbrev pub MeetsOpen : List ℕ → List ℕ → Opened → List ℕ → Type 0
-MeetsOpen q t a t′ = (a ≡ openOf q (length t)) × (t′ ≡ openTable a q t)
-
-pub one-open : (q t : List ℕ) (a b : Opened) (u v : List ℕ) → MeetsOpen q t a u → MeetsOpen q t b v → (a ≡ b) × (u ≡ v)
+pub one-open : (q t : List ℕ) (a b : Opened) (u v : List ℕ) → OpenPromise q t a u → OpenPromise q t b v → (a ≡ b) × (u ≡ v)
 one-open q t a b u v m n = (one (m .0) (n .0), one (m .1 ∙ (λ i. openTable (m .0 i) q t)) (n .1 ∙ (λ i. openTable (n .0 i) q t)))
 
--- take_flow, of the table t, the flow f and the outcome buffer out
-abbrev pub MeetsFlow : List ℕ → List ℕ → List ℕ → FlowAnswer → List ℕ → List ℕ → Type 0
-MeetsFlow t f out a t′ out′ =
-    (a ≡ flowAnswer t (flowReads t f (length out)))
-    × (t′ ≡ flowTable t (flowReads t f (length out)))
-    × (out′ ≡ flowOutcomes t out (flowReads t f (length out)))
-
-pub one-flow : (t f out : List ℕ) (a b : FlowAnswer) (u v x y : List ℕ) → MeetsFlow t f out a u x → MeetsFlow t f out b v y → (a ≡ b) × (u ≡ v) × (x ≡ y)
+pub one-flow : (t f out : List ℕ) (a b : FlowAnswer) (u v x y : List ℕ) → FlowPromise t f out a u x → FlowPromise t f out b v y → (a ≡ b) × (u ≡ v) × (x ≡ y)
 one-flow t f out a b u v x y m n = (one (m .0) (n .0), one (m .1) (n .1), one (m .2) (n .2))
 
--- execute (true) and reverse (false), of the table t, the body code, the order's key and the line
-abbrev pub MeetsNotice : List ℕ → Bool → List ℕ → Key → ℕ → NoticeAnswer → List ℕ → Type 0
-MeetsNotice t executing code k line a t′ = (a ≡ noticeAnswer t executing code k line) × (t′ ≡ noticeTable t executing code k line)
-
+-- execution (true) and reversal (false)
 pub one-notice : (t : List ℕ) (executing : Bool) (code : List ℕ) (k : Key) (line : ℕ) (a b : NoticeAnswer) (u v : List ℕ)
-    → MeetsNotice t executing code k line a u → MeetsNotice t executing code k line b v → (a ≡ b) × (u ≡ v)
+    → NoticePromise t executing code k line a u → NoticePromise t executing code k line b v → (a ≡ b) × (u ≡ v)
 one-notice t executing code k line a b u v m n = (one (m .0) (n .0), one (m .1) (n .1))
 
--- totals, of the table t and the body code; it is lent the table to read only
-abbrev pub MeetsTotals : List ℕ → List ℕ → TotalsAnswer → Type 0
-MeetsTotals t code a = a ≡ totalsOf t code
-
-pub one-totals : (t code : List ℕ) (a b : TotalsAnswer) → MeetsTotals t code a → MeetsTotals t code b → a ≡ b
+pub one-totals : (t code : List ℕ) (a b : TotalsAnswer) → TotalsPromise t code a → TotalsPromise t code b → a ≡ b
 one-totals t code a b m n = one m n
+
+-- the same of the exported function, in document 01's numbers
+pub one-reply : (t f out : List ℕ) (m n : FlowReply) (u v x y : List ℕ) → FlowReplies t f out m u x → FlowReplies t f out n v y → (m ≡ n) × (u ≡ v) × (x ≡ y)
+one-reply t f out m n u v x y p q =
+    let e = one-flow t f out (p .0) (q .0) u v x y (p .1) (q .1) in
+    let r = ap flowReply (e .0) in
+    let code = p .2 ∙ ap (λ (x : FlowReply). x .code) r ∙ sym (q .2) in
+    let place = p .3 ∙ ap (λ (x : FlowReply). x .place) r ∙ sym (q .3) in
+    let orders = p .4 ∙ ap (λ (x : FlowReply). x .orders) r ∙ sym (q .4) in
+    let accepted = p .5 ∙ ap (λ (x : FlowReply). x .accepted) r ∙ sym (q .5) in
+    (λ i. record { code = code i; place = place i; orders = orders i; accepted = accepted i }, e .1, e .2)

@@ -5,12 +5,12 @@ use mathlib.Core.Path.{_≡_}
 use mathlib.Core.List.{List}
 use Rattle.isolation.specs.Order.{mine, strays, inOrder}
 use Rattle.isolation.proofs.OrderLaws.{mine-inOrder, strays-inOrder}
-use Rattle.request.specs.Request.{asked}
+use Rattle.table.specs.Table.{bodies}
 use Rattle.theorems.specs.Condition3.{Call, who}
 
-module _ (q : List ℕ) (cs : List Call) where
-  pub bodies-kept : (b : ℕ) → b < asked q → mine (who q) b (inOrder (who q) (asked q) cs) ≡ mine (who q) b cs
-  bodies-kept b h = mine-inOrder (who q) b (asked q) h cs
+module _ (t₀ : List ℕ) (cs : List Call) where
+  pub bodies-kept : (b : ℕ) → b < bodies t₀ → mine (who t₀) b (inOrder (who t₀) (bodies t₀) cs) ≡ mine (who t₀) b cs
+  bodies-kept b h = mine-inOrder (who t₀) b (bodies t₀) h cs
 
-  pub strays-kept : strays (who q) (inOrder (who q) (asked q) cs) ≡ strays (who q) cs
-  strays-kept = strays-inOrder (who q) (asked q) cs
+  pub strays-kept : strays (who t₀) (inOrder (who t₀) (bodies t₀) cs) ≡ strays (who t₀) cs
+  strays-kept = strays-inOrder (who t₀) (bodies t₀) cs

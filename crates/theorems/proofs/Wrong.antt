@@ -1,5 +1,5 @@
 -- WHAT THE PROMISES RULE OUT, of the errors that document 01 has seen made: codes taken for numbers, "no slot" for another body's full slots; and a
--- record written over a neighbour's.
+-- record written over a neighbour's, and a mark left where no body owns the byte.
 use Prim.Native.Nat.{ℕ, _+_, _*_}
 use mathlib.Core.Path.{_≡_, refl, sym, ap, _∙_}
 use mathlib.Core.Bool.{Bool, cond, _||_}
@@ -18,7 +18,9 @@ use Rattle.valid.specs.Valid.{lineThere, lineAbsent, lineOk, allFrom, sum, rang
 use Rattle.slots.specs.Slots.{usedAt, slotsAt, findIn, distinct}
 use Rattle.body.specs.Body.{slotOk, slotsOk, bodyOk}
 use Rattle.entries.specs.Entry.{codeAt, slotsOf, placeOf, formOk, codesFrom, findCode, distinctCodes}
-use Rattle.table.specs.Table.{entryOf, headOk, entryOk, layoutOk, bodiesOk, tableOk}
+use Rattle.digits.specs.declared.Number.the-variants.{Value}
+use Rattle.ranges.specs.declared.Found.the-variants.{At}
+use Rattle.table.specs.Table.{headSize, bodyOf, entryOf, headOk, entryOk, layoutOk, bodiesOk, tableOk}
 use Rattle.request.specs.Request.{asked, slotsAsked, needed}
 use Rattle.opening.specs.Opening.{headBytes as headAsked, entryBytes, entriesBytes, opened}
 use Rattle.order.specs.declared.Order.{Order}
@@ -28,11 +30,10 @@ use Rattle.lines.specs.Lines.{numberedFrom, sumOf, lineCode}
 use Rattle.rules.specs.Rules.{codeOf, amountsOf, anyExecuted, situationIn, situationOf, placed, stepped, judgeOrder, written}
 use Rattle.service.specs.Service.{orderComes, orderStored, orderLeaves}
 use Rattle.notices.specs.declared.TotalsAnswer.{TotalsAnswer}
-use Rattle.notices.specs.Notices.{addressed, bodyTotals, totalsOf}
+use Rattle.notices.specs.Notices.{addressed, bodyTotals, totalsOf, TotalsPromise}
 use Rattle.isolation.specs.Machine.{Machine, Isolated, Line, whose, run, log}
 use Rattle.isolation.specs.Order.{mine}
 use Rattle.theorems.specs.Marked.{requestOf, orderOf, year}
-use Rattle.theorems.proofs.NoSecond.{MeetsTotals}
 
 -- a table for 000471 and 471 with one slot each, and where body b's slots are
 abbrev small : List ℕ
@@ -44,23 +45,29 @@ place b = placeOf small (entryOf b)
 abbrev size : ℕ → ℕ
 size b = slotsOf small (entryOf b)
 
--- CODES TAKEN FOR NUMBERS: an engine that answers alike for codes of one decimal value does not keep the promise of `totals`, whatever else it does.
+-- CODES TAKEN FOR NUMBERS: an engine that answers alike for codes of one decimal value does not keep the promise of `totals`, even if it
+-- mixes none but codes of bodies of the table that are numbers.
 abbrev filled : List ℕ
 filled = orderLeaves small (place 0) (size 0) year (orderOf 12)
 
-same-value : digits 1 16 (bytes "000471") ≡ digits 1 16 (bytes "471")
+same-value : (digits 1 16 (bytes "000471") ≡ Value 471) × (digits 1 16 (bytes "471") ≡ Value 471)
 unfolding isDigit digitsAfter digits
-same-value = refl
+same-value = (refl, refl)
+
+both-bodies : (bodyOf filled (bytes "000471") ≡ At 0) × (bodyOf filled (bytes "471") ≡ At 1)
+unfolding isLetter isDigit isAlnum allBytes startsWith hasAt textIs be2 be4 be8 put leap monthLength isDate zeros recordAt restZero flat8 recordBytes keyIs usedAt slotsAt lineThere lineAbsent lineOk allFrom sum rangesOk recordOk findIn distinct slotOk slotsOk bodyOk codeAt slotsOf placeOf formOk codesFrom findCode distinctCodes headOk entryOk layoutOk bodiesOk tableOk asked slotsAsked needed headAsked entryBytes entriesBytes opened numberedFrom sumOf lineCode amountsOf anyExecuted situationIn situationOf placed stepped judgeOrder written orderComes orderStored addressed bodyTotals totalsOf
+both-bodies = (refl, refl)
 
 used : (totalsOf filled (bytes "000471") .used ≡ 1) × (totalsOf filled (bytes "471") .used ≡ 0)
 unfolding isLetter isDigit isAlnum allBytes startsWith hasAt textIs be2 be4 be8 put leap monthLength isDate zeros recordAt restZero flat8 recordBytes keyIs usedAt slotsAt lineThere lineAbsent lineOk allFrom sum rangesOk recordOk findIn distinct slotOk slotsOk bodyOk codeAt slotsOf placeOf formOk codesFrom findCode distinctCodes headOk entryOk layoutOk bodiesOk tableOk asked slotsAsked needed headAsked entryBytes entriesBytes opened numberedFrom sumOf lineCode amountsOf anyExecuted situationIn situationOf placed stepped judgeOrder written orderComes orderStored addressed bodyTotals totalsOf
 used = (refl, refl)
 
-pub by-number : (engine : List ℕ → List ℕ → TotalsAnswer) → ((t a b : List ℕ) → digits 1 16 a ≡ digits 1 16 b → engine t a ≡ engine t b)
-    → ((t code : List ℕ) → MeetsTotals t code (engine t code)) → ⊥
+pub by-number : (engine : List ℕ → List ℕ → TotalsAnswer)
+    → ((t a b : List ℕ) (v i j : ℕ) → digits 1 16 a ≡ Value v → digits 1 16 b ≡ Value v → bodyOf t a ≡ At i → bodyOf t b ≡ At j → engine t a ≡ engine t b)
+    → ((t code : List ℕ) → TotalsPromise t code (engine t code)) → ⊥
 by-number engine alike meets =
-    let e : totalsOf filled (bytes "000471") ≡ totalsOf filled (bytes "471") =
-    sym (meets filled (bytes "000471")) ∙ alike filled (bytes "000471") (bytes "471") same-value ∙ meets filled (bytes "471") in
+    let d = alike filled (bytes "000471") (bytes "471") 471 0 1 (same-value .0) (same-value .1) (both-bodies .0) (both-bodies .1) in
+    let e : totalsOf filled (bytes "000471") ≡ totalsOf filled (bytes "471") = sym (meets filled (bytes "000471")) ∙ d ∙ meets filled (bytes "471") in
     let z : _≡_ {A = ℕ} 1 0 = sym (used .0) ∙ ap (λ (x : TotalsAnswer). x .used) e ∙ used .1 in
     omega arith
 
@@ -71,11 +78,13 @@ engine judge leaves = record {
   Call = ℕ × Order;
   Answer = ℕ;
   Part = List ℕ;
+  Rest = List ℕ;
   count = 2;
   who = λ c. cond (ltb (c .0) 2) (some (c .0)) none;
   answer = λ c t. codeOf (judge t (c .0) (c .1));
   next = λ c t. leaves t (c .0) (c .1);
   part = λ b t. part t (place b) (place b + slotSize * size b);
+  rest = λ t. part t 0 headSize;
 }
 
 -- "NO SLOT" ANSWERED BECAUSE ANOTHER BODY FILLED ITS OWN
@@ -103,7 +112,17 @@ spilling-wrong I =
     ap (λ (bs : List ℕ). getD bs 0 99) (I .alone-records ((0, orderOf 12) ∷ (0, orderOf 13) ∷ []) 1 (lit< tt)) in
     omega arith
 
--- THE RULES' OWN ENGINE passes where those two fail
+-- A HEAD THAT IS WRITTEN: a mark is left there, which no body owns and no answer tells
+abbrev stamping : Machine
+stamping = engine (λ t b o. orderComes t (place b) (size b) year o) (λ t b o. put (orderLeaves t (place b) (size b) year o) 15 (1 ∷ []))
+
+pub stamping-wrong : Isolated stamping small → ⊥
+unfolding be2 be4 be8 put recordAt flat8 recordBytes keyIs usedAt slotsAt findIn slotsOf placeOf asked slotsAsked needed headAsked entryBytes entriesBytes opened numberedFrom sumOf lineCode amountsOf anyExecuted situationIn situationOf placed stepped judgeOrder written orderComes orderStored
+stamping-wrong I =
+    let e : _≡_ {A = ℕ} 1 0 = ap (λ (bs : List ℕ). getD bs 15 99) (I .frame ((0, orderOf 12) ∷ [])) in
+    omega arith
+
+-- THE RULES' OWN ENGINE passes where those fail
 abbrev right : Machine
 right = engine (λ t b o. orderComes t (place b) (size b) year o) (λ t b o. orderLeaves t (place b) (size b) year o)
 
@@ -114,3 +133,7 @@ right-answers = refl
 right-records : right .part 1 (run right ((0, orderOf 12) ∷ (0, orderOf 13) ∷ []) small) ≡ right .part 1 small
 unfolding be2 be4 be8 put recordAt flat8 recordBytes keyIs usedAt slotsAt findIn slotsOf placeOf asked slotsAsked needed headAsked entryBytes entriesBytes opened numberedFrom sumOf lineCode amountsOf anyExecuted situationIn situationOf placed stepped judgeOrder written orderComes orderStored
 right-records = refl
+
+right-rest : right .rest (run right ((0, orderOf 12) ∷ (1, orderOf 13) ∷ []) small) ≡ right .rest small
+unfolding be2 be4 be8 put recordAt flat8 recordBytes keyIs usedAt slotsAt findIn slotsOf placeOf asked slotsAsked needed headAsked entryBytes entriesBytes opened numberedFrom sumOf lineCode amountsOf anyExecuted situationIn situationOf placed stepped judgeOrder written orderComes orderStored
+right-rest = refl

@@ -1,27 +1,28 @@
 -- CONDITION 3 of the desk's calls: the machine whose states are a table's bytes, whose calls are flows, notices and totals, and whose answers are
--- those that the calls promise. What is proved of it is `Isolated (machine q) (opened q)`, in proofs/.
-use Prim.Native.Nat.{ℕ, _+_, _*_}
+-- any engine's that keeps the calls' promises. What is proved is `Isolated (machine E t₀) t₀` for each such engine E and every valid table t₀, in
+-- proofs/: a table just opened is one.
+use Prim.Native.Nat.{ℕ, zero, suc, _+_, _*_}
+use mathlib.Core.Path.{_≡_}
 use mathlib.Core.Bool.{true, false, cond}
 use mathlib.Core.Option.{Option, none, some}
-use mathlib.Core.List.{List, []}
+use mathlib.Core.List.{List, [], _∷_, _++_}
 use lib.ListN.{length}
-use lib.Dec.{leb, ltb}
+use lib.Dec.{leb}
 use Rattle.scan.specs.Bytes.{part, textIs}
 use Rattle.ranges.specs.declared.Found.{Found}
 use Rattle.ranges.specs.declared.Found.the-variants.{At, Nothing}
 use Rattle.record.specs.Slot.{slotSize}
 use Rattle.record.specs.declared.Key.{Key}
-use Rattle.entries.specs.Entry.{requestSize, slotsOf, placeOf, codesFrom, findCode}
-use Rattle.table.specs.Table.{entryOf}
+use Rattle.entries.specs.Entry.{entrySize, slotsOf, placeOf}
+use Rattle.table.specs.Table.{headSize, bodies, abiOf, bodyOf, entryOf}
 use Rattle.flow.specs.declared.Verdict.{Verdict}
 use Rattle.flow.specs.declared.Verdict.the-variants.{MarkupBreaks, StructureBreaks, FieldBreaks, Stands}
 use Rattle.flow.specs.Flow.{verdictOf, headerOf}
 use Rattle.notices.specs.declared.NoticeAnswer.{NoticeAnswer}
 use Rattle.notices.specs.declared.TotalsAnswer.{TotalsAnswer}
-use Rattle.notices.specs.Notices.{noticeAnswer, noticeTable, noticeCodeOf, totalsOf}
+use Rattle.notices.specs.Notices.{NoticePromise, noticeCodeOf, TotalsPromise}
 use Rattle.desk.specs.declared.FlowAnswer.{FlowAnswer}
-use Rattle.desk.specs.Desk.{maxFlow, flowReads, flowAnswer, flowTable, flowOutcomes, flowCode}
-use Rattle.request.specs.Request.{firstBody, asked}
+use Rattle.desk.specs.Desk.{maxFlow, FlowPromise, flowCode}
 use Rattle.isolation.specs.Machine.{Machine}
 
 -- THE CALLS
@@ -40,18 +41,18 @@ pub data Answer : Type 0 where
   ofNotice : NoticeAnswer → Answer
   ofTotals : TotalsAnswer → Answer
 
--- what each call answers on the table t, and every byte of the table that it leaves: as the calls' contracts promise
-abbrev pub answer : Call → List ℕ → Answer
-answer (flow f out) t = ofFlow (flowAnswer t (flowReads t f (length out))) (flowOutcomes t out (flowReads t f (length out)))
-answer (execute code k line) t = ofNotice (noticeAnswer t true code k line)
-answer (reverse code k line) t = ofNotice (noticeAnswer t false code k line)
-answer (totals code) t = ofTotals (totalsOf t code)
+-- what each call promises: on the table t, the answer a and the table t′ afterwards
+abbrev pub Step : Call → List ℕ → Answer → List ℕ → Type 0
+Step (flow f out) t a t′ = (r : FlowAnswer) × (out′ : List ℕ) × FlowPromise t f out r t′ out′ × (a ≡ ofFlow r out′)
+Step (execute code k line) t a t′ = (r : NoticeAnswer) × NoticePromise t true code k line r t′ × (a ≡ ofNotice r)
+Step (reverse code k line) t a t′ = (r : NoticeAnswer) × NoticePromise t false code k line r t′ × (a ≡ ofNotice r)
+Step (totals code) t a t′ = (r : TotalsAnswer) × TotalsPromise t code r × (a ≡ ofTotals r) × (t′ ≡ t)
 
-abbrev pub after : Call → List ℕ → List ℕ
-after (flow f out) t = flowTable t (flowReads t f (length out))
-after (execute code k line) t = noticeTable t true code k line
-after (reverse code k line) t = noticeTable t false code k line
-after (totals code) t = t
+-- an engine that keeps the promises on every table
+pub record Engine : Type 0 where
+  pub answer : Call → List ℕ → Answer
+  pub next : Call → List ℕ → List ℕ
+  pub keeps : (c : Call) (t : List ℕ) → Step c t (answer c t) (next c t)
 
 -- an answer's code
 abbrev pub codeOf : Answer → ℕ
@@ -59,50 +60,62 @@ codeOf (ofFlow a out) = flowCode a
 codeOf (ofNotice a) = noticeCodeOf a
 codeOf (ofTotals a) = a .code
 
--- WHICH BODY A CALL NAMES, read from the call and from q, the request that the table was opened with: five ABI digits, then the bodies.
+-- WHICH BODY A CALL NAMES, read from the call and from t₀, the table that the calls start from: its ABI digits and its bodies' codes.
 
 -- a flow names a body when it stands and its codice_ABI_BT is the table's: by its codice_ente_BT
 abbrev pub namesIn : List ℕ → List ℕ → Verdict → Option (List ℕ)
-namesIn q f (MarkupBreaks p) = none
-namesIn q f StructureBreaks = none
-namesIn q f (FieldBreaks p) = none
-namesIn q f (Stands at) = cond (textIs (part q 0 firstBody) (headerOf f at .abi)) (some (headerOf f at .ente)) none
+namesIn t₀ f (MarkupBreaks p) = none
+namesIn t₀ f StructureBreaks = none
+namesIn t₀ f (FieldBreaks p) = none
+namesIn t₀ f (Stands at) = cond (textIs (abiOf t₀) (headerOf f at .abi)) (some (headerOf f at .ente)) none
 
 abbrev pub names : List ℕ → Call → Option (List ℕ)
-names q (flow f out) = cond (leb (length f) maxFlow) (namesIn q f (verdictOf f)) none
-names q (execute code k line) = some code
-names q (reverse code k line) = some code
-names q (totals code) = some code
+names t₀ (flow f out) = cond (leb (length f) maxFlow) (namesIn t₀ f (verdictOf f)) none
+names t₀ (execute code k line) = some code
+names t₀ (reverse code k line) = some code
+names t₀ (totals code) = some code
 
 abbrev pub place : Found → Option ℕ
 place (At b) = some b
 place Nothing = none
 
--- the place of a code among those asked for, compared byte by byte
+-- the place of a code among those of t₀, compared byte by byte
 abbrev pub position : List ℕ → Option (List ℕ) → Option ℕ
-position q (some code) = place (findCode (codesFrom requestSize q firstBody (asked q)) 0 code)
-position q none = none
+position t₀ (some code) = place (bodyOf t₀ code)
+position t₀ none = none
 
 abbrev pub who : List ℕ → Call → Option ℕ
-who q c = position q (names q c)
+who t₀ c = position t₀ (names t₀ c)
 
--- A BODY'S RECORDS: the bytes of its slots, from its place up to its end. There are as many bodies as were asked for.
-abbrev pub slotBytes : List ℕ → ℕ → List ℕ
-slotBytes t b = part t (placeOf t (entryOf b)) (placeOf t (entryOf b) + slotSize * slotsOf t (entryOf b))
+-- WHAT BODY b OWNS of a table t: its entry from byte 24 on, and the bytes of its slots, where t₀ has them
+abbrev pub owned : List ℕ → ℕ → List ℕ → List ℕ
+owned t₀ b t = part t (entryOf b + 24) (entryOf b + entrySize) ++ part t (placeOf t₀ (entryOf b)) (placeOf t₀ (entryOf b) + slotSize * slotsOf t₀ (entryOf b))
 
-abbrev pub records : List ℕ → ℕ → List ℕ → List ℕ
-records q b t = cond (ltb b (asked q)) (slotBytes t b) []
+-- WHAT NO BODY OWNS: the length, the head, and each entry's bytes before 24, which are its code, slots and place
+unfoldable pub fixedBytes : List ℕ → ℕ → ℕ → List (List ℕ)
+fixedBytes t at zero = []
+fixedBytes t at (suc n) = part t at (at + 24) ∷ fixedBytes t (at + entrySize) n
 
--- THE MACHINE of the table opened with the request q
-abbrev pub machine : List ℕ → Machine
-machine q = record {
+pub record Rest : Type 0 where
+  pub long : ℕ
+  pub head : List ℕ
+  pub entries : List (List ℕ)
+
+abbrev pub unowned : List ℕ → List ℕ → Rest
+unowned t₀ t = record { long = length t; head = part t 0 headSize; entries = fixedBytes t headSize (bodies t₀) }
+
+-- THE MACHINE of an engine's calls that start from the table t₀
+abbrev pub machine : Engine → List ℕ → Machine
+machine E t₀ = record {
   State = List ℕ;
   Call = Call;
   Answer = Answer;
   Part = List ℕ;
-  count = asked q;
-  who = who q;
-  answer = answer;
-  next = after;
-  part = records q;
+  Rest = Rest;
+  count = bodies t₀;
+  who = who t₀;
+  answer = E .answer;
+  next = E .next;
+  part = owned t₀;
+  rest = unowned t₀;
 }

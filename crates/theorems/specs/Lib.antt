@@ -1,2 +1,4 @@
 pub mod Condition3
+pub mod History
 pub mod Marked
+pub mod Codes

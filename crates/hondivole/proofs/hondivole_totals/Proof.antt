@@ -1,7 +1,6 @@
-use mathlib.Core.Path.{ap, _∙_}
+use mathlib.Core.Path.{_∙_}
 use mir.Syntax.{w64}
 use mir.Facts.{toZ-ofZ}
-use Rattle.notices.specs.declared.TotalsAnswer.{TotalsAnswer}
 use borrow.Author.Needs.{needs}
 use Rattle.hondivole.proofs.hondivole_totals.Statement.{statement}
 use Rattle.hondivole.proofs.hondivole_totals.Tie as tie
@@ -11,14 +10,9 @@ totals-requires c κs = search needs
 
 returns : tie.Need-returns
 returns c =
-    let e = c .before .totals .ensures in
-    let back = toZ-ofZ {w = w64} {z = c .before .totals .result .balance} (record { sfits = c .struct-told .given .1 .1 .1 .1 .0 .1 }) in (
-      ap (λ (a : TotalsAnswer). a .code) e,
-      (
-        ap (λ (a : TotalsAnswer). a .used) e,
-        (ap (λ (a : TotalsAnswer). a .paid) e, (ap (λ (a : TotalsAnswer). a .collected) e, back ∙ ap (λ (a : TotalsAnswer). a .balance) e)),
-      ),
-    )
+    let r = c .before .totals .result in
+    let back = toZ-ofZ {w = w64} {z = r .balance} (record { sfits = c .struct-told .given .1 .1 .1 .1 .0 .1 }) in
+    (λ i. record { code = r .code; used = r .used; paid = r .paid; collected = r .collected; balance = back i }) ∙ c .before .totals .ensures
 
 pub hondivole-totals-spec : {M : Type 1} → statement M
 hondivole-totals-spec = tie.close (tie.spec totals-requires returns)

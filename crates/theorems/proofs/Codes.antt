@@ -1,0 +1,183 @@
+-- EVERY CODE IS A NUMBERED ANSWER: what the rules refuse an order or a notice with is one of document 01's codes, and never 0.
+use Prim.Native.Nat.{ℕ, zero, suc, _-_}
+use mathlib.Core.Path.{_≡_, refl, sym, ap, _∙_}
+use mathlib.Core.Bool.{Bool, true, false, cond, _&&_, _||_}
+use mathlib.Core.List.{List, _∷_}
+use mathlib.Core.Logic.{_⊎_, inl, inr}
+use native.Mathlib.Omega.{arith}
+use lib.Dec.{eqb, leb, ltb}
+use lib.ListN.{length, getD}
+use Rattle.ranges.specs.declared.Found.{Found}
+use Rattle.ranges.specs.declared.Found.the-variants.{At, Nothing}
+use Rattle.codes.specs.declared.Operation.{Operation}
+use Rattle.codes.specs.declared.Operation.the-variants.{Inserimento, Variazione, Annullo, Sostituzione}
+use Rattle.order.specs.declared.Line.{Line}
+use Rattle.order.specs.declared.Order.{Order}
+use Rattle.record.specs.declared.Key.{Key}
+use Rattle.record.specs.declared.Record.{Record}
+use Rattle.slots.specs.Slots.{findIn, recordsAt}
+use Rattle.lines.specs.Lines.{numberedFrom, sumOf, linesOf, lineCode}
+use Rattle.rules.specs.declared.Situation.{Situation}
+use Rattle.rules.specs.declared.Situation.the-variants.{Absent, Annulled, Waiting, Executed}
+use Rattle.rules.specs.declared.Judged.{Judged}
+use Rattle.rules.specs.declared.Judged.the-variants.{Accepted, Refused}
+use Rattle.rules.specs.declared.Noticed.{Noticed}
+use Rattle.rules.specs.declared.Noticed.the-variants.{Moved, Unmoved}
+use Rattle.rules.specs.Rules.{situationOf, stepOf, nth, sameOrder, placed, unless, stepped, sostituzione, keyFor, judgeOrder, codeOf, lineMoves, moveOr, noticeIn, noticeAt, judgeNotice, noticeCode}
+use Rattle.service.specs.Service.{orderComes, noticeComes}
+use Rattle.notices.specs.declared.Addressed.{Addressed}
+use Rattle.notices.specs.declared.Addressed.the-variants.{Invalid, Unknown, Body}
+use Rattle.notices.specs.declared.NoticeAnswer.{NoticeAnswer}
+use Rattle.notices.specs.Notices.{noticed, addressed, noticeBy, noticeCodeOf, NoticePromise}
+use Rattle.desk.specs.declared.FlowAnswer.{FlowAnswer}
+use Rattle.desk.specs.declared.FlowAnswer.the-variants.{InvalidTable, TooLong, BrokenMarkup, BrokenStructure, BrokenField, OtherBank, UnknownBody, NoRoom, Taken}
+use Rattle.desk.specs.Desk.{flowReply}
+use Rattle.theorems.specs.Codes.{oneOf, orderRefusals, noticeCodes, flowCodes}
+
+-- 0, or one of these
+abbrev Or : List ℕ → ℕ → Type 0
+Or xs c = (c ≡ 0) ⊎ (oneOf xs c ≡ true)
+
+-- AN ORDER: accepted, or refused with one of the codes
+abbrev pub Coded : Judged → Type 0
+Coded (Accepted i) = Unit
+Coded (Refused c) = oneOf orderRefusals c ≡ true
+
+later : (c : ℕ) → Or orderRefusals (suc c) → oneOf orderRefusals (suc c) ≡ true
+later c (inl e) = absurd (omega arith)
+later c (inr e) = e
+
+unless-coded : (c : ℕ) (j : Judged) → Or orderRefusals c → Coded j → Coded (unless c j)
+unless-coded zero j h k = k
+unless-coded (suc c) j h k = later c h
+
+sostituzione-coded : (o : Operation) → Or orderRefusals (sostituzione o)
+sostituzione-coded Inserimento = inl refl
+sostituzione-coded Variazione = inl refl
+sostituzione-coded Annullo = inl refl
+sostituzione-coded Sostituzione = inr refl
+
+lines-coded : (ls : List Line) (total : ℕ) → Or orderRefusals (lineCode ls total)
+unfolding lineCode
+lines-coded ls total = go (numberedFrom 1 ls) (eqb (sumOf ls) total)
+  where
+    go : (a b : Bool) → Or orderRefusals (cond a (cond b 0 13) 12)
+    go true true = inl refl
+    go true false = inr refl
+    go false b = inr refl
+
+step-coded : (o : Operation) (s : Situation) → Or orderRefusals (stepOf o s)
+step-coded Inserimento Absent = inl refl
+step-coded Inserimento Annulled = inr refl
+step-coded Inserimento Waiting = inr refl
+step-coded Inserimento Executed = inr refl
+step-coded Variazione Absent = inr refl
+step-coded Variazione Annulled = inr refl
+step-coded Variazione Waiting = inl refl
+step-coded Variazione Executed = inr refl
+step-coded Annullo Absent = inr refl
+step-coded Annullo Annulled = inr refl
+step-coded Annullo Waiting = inl refl
+step-coded Annullo Executed = inr refl
+step-coded Sostituzione Absent = inl refl
+step-coded Sostituzione Annulled = inl refl
+step-coded Sostituzione Waiting = inl refl
+step-coded Sostituzione Executed = inl refl
+
+or-else : (b : Bool) (i c : ℕ) → oneOf orderRefusals c ≡ true → Coded (cond b (Accepted i) (Refused c))
+or-else true i c e = tt
+or-else false i c e = e
+
+placed-coded : (slots : ℕ) (o : Order) (rs : List Record) (op : Operation) (f : Found) → Coded (placed slots o rs op f)
+unfolding placed
+placed-coded slots o rs Inserimento f = or-else (ltb (length rs) slots) (length rs) 15 refl
+placed-coded slots o rs Variazione (At i) = tt
+placed-coded slots o rs Variazione Nothing = refl
+placed-coded slots o rs Annullo (At i) = or-else (sameOrder o (nth rs i)) i 19 refl
+placed-coded slots o rs Annullo Nothing = refl
+placed-coded slots o rs Sostituzione f = refl
+
+pub order-coded : (slots year : ℕ) (o : Order) (rs : List Record) → Coded (judgeOrder slots year o rs)
+unfolding judgeOrder stepped
+order-coded slots year o rs =
+    let f = findIn rs 0 (keyFor year o) in
+    unless-coded (sostituzione (o .operation)) _ (sostituzione-coded (o .operation))
+    (unless-coded (lineCode (linesOf (o .lines)) (o .total)) _ (lines-coded (linesOf (o .lines)) (o .total))
+    (unless-coded (stepOf (o .operation) (situationOf rs f)) _ (step-coded (o .operation) (situationOf rs f)) (placed-coded slots o rs (o .operation) f)))
+
+-- so an outcome's code is 0 where the order is accepted, and there alone
+pub never-zero : (j : Judged) → Coded j → (codeOf j ≡ 0 → (i : ℕ) × (j ≡ Accepted i))
+never-zero (Accepted i) h e = (i, refl)
+never-zero (Refused c) h e = absurd (let z : _≡_ {A = Bool} false true = sym (ap (oneOf orderRefusals) e) ∙ h in no z)
+  where
+    no : _≡_ {A = Bool} false true → ⊥
+    no z = let y : _≡_ {A = ℕ} 0 1 = cc in omega arith
+
+pub order-codes : (t : List ℕ) (base n year : ℕ) (o : Order) → oneOf (0 ∷ orderRefusals) (codeOf (orderComes t base n year o)) ≡ true
+unfolding orderComes
+order-codes t base n year o = go (judgeOrder n year o (recordsAt t base n)) (order-coded n year o (recordsAt t base n))
+  where
+    or-true : (b : Bool) {c : Bool} → c ≡ true → b || c ≡ true
+    or-true true e = refl
+    or-true false e = e
+
+    go : (j : Judged) → Coded j → oneOf (0 ∷ orderRefusals) (codeOf j) ≡ true
+    go (Accepted i) h = refl
+    go (Refused c) h = or-true (eqb c 0) h
+
+-- A NOTICE
+moves-coded : (executing : Bool) (s i cents : ℕ) → oneOf noticeCodes (noticeCode (moveOr (lineMoves executing s) (Moved i cents))) ≡ true
+unfolding lineMoves
+moves-coded true s i cents = go (eqb s 2)
+  where
+    go : (u : Bool) → oneOf noticeCodes (noticeCode (moveOr (cond u 21 0) (Moved i cents))) ≡ true
+    go true = refl
+    go false = refl
+moves-coded false s i cents = go (eqb s 2)
+  where
+    go : (u : Bool) → oneOf noticeCodes (noticeCode (moveOr (cond u 0 22) (Moved i cents))) ≡ true
+    go true = refl
+    go false = refl
+
+in-coded : (executing : Bool) (line i : ℕ) (x : Record) → oneOf noticeCodes (noticeCode (noticeIn executing line i x)) ≡ true
+unfolding noticeIn
+in-coded executing line i x = go (eqb (x .state) 2) (leb 1 line && leb line (x .lines))
+  where
+    go : (u v : Bool)
+        → oneOf noticeCodes (noticeCode (cond u (Unmoved 17) (cond v (moveOr (lineMoves executing (getD (x .states) (line - 1) 0)) (Moved i (getD (x .amounts) (line - 1) 0))) (Unmoved 20)))) ≡ true
+    go true v = refl
+    go false false = refl
+    go false true = moves-coded executing (getD (x .states) (line - 1) 0) i (getD (x .amounts) (line - 1) 0)
+
+at-coded : (executing : Bool) (line : ℕ) (rs : List Record) (f : Found) → oneOf noticeCodes (noticeCode (noticeAt executing line rs f)) ≡ true
+unfolding noticeAt
+at-coded executing line rs Nothing = refl
+at-coded executing line rs (At i) = in-coded executing line i (nth rs i)
+
+noticed-code : (m : Noticed) → noticeCodeOf (noticed m) ≡ noticeCode m
+noticed-code (Moved i cents) = refl
+noticed-code (Unmoved c) = refl
+
+pub notice-codes : (t : List ℕ) (executing : Bool) (code : List ℕ) (k : Key) (line : ℕ) (a : NoticeAnswer) (t′ : List ℕ) → NoticePromise t executing code k line a t′
+    → oneOf noticeCodes (noticeCodeOf a) ≡ true
+unfolding noticeBy noticeComes judgeNotice
+notice-codes t executing code k line a t′ p = ap (λ (x : NoticeAnswer). oneOf noticeCodes (noticeCodeOf x)) (p .0) ∙ go (addressed t code)
+  where
+    go : (b : Addressed) → oneOf noticeCodes (noticeCodeOf (noticeBy t executing k line b)) ≡ true
+    go Invalid = refl
+    go Unknown = refl
+    go (Body base n) =
+        let rs = recordsAt t base n in
+        ap (oneOf noticeCodes) (noticed-code (noticeAt executing line rs (findIn rs 0 k))) ∙ at-coded executing line rs (findIn rs 0 k)
+
+-- A FLOW
+pub flow-codes : (a : FlowAnswer) → oneOf flowCodes (flowReply a .code) ≡ true
+flow-codes InvalidTable = refl
+flow-codes TooLong = refl
+flow-codes BrokenMarkup = refl
+flow-codes BrokenStructure = refl
+flow-codes (BrokenField p) = refl
+flow-codes OtherBank = refl
+flow-codes UnknownBody = refl
+flow-codes NoRoom = refl
+flow-codes (Taken n m) = refl

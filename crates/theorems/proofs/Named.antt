@@ -1,0 +1,156 @@
+-- WHICH BODY A CALL NAMES, AND WHAT IT THEN READS: the same on every good table, for a call that gives a body's code and for a flow. What a call
+-- answers and leaves (Calls), and what it does to its body's records (History), go by these cases.
+use Prim.Native.Nat.{ℕ, _*_, _≤_, _<_}
+use mathlib.Core.Path.{_≡_, refl, ap, _∙_}
+use mathlib.Core.Bool.{Bool, true, false, cond}
+use mathlib.Core.Option.{Option, none, some}
+use mathlib.Core.List.{List, [], _∷_}
+use native.Mathlib.Omega.{arith}
+use lib.ListN.{length}
+use lib.Dec.{leb}
+use Rattle.scan.specs.Bytes.{textIs}
+use Rattle.ranges.specs.declared.Found.{Found}
+use Rattle.ranges.specs.declared.Found.the-variants.{At, Nothing}
+use Rattle.table.specs.Table.{bodies, abiOf, tableOk, bodyOf}
+use Rattle.table.proofs.Bodies.{found-body}
+use Rattle.order.specs.declared.Line.{Line}
+use Rattle.order.specs.declared.Order.{Order}
+use Rattle.orders.specs.Orders.{Header}
+use Rattle.flow.specs.declared.Verdict.{Verdict}
+use Rattle.flow.specs.declared.Verdict.the-variants.{MarkupBreaks, StructureBreaks, FieldBreaks, Stands}
+use Rattle.flow.specs.Flow.{verdictOf, headerOf, flowOrders}
+use Rattle.flow.proofs.Laws.{flow-stood}
+use Rattle.flow.proofs.Values.{OrderOk, Each, orders-ok, header-ok}
+use Rattle.rules.proofs.Kept.{Writable}
+use Rattle.service.proofs.Kept.{Writables, none, more}
+use Rattle.notices.specs.declared.Addressed.the-variants.{Unknown, Body}
+use Rattle.notices.specs.Notices.{bodyAt, addressed}
+use Rattle.desk.specs.declared.FlowAnswer.{FlowAnswer}
+use Rattle.desk.specs.declared.FlowAnswer.the-variants.{TooLong, BrokenMarkup, BrokenStructure, BrokenField, OtherBank, UnknownBody, NoRoom}
+use Rattle.desk.specs.Desk.{Reading, refused, served, forBody, forFlow, maxFlow, flowReads, flowCode}
+use Rattle.theorems.specs.Condition3.{flow, namesIn, place, position, who}
+use Rattle.theorems.proofs.Good.{Good, base, size, abi-is, find-is, place-is, slots-is}
+
+-- a body's code, on every good table
+pub data Names (t₀ code : List ℕ) : Option ℕ → Type 0 where
+  stray : ((t : List ℕ) → Good t₀ t → addressed t code ≡ Unknown) → Names t₀ code none
+  body : (b : ℕ) → b < bodies t₀ → ((t : List ℕ) → Good t₀ t → addressed t code ≡ Body (base t₀ b) (size t₀ b)) → Names t₀ code (some b)
+
+-- what a flow reads, on every good table
+abbrev pub Always : List ℕ → List ℕ → List ℕ → Reading → Type 0
+Always t₀ f out x = (t : List ℕ) → Good t₀ t → flowReads t f (length out) ≡ x
+
+pub data Reads (t₀ f out : List ℕ) : Option ℕ → Type 0 where
+  -- refused before a body is found
+  refuses : (a : FlowAnswer) → (2 ≤ flowCode a) × (flowCode a ≤ 7) → Always t₀ f out (refused a) → Reads t₀ f out none
+  -- body b's, with no room for its outcomes
+  shuts : (b : ℕ) → b < bodies t₀ → Always t₀ f out (refused NoRoom) → Reads t₀ f out (some b)
+  -- body b's, served
+  serves : (b : ℕ) → b < bodies t₀ → (year : ℕ) (os : List Order) → Writables os → (2000 ≤ year) × (year ≤ 2099) → Always t₀ f out (served (base t₀ b) (size t₀ b) year os)
+      → Reads t₀ f out (some b)
+
+-- THE ORDERS OF A FLOW THAT STANDS
+writable : (o : Order) → OrderOk o → Writable o
+writable o h = record {
+  kind = h .kind;
+  number = h .number;
+  date = h .date;
+  total = h .total;
+  count = h .count;
+  eight = h .size;
+  rest = λ k l. ap (λ (x : Line). x .amount) (h .beyond k l);
+}
+
+writables : (os : List Order) → Each OrderOk os → Writables os
+writables [] h = none
+writables (o ∷ os) h = more (writable o (h .0)) (writables os (h .1))
+
+module _ (t₀ : List ℕ) (r : tableOk t₀ ≡ true) where
+  -- A CODE
+  module _ (t : List ℕ) (g : Good t₀ t) (code : List ℕ) where
+    body-none : bodyOf t₀ code ≡ Nothing → bodyAt t (bodyOf t code) ≡ Unknown
+    body-none e = ap (bodyAt t) (find-is t₀ r t g code ∙ e)
+
+    body-some : (b : ℕ) → bodyOf t₀ code ≡ At b → b < bodies t₀ → bodyAt t (bodyOf t code) ≡ Body (base t₀ b) (size t₀ b)
+    body-some b e h = ap (bodyAt t) (find-is t₀ r t g code ∙ e) ∙ (λ i. Body (place-is t₀ r t g b h i) (slots-is t₀ r t g b h i))
+
+    addressed-is : addressed t code ≡ bodyAt t (bodyOf t code)
+    unfolding addressed
+    addressed-is = rw (g .ok)
+
+  low : (code : List ℕ) (b : ℕ) → bodyOf t₀ code ≡ At b → b < bodies t₀
+  low code b e = found-body t₀ r code b e
+
+  pub names : (code : List ℕ) → Names t₀ code (position t₀ (some code))
+  names code = go (bodyOf t₀ code) refl
+    where
+      go : (x : Found) → bodyOf t₀ code ≡ x → Names t₀ code (place x)
+      go Nothing e = stray (λ t g. addressed-is t g code ∙ body-none t g code e)
+      go (At b) e = let l = low code b e in body b l (λ t g. addressed-is t g code ∙ body-some t g code b e l)
+
+  -- A FLOW
+  module _ (f out : List ℕ) where
+    -- what the call reads on a good table, as far as it goes
+    long-reads : leb (length f) maxFlow ≡ false → Always t₀ f out (refused TooLong)
+    unfolding flowReads
+    long-reads e t g = rw (g .ok, e)
+
+    module _ (short : leb (length f) maxFlow ≡ true) where
+      verdict-reads : (v : Verdict) → verdictOf f ≡ v → (t : List ℕ) → Good t₀ t → flowReads t f (length out) ≡ forFlow t f (length out) v
+      unfolding flowReads
+      verdict-reads v e t g = rw (g .ok, short, e)
+
+      module _ (at : ℕ) (stands : verdictOf f ≡ Stands at) where
+        abbrev h : Header
+        h = headerOf f at
+
+        abbrev os : List Order
+        os = flowOrders f at
+
+        bank-reads : (u : Bool) → textIs (abiOf t₀) (h .abi) ≡ u → (t : List ℕ) → Good t₀ t
+            → flowReads t f (length out) ≡ cond u (forBody (length out) (h .esercizio) os (bodyAt t (bodyOf t (h .ente)))) (refused OtherBank)
+        bank-reads u e t g =
+            verdict-reads (Stands at) stands t g
+            ∙ ap (λ (y : Bool). cond y (forBody (length out) (h .esercizio) os (bodyAt t (bodyOf t (h .ente)))) (refused OtherBank))
+            (ap (λ (a : List ℕ). textIs a (h .abi)) (abi-is t₀ r t g) ∙ e)
+
+        module _ (bank : textIs (abiOf t₀) (h .abi) ≡ true) where
+          by-room : (b : ℕ) → bodyOf t₀ (h .ente) ≡ At b → (u : Bool) → leb (16 * length os) (length out) ≡ u → Reads t₀ f out (some b)
+          by-room b e u k = go u k
+            where
+              l : b < bodies t₀
+              l = low (h .ente) b e
+
+              reads : (u : Bool) → leb (16 * length os) (length out) ≡ u → Always t₀ f out (cond u (served (base t₀ b) (size t₀ b) (h .esercizio) os) (refused NoRoom))
+              reads u k t g =
+                  bank-reads true bank t g
+                  ∙ ap (forBody (length out) (h .esercizio) os) (body-some t g (h .ente) b e l)
+                  ∙ ap (λ (y : Bool). cond y (served (base t₀ b) (size t₀ b) (h .esercizio) os) (refused NoRoom)) k
+
+              go : (u : Bool) → leb (16 * length os) (length out) ≡ u → Reads t₀ f out (some b)
+              go false k = shuts b l (reads false k)
+              go true k =
+                  let d = flow-stood f at stands in
+                  serves b l (h .esercizio) os (writables os (orders-ok f at d)) (header-ok f at d .0 .esercizio) (reads true k)
+
+          by-body : (x : Found) → bodyOf t₀ (h .ente) ≡ x → Reads t₀ f out (place x)
+          by-body Nothing e =
+              refuses UnknownBody (omega arith, omega arith) (λ t g. bank-reads true bank t g ∙ ap (forBody (length out) (h .esercizio) os) (body-none t g (h .ente) e))
+          by-body (At b) e = by-room b e (leb (16 * length os) (length out)) refl
+
+        by-bank : (u : Bool) → textIs (abiOf t₀) (h .abi) ≡ u → Reads t₀ f out (position t₀ (cond u (some (h .ente)) none))
+        by-bank false e = refuses OtherBank (omega arith, omega arith) (bank-reads false e)
+        by-bank true e = by-body e (bodyOf t₀ (h .ente)) refl
+
+      by-verdict : (v : Verdict) → verdictOf f ≡ v → Reads t₀ f out (position t₀ (namesIn t₀ f v))
+      by-verdict (MarkupBreaks p) e = refuses BrokenMarkup (omega arith, omega arith) (verdict-reads (MarkupBreaks p) e)
+      by-verdict StructureBreaks e = refuses BrokenStructure (omega arith, omega arith) (verdict-reads StructureBreaks e)
+      by-verdict (FieldBreaks p) e = refuses (BrokenField p) (omega arith, omega arith) (verdict-reads (FieldBreaks p) e)
+      by-verdict (Stands at) e = by-bank at e (textIs (abiOf t₀) (headerOf f at .abi)) refl
+
+    by-length : (u : Bool) → leb (length f) maxFlow ≡ u → Reads t₀ f out (position t₀ (cond u (namesIn t₀ f (verdictOf f)) none))
+    by-length false e = refuses TooLong (omega arith, omega arith) (long-reads e)
+    by-length true e = by-verdict e (verdictOf f) refl
+
+    pub reads : Reads t₀ f out (who t₀ (flow f out))
+    reads = by-length (leb (length f) maxFlow) refl

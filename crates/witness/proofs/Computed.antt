@@ -1,0 +1,56 @@
+-- THE FLOWS, READ: computed from the written rules, once for each flow; a table comes in afterwards (`reads`).
+use Prim.Native.Nat.{ℕ}
+use mathlib.Core.Path.{_≡_, refl}
+use mathlib.Core.Bool.{true}
+use mathlib.Core.List.{List, [], _∷_}
+use lib.ListN.{length}
+use lib.Dec.{leb}
+use Rattle.order.specs.declared.Order.{Order}
+use Rattle.orders.specs.Orders.{Header, inRow, textIn as ordersTextIn, inside, lineOf, linesOf, eight, linesIn, orderOf, ordersOf}
+use Rattle.flow.specs.declared.Verdict.the-variants.{Stands}
+use Rattle.flow.specs.Flow.{headerOf, flowOrders, verdictOf}
+use Rattle.table.specs.Table.{tableOk}
+use Rattle.desk.specs.Desk.{maxFlow, forBank, flowReads}
+use Rattle.witness.specs.Flows.{single, three, headerFor, order}
+use Rattle.scan.specs.Bytes.{isLetter, isDigit, isAlnum, isNameByte, isWhite, all, run, runEnd, startsWith, hasAt, textIs}
+use Rattle.scan.specs.Characters.{isChar, sized, isTail, charSize, pastOr, charAt}
+use Rattle.calendar.specs.Calendar.{leap, monthLength, isDate}
+use Rattle.ranges.specs.Ranges.{isIdentifying}
+use Rattle.codes.specs.Codes.{codiceAbi, identificativo, codiceEnte, tipoOperazione}
+use Rattle.digits.specs.Digits.{digitsAfter, digits, esercizio, numero, zeroInFront, importo, progressivo}
+use Rattle.dates.specs.Dates.{dataOf, clock, dataOra}
+use Rattle.names.specs.Names.{refTail, replacedAfter, anagrafica}
+use Rattle.fields.specs.Fields.{fieldStands}
+use Rattle.tokens.specs.Tokens.{repeat, until, nameAt, pieceAt, textAt, endTagAt, optionalAt}
+use Rattle.markup.specs.Markup.{elementBy, childBy, childrenBy, contentBy, elementAt, contentAt, rootAt, markupOf}
+use Rattle.children.specs.Child.{childAt, childrenBy as childrenChildrenBy, childrenFrom}
+use Rattle.rows.specs.Kept.{keep, keptFrom}
+use Rattle.rows.specs.Table.{nameIs}
+use Rattle.structure.specs.Structure.{all as structureAll, rowsOf, inOrder, textOnly, fitBy, fitsAt}
+use Rattle.readings.specs.Readings.{fieldsBy, fieldsAt, firstBad}
+
+-- a flow that stands, with its header and its orders
+pub record ReadAs (f : List ℕ) (h : Header) (os : List Order) : Type 0 where
+  pub at : ℕ
+  pub short : leb (length f) maxFlow ≡ true
+  pub stands : verdictOf f ≡ Stands at
+  pub header : headerOf f at ≡ h
+  pub orders : flowOrders f at ≡ os
+
+pub record Flows : Type 0 where
+  pub own : ReadAs (single "471") (headerFor "471") (order 1 ∷ [])
+  pub other : ReadAs (single "000471") (headerFor "000471") (order 1 ∷ [])
+  pub more : ReadAs three (headerFor "471") (order 1 ∷ order 1 ∷ order 2 ∷ [])
+
+pub flows : Flows
+unfolding isLetter isDigit isAlnum isNameByte isWhite all run runEnd startsWith hasAt textIs isChar sized isTail charSize pastOr charAt leap monthLength isDate isIdentifying codiceAbi identificativo codiceEnte tipoOperazione digitsAfter digits esercizio numero zeroInFront importo progressivo dataOf clock dataOra refTail replacedAfter anagrafica fieldStands repeat until nameAt pieceAt textAt endTagAt optionalAt elementBy childBy childrenBy contentBy elementAt contentAt rootAt markupOf childAt childrenChildrenBy childrenFrom keep keptFrom nameIs structureAll rowsOf inOrder textOnly fitBy fitsAt fieldsBy fieldsAt firstBad inRow ordersTextIn inside lineOf linesOf eight linesIn orderOf ordersOf verdictOf
+flows = record {
+  own = record { at = 19; short = refl; stands = refl; header = refl; orders = refl };
+  other = record { at = 19; short = refl; stands = refl; header = refl; orders = refl };
+  more = record { at = 19; short = refl; stands = refl; header = refl; orders = refl };
+}
+
+-- what such a flow comes to on a valid table
+pub reads : {f : List ℕ} {h : Header} {os : List Order} (t : List ℕ) (room : ℕ) → ReadAs f h os → tableOk t ≡ true → flowReads t f room ≡ forBank t room h os
+unfolding flowReads
+reads t room r e = rw (e, r .short, r .stands) (λ i. forBank t room (r .header i) (r .orders i))

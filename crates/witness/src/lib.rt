@@ -1,0 +1,1 @@
+// Witnesses of the promises. No code: specs/ has the flows, proofs/ the rest.
