@@ -116,9 +116,9 @@ pub fn take_flow(t: &mut [u8], f: &[u8], out: &mut [u8]) -> FlowAnswer
         return FlowAnswer::TooLong;
     }
     if f.len() < 4096 {
-        let mut few = [0u32; 4096];
+        let mut few = [0u32; 1024];
         return take_noted(t, f, out, &mut few);
     }
-    let mut past = [0u32; 32769];
+    let mut past = [0u32; 8193];
     take_noted(t, f, out, &mut past)
 }
