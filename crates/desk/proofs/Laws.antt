@@ -18,7 +18,7 @@ use Rattle.rows.specs.declared.Kept.{Kept}
 use Rattle.rows.specs.declared.Next.{Next}
 use Rattle.rows.specs.declared.Next.the-variants.{Named, Done}
 use Rattle.rows.specs.Kept.{keptFrom, nextOf}
-use Rattle.order.specs.declared.Order.{Order}
+use Rattle.order.specs.Ordinativo.{Ordinativo}
 use Rattle.orders.specs.Orders.{inRow, orderOf, Header}
 use Rattle.orders.proofs.Laws.{row-at, orders-one, orders-end, Order-at, order-at, standing}
 use Rattle.ranges.specs.declared.Found.{Found}
@@ -31,9 +31,7 @@ use Rattle.flow.specs.declared.Verdict.{Verdict}
 use Rattle.flow.specs.declared.Verdict.the-variants.{Stands}
 use Rattle.flow.specs.Flow.{verdictOf, headerOf, flowOrders}
 use Rattle.flow.proofs.Laws.{flow-stood}
-use Rattle.rules.specs.declared.Judged.{Judged}
-use Rattle.rules.specs.Rules.{codeOf}
-use Rattle.service.specs.Service.{orderComes, orderLeaves, outcomeBytes, one, allLeave, allOutcomes, allAccepted}
+use Rattle.service.specs.Service.{allLeave, allOutcomes, allAccepted}
 use Rattle.desk.specs.declared.FlowAnswer.{FlowAnswer}
 use Rattle.desk.specs.declared.FlowAnswer.the-variants.{InvalidTable, TooLong, OtherBank, UnknownBody, NoRoom, Taken}
 use Rattle.desk.specs.Desk.{maxFlow, forBank, forFlow, flowReads, Gives, FlowPromise}
@@ -53,7 +51,7 @@ body-placed t b e l =
     record { few = omega arith; ends = omega arith; inside = y .inside }
 
 -- THE WAYS OUT, from the last check to the first
-module _ (t out : List ℕ) (h : Header) (os : List Order) where
+module _ (t out : List ℕ) (h : Header) (os : List Ordinativo) where
   module _ (b : ℕ) {count : ℕ} (e : count ≡ length os) where
     pub room-none : length out < 16 * count → Gives t out (roomFor t (length out) h os b) NoRoom t out
     room-none l = rw (lt-leb (16 * length os) (length out) (omega arith)) (refl, refl, refl)

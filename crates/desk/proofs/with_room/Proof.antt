@@ -2,7 +2,7 @@ use native.Mathlib.Omega.{arith}
 use borrow.Author.Needs.{needs}
 use Rattle.serving.specs.Served.{ordersFrom}
 use Rattle.desk.specs.Steps.{headerFrom}
-use Rattle.serving.proofs.Laws.{orders-few}
+use Rattle.serving.proofs.Laws.{orders-few, orders-count}
 use Rattle.desk.proofs.Laws.{body-placed, room-none, room-served}
 use Rattle.desk.proofs.with_room.Statement.{statement}
 use Rattle.desk.proofs.with_room.Tie as tie
@@ -14,14 +14,14 @@ mul-if1 : tie.Need-mul-if1
 mul-if1 c =
     let a = c .before .before .before .before .before .args in
     let n = orders-few (a .f .now) (a .from) (c .before .before .before .before .before .pre .2 .within) in
-    let e = c .count-orders .ensures in
+    let e = orders-count (a .f .now) (a .from) (c .count-orders .ensures) in
     let l = c .before .before .before .before .before .pre .3 in
     omega arith
 
 returns : tie.Need-returns
 returns c =
     let a = c .before .before .before .before .before .before .args in
-    room-none (a .t .now) (a .out .now) (headerFrom (a .f .now) (a .from)) (ordersFrom (a .f .now) (a .from)) (a .b) (c .before .count-orders .ensures) (c .if1 .taken)
+    room-none (a .t .now) (a .out .now) (headerFrom (a .f .now) (a .from)) (ordersFrom (a .f .now) (a .from)) (a .b) (orders-count (a .f .now) (a .from) (c .before .count-orders .ensures)) (c .if1 .taken)
 
 year-of-requires : tie.Need-year-of-requires
 year-of-requires c κs = (c .before .before .before .before .before .before .pre .2 .within, c .before .before .before .before .before .before .pre .2 .noted)
@@ -60,7 +60,7 @@ serve-all-requires c κs =
     let l = w .inside in
     let p = c .before .before .before .before .place-of .ensures .0 in
     let s = c .before .before .slots-of .ensures .0 in
-    let e = c .before .before .before .before .before .before .before .before .count-orders .ensures in
+    let e = orders-count (a .f .now) (a .from) (c .before .before .before .before .before .before .before .before .count-orders .ensures) in
     let g = c .before .before .before .before .before .before .before .if1 .left in
     (omega arith, c .before .before .before .before .before .before .before .before .before .before .before .before .before .pre .2, omega arith)
 
@@ -73,7 +73,7 @@ same-length-2 c = search needs
 returns-2 : tie.Need-returns-2
 returns-2 c =
     let a = c .before .before .before .before .before .before .before .before .before .before .before .before .before .before .before .before .before .before .args in
-    room-served (a .t .now) (a .out .now) (headerFrom (a .f .now) (a .from)) (ordersFrom (a .f .now) (a .from)) (a .b) (c .before .before .before .before .before .before .before .before .before .before .before .before .before .count-orders .ensures) (c .before .before .before .before .before .before .before .before .before .before .before .before .if1 .left) (c .before .before .before .before .before .before .before .before .before .place-of .ensures .0) (c .before .before .before .before .before .before .before .slots-of .ensures .0) (c .before .before .before .before .before .before .before .before .before .before .before .year-of .ensures) (c .before .before .before .before .serve-all .ensures .0) (c .before .before .before .before .serve-all .ensures .1) (c .before .before .before .before .serve-all .ensures .2)
+    room-served (a .t .now) (a .out .now) (headerFrom (a .f .now) (a .from)) (ordersFrom (a .f .now) (a .from)) (a .b) (orders-count (a .f .now) (a .from) (c .before .before .before .before .before .before .before .before .before .before .before .before .before .count-orders .ensures)) (c .before .before .before .before .before .before .before .before .before .before .before .before .if1 .left) (c .before .before .before .before .before .before .before .before .before .place-of .ensures .0) (c .before .before .before .before .before .before .before .slots-of .ensures .0) (c .before .before .before .before .before .before .before .before .before .before .before .year-of .ensures) (c .before .before .before .before .serve-all .ensures .0) (c .before .before .before .before .serve-all .ensures .1) (c .before .before .before .before .serve-all .ensures .2)
 
 pub with-room-spec : {M : Type 1} → statement M
 with-room-spec =
