@@ -8,7 +8,7 @@ use lib.Dec.{eqb, leb}
 use Rattle.scan.specs.Bytes.{textIs}
 use Rattle.words.specs.Numbers.{put}
 use Rattle.table.specs.Table.{tableOk, abiOf}
-use Rattle.order.specs.declared.Order.{Order}
+use Rattle.order.specs.Ordinativo.{Ordinativo}
 use Rattle.orders.specs.Orders.{Header}
 use Rattle.flow.specs.declared.Verdict.{Verdict}
 use Rattle.flow.specs.declared.Verdict.the-variants.{MarkupBreaks, StructureBreaks, FieldBreaks, Stands}
@@ -25,20 +25,20 @@ use Rattle.desk.specs.declared.FlowAnswer.the-variants.{InvalidTable, To
 -- a flow refused, or served: on which body of the table, in which esercizio, and its orders
 pub data Reading : Type 0 where
   refused : FlowAnswer → Reading
-  served : ℕ → ℕ → ℕ → List Order → Reading
+  served : ℕ → ℕ → ℕ → List Ordinativo → Reading
 
 -- "8 the outcome buffer has under 16 bytes per order"
-abbrev pub withRoom : ℕ → ℕ → ℕ → ℕ → List Order → Reading
+abbrev pub withRoom : ℕ → ℕ → ℕ → ℕ → List Ordinativo → Reading
 withRoom room base n year os = cond (leb (16 * length os) room) (served base n year os) (refused NoRoom)
 
 -- "7 no body has this code"
-abbrev pub forBody : ℕ → ℕ → List Order → Addressed → Reading
+abbrev pub forBody : ℕ → ℕ → List Ordinativo → Addressed → Reading
 forBody room year os (Body e base n) = withRoom room base n year os
 forBody room year os Unknown = refused UnknownBody
 forBody room year os Invalid = refused InvalidTable
 
 -- "6 codice_ABI_BT isn't the table's"
-abbrev pub forBank : List ℕ → ℕ → Header → List Order → Reading
+abbrev pub forBank : List ℕ → ℕ → Header → List Ordinativo → Reading
 forBank t room h os = cond (textIs (abiOf t) (h .abi)) (forBody room (h .esercizio) os (bodyNamed t (h .ente))) (refused OtherBank)
 
 -- "3 the markup breaks; 4 the structure breaks; 5 a field breaks"
