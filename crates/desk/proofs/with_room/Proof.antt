@@ -31,7 +31,10 @@ year-of-requires : tie.Need-year-of-requires
 year-of-requires c κs = search needs
 
 serve-all-requires : tie.Need-serve-all-requires
-serve-all-requires c κs = search needs
+serve-all-requires c κs =
+    let e = orders-count (c .before .before .before .before .before .before .before .before .before .args .f .now) (c .before .before .before .before .before .before .before .before .before .args .from) (c .before .before .before .before .count-orders .ensures) in
+    let g = c .before .before .before .if1 .left in
+    (c .before .before .before .before .before .before .before .before .before .pre .0, c .before .before .before .before .before .before .before .before .before .pre .1, omega arith)
 
 same-length : tie.Need-same-length
 same-length c = search needs
