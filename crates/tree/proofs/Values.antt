@@ -1,13 +1,14 @@
 -- Where structure and fields stand, the header and the orders by name (specs/Orders.antt) are there, and are those of proofs/Levels.antt.
 use mathlib.Core.Path.{_≡_, refl, sym, ap, _∙_}
 use mathlib.Core.Logic.{inl, inr}
-use mathlib.Core.List.{List, [], _∷_}
+use mathlib.Core.List.{List, [], _∷_, _++_}
 use mathlib.Core.Bool.{Bool, true, false, cond, _&&_, _||_}
-use Prim.Native.Nat.{ℕ, zero, suc, _+_, _<_}
+use Prim.Native.Nat.{ℕ, zero, suc, _+_, _≤_, _<_}
 use Prim.Native.String.{String}
 use native.Mathlib.Nat.{add-zero}
 use native.Mathlib.Omega.{arith}
-use lib.ListN.{length, drop}
+use lib.ListN.{length, take, drop, replicate}
+use lib.Seq.{take-append-le, take-length}
 use lib.Dec.{eqb, leb}
 use borrow.Author.Tests.{eqb-true, ne-eqb, leb-true}
 use Rattle.scan.specs.Bytes.{bytes, between, run, textIs}
@@ -25,6 +26,7 @@ use Rattle.fields.specs.declared.Form.{Form}
 use Rattle.fields.specs.declared.Form.the-variants.{Esercizio, TipoOperazione, Numero, Data, Importo, Progressivo}
 use Rattle.fields.specs.declared.Judged.the-variants.{Stands}
 use Rattle.fields.specs.Fields.{isNumber, isDay, isOperation, fieldStands}
+use Rattle.order.specs.declared.Line.{Line}
 use Rattle.rows.specs.declared.Parent.{Parent}
 use Rattle.rows.specs.declared.Parent.the-variants.{FlussoOrdinativi, Mandato, Reversale, InformazioniBeneficiario, InformazioniVersante}
 use Rattle.rows.specs.declared.Holds.{Holds}
@@ -32,10 +34,10 @@ use Rattle.rows.specs.declared.Holds.the-variants.{Text, Rows}
 use Rattle.rows.specs.declared.Spot.the-variants.{At, Passed}
 use Rattle.rows.specs.Table.{_is_, Row, once, many, table}
 use Rattle.structure.specs.Structure.{Range, ranges, takes, isRow, inOrder}
-use Rattle.orders.specs.Orders.{valueOf, dateOf, operationOf}
+use Rattle.orders.specs.Orders.{valueOf, dateOf, operationOf, noLine, eight}
 use Rattle.tree.specs.Tree.{Tree, tree, says, holds, Trees, none, more, nameOf, heldOf, kidsIn}
-use Rattle.tree.specs.Orders.{childrenNamed, OneText, OneValue, Each, each-none, each-next, HeaderIn, Words, mandato, reversale, LineIn, OrderIn, AnOrder, OrdersIn}
-use Rattle.tree.proofs.Levels.{KeptTree, keepTree, keptTrees, rowsOfTrees, allTrees, keptFits, fitsTree, fieldsHeld, fieldsOfTrees, fieldsTree, firstText, textNamed, headerTree, lineTree, linesTree, orderTree, ordersTree}
+use Rattle.tree.specs.Orders.{childrenNamed, OneText, OneValue, Each, each-none, each-next, HeaderIn, Words, mandato, reversale, Ordinativo, ordinativo, ordinativi, LineIn, OrderIn, AnOrder, OrdersIn}
+use Rattle.tree.proofs.Levels.{KeptTree, keepTree, keptTrees, rowsOfTrees, allTrees, keptFits, fitsTree, fieldsHeld, fieldsOfTrees, fieldsTree, firstText, textNamed, headerTree, lineTree, linesTree, orderTree, ordersTree, inPlaces, allInPlaces}
 use Rattle.tree.proofs.Names.{text-same, HasRow, has-names, inRowTrees, pick, asKept, row-picked}
 use Rattle.tree.proofs.Orders.{one-name, all-row, Spelled, spelled-mandato, spelled-reversale, orderNames}
 use Rattle.tree.proofs.Stand.{stand, allStand, Right, stand-both, stand-is}
@@ -253,8 +255,44 @@ module _ (p q : Parent) (w : Words) (sp : Spelled p q w) where
         lines = lines-in d 4 (childrenNamed (w .line ∷ []) k) (row-right (suc d) p k r 4 (w .line) (Rows q) 1 8 (sp .line));
       }
 
+-- its lines, at most eight, come back from their places
+taken : {A : Type 0} (n m : ℕ) (l : List A) → n ≤ m → take n (take m l) ≡ take n l
+taken zero m l h = refl
+taken (suc n) zero l h = absurd (omega arith)
+taken (suc n) (suc m) [] h = refl
+taken (suc n) (suc m) (x ∷ l) h = ap (λ r. x ∷ r) (taken n m l (omega arith))
+
+lines-back : (ls : List Line) → length ls ≤ 8 → take (length ls) (eight ls) ≡ ls
+unfolding eight
+lines-back ls h = taken (length ls) 8 (ls ++ replicate 8 noLine) h ∙ take-append-le (length ls) ls (replicate 8 noLine) (omega arith) ∙ take-length ls
+
+lines-length : (w : Words) (l : List Tree) → length (linesTree w l) ≡ length l
+unfolding linesTree
+lines-length w [] = refl
+lines-length w (t ∷ l) = ap suc (lines-length w l)
+
+-- an order, and that it comes back
+abbrev Whole : Tree → Ordinativo → Type 0
+Whole t o = AnOrder t o × (ordinativo (inPlaces o) ≡ o)
+
+order-whole : (p q : Parent) (w : Words) → Spelled p q w → (d : ℕ) (t : Tree) → Right (suc (suc d)) p (kidsIn (heldOf t)) → ordinativo (inPlaces (orderTree w (kidsIn (heldOf t)))) ≡ orderTree w (kidsIn (heldOf t))
+order-whole p q w sp d t r =
+    let l = childrenNamed (w .line ∷ []) (kidsIn (heldOf t)) in
+    let b = row-length (suc d) p (kidsIn (heldOf t)) r 4 (w .line) (Rows q) 1 8 (sp .line) in
+    let h = leb-true (length l) 8 (both (leb 1 (length l)) (leb (length l) 8) b .1) in
+    let k : length (linesTree w l) ≤ 8 = omega (arith, lines-length w l) in
+    rw (lines-back (linesTree w l) k)
+
+each-map : {A : Type 0} {P Q : Tree → A → Type 0} → ((t : Tree) (a : A) → P t a → Q t a) → {ts : List Tree} {vs : List A} → Each P ts vs → Each Q ts vs
+each-map f each-none = each-none
+each-map f (each-next {t = t} {a = a} x xs) = each-next (f t a x) (each-map f xs)
+
+all-whole : {ts : List Tree} {os : List Ordinativo} → Each Whole ts os → ordinativi (allInPlaces os) ≡ os
+all-whole each-none = refl
+all-whole (each-next x xs) = rw (x .1, all-whole xs)
+
 -- the root's children in the row of orders
-orders-each : (d : ℕ) (ts : Trees) → allTrees (right (suc (suc d))) (pick orderNames 5 ts) ≡ true → OrdersIn ts (ordersTree ts)
+orders-each : (d : ℕ) (ts : Trees) → allTrees (right (suc (suc d))) (pick orderNames 5 ts) ≡ true → Each Whole (childrenNamed ("mandato" ∷ "reversale" ∷ []) ts) (ordersTree ts)
 unfolding childrenNamed ordersTree pick allTrees
 orders-each d none a = each-none
 orders-each d (more t ts) a = go (textIs (bytes "mandato") (nameOf t)) refl (textIs (bytes "reversale") (nameOf t)) refl a (orders-each d ts)
@@ -267,12 +305,14 @@ orders-each d (more t ts) a = go (textIs (bytes "mandato") (nameOf t)) refl (tex
 
     go : (b : Bool) → textIs (bytes "mandato") (nameOf t) ≡ b → (c : Bool) → textIs (bytes "reversale") (nameOf t) ≡ c
         → allTrees (right (suc (suc d))) (keepTree (cond b (At 5 (Rows Mandato)) (cond c (At 5 (Rows Reversale)) Passed)) t (pick orderNames 5 ts)) ≡ true
-        → (allTrees (right (suc (suc d))) (pick orderNames 5 ts) ≡ true → OrdersIn ts (ordersTree ts))
-        → Each AnOrder (cond (b || (c || false)) (t ∷ childrenNamed ("mandato" ∷ "reversale" ∷ []) ts) (childrenNamed ("mandato" ∷ "reversale" ∷ []) ts))
+        → (allTrees (right (suc (suc d))) (pick orderNames 5 ts) ≡ true → Each Whole (childrenNamed ("mandato" ∷ "reversale" ∷ []) ts) (ordersTree ts))
+        → Each Whole (cond (b || (c || false)) (t ∷ childrenNamed ("mandato" ∷ "reversale" ∷ []) ts) (childrenNamed ("mandato" ∷ "reversale" ∷ []) ts))
         (cond b (orderTree mandato (kidsIn (heldOf t)) ∷ ordersTree ts) (cond c (orderTree reversale (kidsIn (heldOf t)) ∷ ordersTree ts) (ordersTree ts)))
-    go true y c z e i = let k = one Mandato e in each-next (inl (order-in Mandato InformazioniBeneficiario mandato spelled-mandato d t (text-same (bytes "mandato") (nameOf t) y) (k .0))) (i (k .1))
-    go false y true z e i = let k = one Reversale e in each-next (inr (order-in Reversale InformazioniVersante reversale spelled-reversale d t (text-same (bytes "reversale") (nameOf t) z) (k .0))) (i (k .1))
+    go true y c z e i = let k = one Mandato e in each-next (inl (order-in Mandato InformazioniBeneficiario mandato spelled-mandato d t (text-same (bytes "mandato") (nameOf t) y) (k .0)), order-whole Mandato InformazioniBeneficiario mandato spelled-mandato d t (k .0)) (i (k .1))
+    go false y true z e i = let k = one Reversale e in each-next (inr (order-in Reversale InformazioniVersante reversale spelled-reversale d t (text-same (bytes "reversale") (nameOf t) z) (k .0)), order-whole Reversale InformazioniVersante reversale spelled-reversale d t (k .0)) (i (k .1))
     go false y false z e i = i e
 
-pub orders-in : (d : ℕ) (ts : Trees) → Right (suc (suc (suc d))) FlussoOrdinativi ts → OrdersIn ts (ordersTree ts)
-orders-in d ts r = orders-each d ts (rw (← row-picked FlussoOrdinativi 5 ts) (all-row (right (suc (suc d))) 5 (keptTrees FlussoOrdinativi ts) (right-parts (suc (suc d)) FlussoOrdinativi ts r .each)))
+pub orders-in : (d : ℕ) (ts : Trees) → Right (suc (suc (suc d))) FlussoOrdinativi ts → OrdersIn ts (ordinativi (allInPlaces (ordersTree ts)))
+orders-in d ts r =
+    let a = orders-each d ts (rw (← row-picked FlussoOrdinativi 5 ts) (all-row (right (suc (suc d))) 5 (keptTrees FlussoOrdinativi ts) (right-parts (suc (suc d)) FlussoOrdinativi ts r .each))) in
+    rw (all-whole a) (each-map (λ t o x. x .0) a)

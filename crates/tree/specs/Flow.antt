@@ -3,7 +3,7 @@ use mathlib.Core.Path.{_≡_}
 use mathlib.Core.Logic.{_↔_}
 use Prim.Native.Nat.{ℕ, _+_}
 use Prim.Native.String.{String}
-use mathlib.Core.List.{List, [], _∷_}
+use mathlib.Core.List.{List}
 use mathlib.Core.Bool.{true}
 use lib.ListN.{length}
 use Rattle.scan.specs.Bytes.{bytes}
@@ -12,15 +12,13 @@ use Rattle.rows.specs.declared.Parent.{Parent}
 use Rattle.rows.specs.declared.Parent.the-variants.{FlussoOrdinativi}
 use Rattle.rows.specs.declared.Holds.the-variants.{Rows}
 use Rattle.readings.specs.Readings.{Field}
-use Rattle.order.specs.declared.Order.{Order}
-use Rattle.orders.specs.Orders.{eight}
 use Rattle.flow.specs.declared.Verdict.{Verdict}
 use Rattle.flow.specs.declared.Verdict.the-variants.{MarkupBreaks, StructureBreaks, FieldBreaks, Stands}
 use Rattle.flow.specs.Flow.{verdictOf, headerOf, flowOrders}
 use Rattle.tree.specs.Tree.{Tree, placeOf, nameOf, heldOf, kidsIn, Reads}
 use Rattle.tree.specs.Structure.{named, heldFits}
 use Rattle.tree.specs.Fields.{heldFields, AllStand, FirstBreaks}
-use Rattle.tree.specs.Orders.{Ordinativo, HeaderIn, OrdersIn}
+use Rattle.tree.specs.Orders.{HeaderIn, ordinativi, OrdersIn}
 
 -- THE VERDICT ON A TREE, for a root of any name and parent: it has that name, and holds what that parent's rows say
 pub record Structured (x : String) (p : Parent) (t : Tree) : Type 0 where
@@ -44,14 +42,6 @@ pub data VerdictOn (x : String) (p : Parent) (t : Tree) : Verdict → Type 0 whe
 abbrev pub FlowVerdict : Tree → Verdict → Type 0
 FlowVerdict = VerdictOn "flusso_ordinativi" FlussoOrdinativi
 
--- the code keeps an order's lines in eight places, with their number
-abbrev pub inPlaces : Ordinativo → Order
-inPlaces o = record { kind = o .kind; operation = o .operation; number = o .number; date = o .date; total = o .total; lines = record { count = length (o .lines); each = eight (o .lines) } }
-
-abbrev pub allInPlaces : List Ordinativo → List Order
-allInPlaces [] = []
-allInPlaces (o ∷ os) = inPlaces o ∷ allInPlaces os
-
 -- THE CLOSING STATEMENT. Either the grammar derives no tree, and the markup breaks ..
 pub record NoTree (s : List ℕ) : Type 0 where
   pub underivable : (t : Tree) → Reads s t → ⊥
@@ -64,7 +54,7 @@ pub record OneTree (s : List ℕ) (t : Tree) : Type 0 where
   pub alone : (u : Tree) → Reads s u → u ≡ t
   pub verdict : (v : Verdict) → (verdictOf s ≡ v) ↔ FlowVerdict t v
   pub header : (at : ℕ) → verdictOf s ≡ Stands at → HeaderIn (kidsIn (heldOf t)) (headerOf s at)
-  pub orders : (at : ℕ) → verdictOf s ≡ Stands at → (os : List Ordinativo) × OrdersIn (kidsIn (heldOf t)) os × (flowOrders s at ≡ allInPlaces os)
+  pub orders : (at : ℕ) → verdictOf s ≡ Stands at → OrdersIn (kidsIn (heldOf t)) (ordinativi (flowOrders s at))
 
 pub data Answered (s : List ℕ) : Type 0 where
   no-tree : NoTree s → Answered s

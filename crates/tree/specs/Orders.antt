@@ -14,7 +14,9 @@ use Rattle.digits.specs.declared.Number.the-variants.{Value}
 use Rattle.digits.specs.Digits.{esercizio, numero, importo, progressivo}
 use Rattle.dates.specs.declared.Day.the-variants.{On}
 use Rattle.dates.specs.Dates.{dataOf}
+use lib.ListN.{take}
 use Rattle.order.specs.declared.Line.{Line}
+use Rattle.order.specs.declared.Order.{Order}
 use Rattle.orders.specs.Orders.{Header}
 use Rattle.tree.specs.Tree.{Tree, tree, says, Trees, none, more, nameOf, heldOf, kidsIn}
 
@@ -63,10 +65,28 @@ pub record Words : Type 0 where
   pub amount : String
 
 abbrev pub mandato : Words
-mandato = record { name = "mandato"; kind = 1; number = "numero_mandato"; date = "data_mandato"; total = "importo_mandato"; line = "informazioni_beneficiario"; progressivo = "progressivo_beneficiario"; amount = "importo_beneficiario" }
+mandato = record {
+  name = "mandato";
+  kind = 1;
+  number = "numero_mandato";
+  date = "data_mandato";
+  total = "importo_mandato";
+  line = "informazioni_beneficiario";
+  progressivo = "progressivo_beneficiario";
+  amount = "importo_beneficiario";
+}
 
 abbrev pub reversale : Words
-reversale = record { name = "reversale"; kind = 2; number = "numero_reversale"; date = "data_reversale"; total = "importo_reversale"; line = "informazioni_versante"; progressivo = "progressivo_versante"; amount = "importo_versante" }
+reversale = record {
+  name = "reversale";
+  kind = 2;
+  number = "numero_reversale";
+  date = "data_reversale";
+  total = "importo_reversale";
+  line = "informazioni_versante";
+  progressivo = "progressivo_versante";
+  amount = "importo_versante";
+}
 
 -- AN ORDER as it is written, with all its lines
 pub record Ordinativo : Type 0 where
@@ -76,6 +96,14 @@ pub record Ordinativo : Type 0 where
   pub date : Date
   pub total : ℕ
   pub lines : List Line
+
+-- (the code keeps the lines in eight places, with their number)
+abbrev pub ordinativo : Order → Ordinativo
+ordinativo o = record { kind = o .kind; operation = o .operation; number = o .number; date = o .date; total = o .total; lines = take (o .lines .count) (o .lines .each) }
+
+abbrev pub ordinativi : List Order → List Ordinativo
+ordinativi [] = []
+ordinativi (o ∷ os) = ordinativo o ∷ ordinativi os
 
 pub record LineIn (w : Words) (t : Tree) (l : Line) : Type 0 where
   pub progressivo : OneValue (w .progressivo) progressivo (kidsIn (heldOf t)) (Value (l .progressivo))

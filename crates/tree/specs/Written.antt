@@ -9,8 +9,8 @@ use Rattle.flow.specs.declared.Verdict.the-variants.{Stands}
 use Rattle.flow.specs.Flow.{verdictOf, headerOf, flowOrders}
 use Rattle.tree.specs.Tree.{Tree, tree, Held, says, holds, Trees, none, more, heldOf, kidsIn}
 use Rattle.tree.specs.Fields.{AllStand}
-use Rattle.tree.specs.Orders.{Ordinativo, HeaderIn, OrdersIn}
-use Rattle.tree.specs.Flow.{Structured, fieldsOf, allInPlaces}
+use Rattle.tree.specs.Orders.{HeaderIn, ordinativi, OrdersIn}
+use Rattle.tree.specs.Flow.{Structured, fieldsOf}
 
 unfoldable mutual
   pub bytesOf : Tree → List ℕ
@@ -60,7 +60,7 @@ pub record Message (t : Tree) : Type 0 where
 pub record ReadBack (t : Tree) (at : ℕ) : Type 0 where
   pub stands : verdictOf (bytesOf t) ≡ Stands at
   pub header : HeaderIn (kidsIn (heldOf t)) (headerOf (bytesOf t) at)
-  pub orders : (os : List Ordinativo) × OrdersIn (kidsIn (heldOf t)) os × (flowOrders (bytesOf t) at ≡ allInPlaces os)
+  pub orders : OrdersIn (kidsIn (heldOf t)) (ordinativi (flowOrders (bytesOf t) at))
 
 -- READ AND WRITTEN AGAIN: of a flow that stands, white space and all, the tree's bytes stand too, with the same header and orders
 pub record Again (s : List ℕ) (at : ℕ) (t : Tree) : Type 0 where
