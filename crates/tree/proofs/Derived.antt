@@ -1,4 +1,5 @@
--- The parts of `elementTree` (specs/Tree.antt): what content holds, and the trees of elements.
+-- The parts of `elementTree` (specs/Tree.antt): what content holds, and the trees of elements. (No function over derivations can call another, so the
+-- cases stand in each of the three)
 use Prim.Native.Nat.{ℕ, _+_}
 use mathlib.Core.List.{List, _++_}
 use lib.ListN.{length}
