@@ -9,8 +9,7 @@ use Rattle.fields.specs.declared.Judged.{Judged}
 use Rattle.fields.specs.declared.Judged.the-variants.{Stands, Breaks}
 use Rattle.fields.specs.Fields.{fieldStands}
 use Rattle.rows.specs.declared.Parent.{Parent}
-use Rattle.readings.specs.declared.Bad.the-variants.{Place, Nowhere}
-use Rattle.readings.specs.Readings.{Field, firstBad, badOr}
+use Rattle.standing.specs.Readings.{Field, firstBad, badOr, Place, Nowhere}
 use Rattle.tree.specs.Tree.{Trees}
 use Rattle.tree.specs.Fields.{AllStand, all-none, all-next, FirstBreaks, here, later}
 use Rattle.tree.proofs.Levels.{fitsTree, fieldsTree}

@@ -7,7 +7,7 @@ use Rattle.fields.specs.Fields.{fieldStands}
 use Rattle.rows.specs.declared.Parent.{Parent}
 use Rattle.rows.specs.declared.Holds.the-variants.{Text, Rows}
 use Rattle.rows.specs.Table.{table}
-use Rattle.readings.specs.Readings.{Field}
+use Rattle.standing.specs.Readings.{Field}
 use Rattle.tree.specs.Tree.{Tree, tree, Held, says, holds, Trees, none, more}
 use Rattle.tree.specs.Structure.{Said, named, passed, said}
 

@@ -11,7 +11,7 @@ use Rattle.grammar.specs.Grammar.{startTag}
 use Rattle.rows.specs.declared.Parent.{Parent}
 use Rattle.rows.specs.declared.Parent.the-variants.{FlussoOrdinativi}
 use Rattle.rows.specs.declared.Holds.the-variants.{Rows}
-use Rattle.readings.specs.Readings.{Field}
+use Rattle.standing.specs.Readings.{Field}
 use Rattle.flow.specs.declared.Verdict.{Verdict}
 use Rattle.flow.specs.declared.Verdict.the-variants.{MarkupBreaks, StructureBreaks, FieldBreaks, Stands}
 use Rattle.flow.specs.Flow.{verdictOf, headerOf, flowOrders}

@@ -12,8 +12,6 @@ use Rattle.rows.specs.declared.Holds.{Holds}
 use Rattle.rows.specs.declared.Holds.the-variants.{Text, Rows}
 use Rattle.rows.specs.declared.Kept.{Kept}
 use Rattle.rows.specs.Kept.{keptFrom}
-use Rattle.readings.specs.declared.Bad.{Bad}
-use Rattle.readings.specs.declared.Bad.the-variants.{Place, Nowhere}
 
 -- a field: the form it is to have, the place of its <, and its text, a part of the flow
 pub record Field : Type 0 where
@@ -38,6 +36,11 @@ fieldsBy deeper s (k ∷ ks) = fieldsIn deeper s k (k .holds) ++ fieldsBy deeper
 unfoldable pub fieldsAt : ℕ → Parent → List ℕ → ℕ → List Field
 fieldsAt zero p s at = []
 fieldsAt (suc d) p s at = fieldsBy (λ q a. fieldsAt d q s a) s (keptFrom p s (whiteAt s at))
+
+-- the `<` of a field that breaks, or none does
+pub data Bad : Type 0 where
+  Place : ℕ → Bad
+  Nowhere : Bad
 
 abbrev pub badOr : ℕ → Bad → Judged → Bad
 badOr lt rest Stands = rest
