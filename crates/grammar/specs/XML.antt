@@ -1,6 +1,6 @@
 -- Well-formed XML 1.0, from the recommendation (Extensible Markup Language 1.0, fifth edition), each production with its number there, over
 -- characters as there: numbers of Unicode. Alternatives that no flow takes are left out: attributes, empty-element tags, comments, CDATA sections,
--- instructions, character references, standalone, doctype. So whatever is derived here is derived there.
+-- instructions, character references, single quotes, standalone, doctype. So whatever is derived here is derived there.
 use mathlib.Core.Path.{_≡_}
 use Prim.Native.Nat.{ℕ, _+_, _*_, _≤_, _<_}
 use Prim.Native.String.{String}

@@ -1,7 +1,7 @@
 -- Where structure and fields stand, the header and the orders by name (specs/Orders.antt) are there, and are those of proofs/Levels.antt.
 use mathlib.Core.Path.{_≡_, refl, sym, ap, _∙_}
 use mathlib.Core.Logic.{inl, inr}
-use mathlib.Core.List.{List, [], _∷_, _++_}
+use mathlib.Core.List.{List, [], _∷_, _++_, map}
 use mathlib.Core.Bool.{Bool, true, false, cond, _&&_, _||_}
 use Prim.Native.Nat.{ℕ, zero, suc, _+_, _≤_, _<_}
 use Prim.Native.String.{String}
@@ -36,7 +36,7 @@ use Rattle.rows.specs.Table.{_is_, Row, once, many, table}
 use Rattle.structure.specs.Structure.{Range, ranges, takes, isRow, inOrder}
 use Rattle.orders.specs.Orders.{valueOf, dateOf, operationOf, noLine, eight}
 use Rattle.tree.specs.Tree.{Tree, tree, says, holds, Trees, none, more, nameOf, heldOf, kidsIn}
-use Rattle.tree.specs.Orders.{childrenNamed, OneText, OneValue, Each, each-none, each-next, HeaderIn, Words, mandato, reversale, Ordinativo, ordinativo, ordinativi, LineIn, OrderIn, AnOrder, OrdersIn}
+use Rattle.tree.specs.Orders.{childrenNamed, OneText, OneValue, Each, each-none, each-next, HeaderIn, Words, mandato, reversale, Ordinativo, ordinativo, LineIn, OrderIn, AnOrder, OrdersIn}
 use Rattle.tree.proofs.Levels.{KeptTree, keepTree, keptTrees, rowsOfTrees, allTrees, keptFits, fitsTree, fieldsHeld, fieldsOfTrees, fieldsTree, firstText, textNamed, headerTree, lineTree, linesTree, orderTree, ordersTree, inPlaces, allInPlaces}
 use Rattle.tree.proofs.Names.{text-same, HasRow, has-names, inRowTrees, pick, asKept, row-picked}
 use Rattle.tree.proofs.Orders.{one-name, all-row, Spelled, spelled-mandato, spelled-reversale, orderNames}
@@ -287,7 +287,7 @@ each-map : {A : Type 0} {P Q : Tree → A → Type 0} → ((t : Tree) (a : A) �
 each-map f each-none = each-none
 each-map f (each-next {t = t} {a = a} x xs) = each-next (f t a x) (each-map f xs)
 
-all-whole : {ts : List Tree} {os : List Ordinativo} → Each Whole ts os → ordinativi (allInPlaces os) ≡ os
+all-whole : {ts : List Tree} {os : List Ordinativo} → Each Whole ts os → map ordinativo (allInPlaces os) ≡ os
 all-whole each-none = refl
 all-whole (each-next x xs) = rw (x .1, all-whole xs)
 
@@ -312,7 +312,7 @@ orders-each d (more t ts) a = go (textIs (bytes "mandato") (nameOf t)) refl (tex
     go false y true z e i = let k = one Reversale e in each-next (inr (order-in Reversale InformazioniVersante reversale spelled-reversale d t (text-same (bytes "reversale") (nameOf t) z) (k .0)), order-whole Reversale InformazioniVersante reversale spelled-reversale d t (k .0)) (i (k .1))
     go false y false z e i = i e
 
-pub orders-in : (d : ℕ) (ts : Trees) → Right (suc (suc (suc d))) FlussoOrdinativi ts → OrdersIn ts (ordinativi (allInPlaces (ordersTree ts)))
+pub orders-in : (d : ℕ) (ts : Trees) → Right (suc (suc (suc d))) FlussoOrdinativi ts → OrdersIn ts (map ordinativo (allInPlaces (ordersTree ts)))
 orders-in d ts r =
     let a = orders-each d ts (rw (← row-picked FlussoOrdinativi 5 ts) (all-row (right (suc (suc d))) 5 (keptTrees FlussoOrdinativi ts) (right-parts (suc (suc d)) FlussoOrdinativi ts r .each))) in
     rw (all-whole a) (each-map (λ t o x. x .0) a)

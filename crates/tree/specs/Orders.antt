@@ -101,10 +101,6 @@ pub record Ordinativo : Type 0 where
 abbrev pub ordinativo : Order → Ordinativo
 ordinativo o = record { kind = o .kind; operation = o .operation; number = o .number; date = o .date; total = o .total; lines = take (o .lines .count) (o .lines .each) }
 
-abbrev pub ordinativi : List Order → List Ordinativo
-ordinativi [] = []
-ordinativi (o ∷ os) = ordinativo o ∷ ordinativi os
-
 pub record LineIn (w : Words) (t : Tree) (l : Line) : Type 0 where
   pub progressivo : OneValue (w .progressivo) progressivo (kidsIn (heldOf t)) (Value (l .progressivo))
   pub amount : OneValue (w .amount) importo (kidsIn (heldOf t)) (Value (l .amount))
