@@ -24,7 +24,7 @@ use Rattle.tree.proofs.Levels.{amongNames, spotNamed, KeptTree, keepTre
 use Rattle.tree.proofs.Names.{namesAt, onlyAt, row-is, row-next, tables-apart}
 
 -- WHAT THE ROWS SAY OF A NAME is said at its row
-abbrev sayAt : Spot → Said
+abbrev pub sayAt : Spot → Said
 sayAt (At n h) = named h
 sayAt Passed = passed
 
@@ -37,7 +37,7 @@ module _ (x : List ℕ) where
       go true i = refl
       go false i = i
 
-  said-rows : (rs : List Row) (n : ℕ) → said rs x ≡ sayAt (spotNamed rs n x)
+  pub said-rows : (rs : List Row) (n : ℕ) → said rs x ≡ sayAt (spotNamed rs n x)
   said-rows [] n = refl
   said-rows (r ∷ rs) n = said-names (r .names) n (said rs x) (spotNamed rs (suc n) x) (said-rows rs (suc n))
 
