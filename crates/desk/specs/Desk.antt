@@ -17,6 +17,7 @@ use Rattle.service.specs.Service.{allLeave, allOutcomes, allAccepted}
 use Rattle.address.specs.declared.Addressed.{Addressed}
 use Rattle.address.specs.declared.Addressed.the-variants.{Invalid, Unknown, Body}
 use Rattle.address.specs.Address.{bodyNamed}
+use Rattle.desk.specs.declared.FlowReply.{FlowReply}
 use Rattle.desk.specs.declared.FlowAnswer.{FlowAnswer}
 use Rattle.desk.specs.declared.FlowAnswer.the-variants.{InvalidTable, TooLong, BrokenMarkup, BrokenStructure, BrokenField, OtherBank, UnknownBody, NoRoom, Taken}
 
@@ -83,12 +84,6 @@ abbrev pub FlowPromise : List ℕ → List ℕ → List ℕ → FlowAnswer → L
 FlowPromise t f out a t′ out′ = Gives t out (flowReads t f (length out)) a t′ out′
 
 -- DOCUMENT 01'S NUMBERS of an answer: "A refusal gives orders and accepted 0; place is 0 but for code 5"
-pub record FlowReply : Type 0 where
-  pub code : ℕ
-  pub place : ℕ
-  pub orders : ℕ
-  pub accepted : ℕ
-
 abbrev refusal : ℕ → FlowReply
 refusal c = record { code = c; place = 0; orders = 0; accepted = 0 }
 
@@ -106,8 +101,10 @@ flowReply (Taken n m) = record { code = 0; place = 0; orders = n; accepted = m }
 abbrev pub flowCode : FlowAnswer → ℕ
 flowCode a = flowReply a .code
 
+-- the same reply, number by number
+abbrev pub SameReply : FlowReply → FlowReply → Type 0
+SameReply m n = (m .code ≡ n .code) × (m .place ≡ n .place) × (m .orders ≡ n .orders) × (m .accepted ≡ n .accepted)
+
 -- the promise in these numbers
 abbrev pub FlowReplies : List ℕ → List ℕ → List ℕ → FlowReply → List ℕ → List ℕ → Type 0
-FlowReplies t f out n t′ out′ =
-    (a : FlowAnswer) × FlowPromise t f out a t′ out′
-    × (n .code ≡ flowReply a .code) × (n .place ≡ flowReply a .place) × (n .orders ≡ flowReply a .orders) × (n .accepted ≡ flowReply a .accepted)
+FlowReplies t f out n t′ out′ = (a : FlowAnswer) × FlowPromise t f out a t′ out′ × SameReply n (flowReply a)

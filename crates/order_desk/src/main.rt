@@ -1,25 +1,11 @@
 // The program of document 01: a table for ABI 01234 with 000471 and 471, four slots each; one flow from standard input; its answer, its orders and
 // the bodies' totals on standard output. Everything that decides is in the library.
-use libc::STDIN_FILENO;
-use libc::STDOUT_FILENO;
+use casebook::say;
+use casebook::say_next;
+use casebook::say_number;
 ghost use mathlib.Core.Path.{_≡_};
-ghost use Prim.Native.Nat.{_+_, _≤_};
-ghost use lib.ListN.{length};
 ghost use lib.IntN.{pos, natAbs};
 ghost use lib.Signed.{_<ℤ_};
-
-fn say(text: &[u8]) {
-    io::write_all(STDOUT_FILENO, text);
-}
-
-fn say_number(n: u64) {
-    say(b" ");
-    io::print_decimal(STDOUT_FILENO, n);
-}
-
-fn say_byte(b: u8) {
-    say_number(b as u64);
-}
 
 // How far a number below zero is from it.
 fn magnitude(n: i64) -> u64
@@ -33,47 +19,20 @@ fn magnitude(n: i64) -> u64
 fn say_signed(n: i64) {
     if n < 0 {
         say(b" -");
-        io::print_decimal(STDOUT_FILENO, magnitude(n));
+        say_number(magnitude(n));
     } else {
-        say_number(n as u64);
+        say_next(n as u64);
     }
 }
 
 // The line of a flow: code, place, orders, accepted.
 fn say_flow(code: u64, place: u64, orders: u64, accepted: u64) {
     say(b"flow");
-    say_number(code);
-    say_number(place);
-    say_number(orders);
-    say_number(accepted);
+    say_next(code);
+    say_next(place);
+    say_next(orders);
+    say_next(accepted);
     say(b"\n");
-}
-
-// The line of an order, from its 16 outcome bytes: kind, operation, number, lines, total, code.
-fn say_order(out: &[u8], at: usize)
-    requires { ⌜ at + 16 ≤ length (now out) ⌝ }
-{
-    say(b"order");
-    say_byte(out[at]);
-    say_byte(out[at + 1]);
-    say_number(words::read4(out, at + 4));
-    say_byte(out[at + 3]);
-    say_number(words::read8(out, at + 8));
-    say_byte(out[at + 2]);
-    say(b"\n");
-}
-
-fn say_orders(out: &[u8], orders: u64) {
-    let mut at: usize = 0;
-    let mut left = orders;
-    while 0 < left {
-        if out.len() - at < 16 {
-            return;
-        }
-        say_order(out, at);
-        at += 16;
-        left -= 1;
-    }
 }
 
 // The line of a body: its code, used slots, balance.
@@ -81,7 +40,7 @@ fn say_body(table: &[u8], code: &[u8]) {
     let t = notices::totals(table, code);
     say(b"body ");
     say(code);
-    say_number(t.used);
+    say_next(t.used);
     let balance = t.balance;
     say_signed(balance);
     say(b"\n");
@@ -107,7 +66,7 @@ fn run(flow: &[u8]) {
         &mut accepted,
     );
     say_flow(code, place, orders, accepted);
-    say_orders(&outcomes, orders);
+    casebook::say_outcomes(&outcomes, orders, b"order", b"\n");
     say_body(&table, b"000471");
     say_body(&table, b"471");
 }
@@ -115,6 +74,6 @@ fn run(flow: &[u8]) {
 // One byte more than the longest flow is read, so that a longer one shows.
 fn main() {
     let mut input = [0u8; 32769];
-    let n = io::read_full(STDIN_FILENO, &mut input);
+    let n = io::read_full(libc::STDIN_FILENO, &mut input);
     run(&input[..n]);
 }

@@ -1,16 +1,16 @@
 use borrow.Author.Needs.{needs}
 use Prim.Native.Nat.{_≤_, _-_}
-use native.Mathlib.Omega.{arith}
-use Rattle.cases_desk.proofs.number.Statement.{statement}
-use Rattle.cases_desk.proofs.number.Tie as tie
-use Rattle.cases_desk.proofs.number.Reads as reads
-use Rattle.cases_desk.proofs.number.Lts as lts
+use lib.ListN.{length}
+use Rattle.casebook.proofs.number.Statement.{statement}
+use Rattle.casebook.proofs.number.Tie as tie
+use Rattle.casebook.proofs.number.Reads as reads
+use Rattle.casebook.proofs.number.Lts as lts
+use Rattle.casebook.proofs.column.Reads as column-reads
 use Rattle.casebook.proofs.find.Reads as find-reads
-use Rattle.cases_desk.proofs.column.Reads as column-reads
-use Rattle.cases_desk.proofs.more.Reads as more-reads
+use Rattle.casebook.proofs.more.Reads as more-reads
 
 abbrev Inv-loop : tie.InvT-loop
-Inv-loop s a e k from to i₀ v₀ i v = i ≤ to
+Inv-loop s a e k from to i₀ v₀ i v = (i ≤ to) × (to ≤ length s)
 
 abbrev μ-loop : tie.MeasureT-loop
 μ-loop s a e k from to i₀ v₀ i v = to - i

@@ -1,11 +1,11 @@
-use Prim.Native.Nat.{_≤_}
 use borrow.Author.Needs.{needs}
-use Rattle.cases_table.proofs.column.Statement.{statement}
-use Rattle.cases_table.proofs.column.Tie as tie
-use Rattle.cases_table.proofs.column.Reads as reads
-use Rattle.cases_table.proofs.column.Lts as lts
+use Prim.Native.Nat.{_≤_}
+use Rattle.casebook.proofs.column.Statement.{statement}
+use Rattle.casebook.proofs.column.Tie as tie
+use Rattle.casebook.proofs.column.Reads as reads
+use Rattle.casebook.proofs.column.Lts as lts
 use Rattle.casebook.proofs.after.Reads as after-reads
 use Rattle.casebook.proofs.find.Reads as find-reads
 
 abbrev Inv-loop : tie.InvT-loop
 Inv-loop s a e k at₀ left₀ at left = (a ≤ at) × (at ≤ e)
