@@ -9,7 +9,8 @@ use Rattle.digits.specs.declared.Number.the-variants.{Value}
 use Rattle.order.specs.declared.Line.{Line}
 use Rattle.orders.specs.Orders.{Header}
 use Rattle.tree.specs.Tree.{Tree, Trees}
-use Rattle.tree.specs.Orders.{OneText, OneValue, Each, each-none, each-next, HeaderIn, Words, mandato, reversale, Ordinativo, LineIn, OrderIn, AnOrder, OrdersIn}
+use Rattle.tree.specs.Orders.{OneText, OneValue, Each, each-none, each-next, HeaderIn, Words, mandato, reversale, LineIn, OrderIn, AnOrder, OrdersIn}
+use Rattle.order.specs.Ordinativo.{Ordinativo}
 
 text-one : {x : String} {ts : Trees} {t u : List ℕ} → OneText x ts t → OneText x ts u → t ≡ u
 text-one a b = let y = a .alone in let z = b .alone in cc

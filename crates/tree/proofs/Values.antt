@@ -36,7 +36,8 @@ use Rattle.rows.specs.Table.{_is_, Row, once, many, table}
 use Rattle.structure.specs.Structure.{Range, ranges, takes, isRow, inOrder}
 use Rattle.orders.specs.Orders.{valueOf, dateOf, operationOf, noLine, eight}
 use Rattle.tree.specs.Tree.{Tree, tree, says, holds, Trees, none, more, nameOf, heldOf, kidsIn}
-use Rattle.tree.specs.Orders.{childrenNamed, OneText, OneValue, Each, each-none, each-next, HeaderIn, Words, mandato, reversale, Ordinativo, ordinativo, LineIn, OrderIn, AnOrder, OrdersIn}
+use Rattle.tree.specs.Orders.{childrenNamed, OneText, OneValue, Each, each-none, each-next, HeaderIn, Words, mandato, reversale, LineIn, OrderIn, AnOrder, OrdersIn}
+use Rattle.order.specs.Ordinativo.{Ordinativo, ordinativo}
 use Rattle.tree.proofs.Levels.{KeptTree, keepTree, keptTrees, rowsOfTrees, allTrees, keptFits, fitsTree, fieldsHeld, fieldsOfTrees, fieldsTree, firstText, textNamed, headerTree, lineTree, linesTree, orderTree, ordersTree, inPlaces, allInPlaces}
 use Rattle.tree.proofs.Names.{text-same, HasRow, has-names, inRowTrees, pick, asKept, row-picked}
 use Rattle.tree.proofs.Orders.{one-name, all-row, Spelled, spelled-mandato, spelled-reversale, orderNames}

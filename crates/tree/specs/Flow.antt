@@ -3,7 +3,7 @@ use mathlib.Core.Path.{_≡_}
 use mathlib.Core.Logic.{_↔_}
 use Prim.Native.Nat.{ℕ, _+_}
 use Prim.Native.String.{String}
-use mathlib.Core.List.{List, map}
+use mathlib.Core.List.{List}
 use mathlib.Core.Bool.{true}
 use lib.ListN.{length}
 use Rattle.scan.specs.Bytes.{bytes}
@@ -18,7 +18,8 @@ use Rattle.flow.specs.Flow.{verdictOf, headerOf, flowOrders}
 use Rattle.tree.specs.Tree.{Tree, placeOf, nameOf, heldOf, kidsIn, Reads}
 use Rattle.tree.specs.Structure.{named, heldFits}
 use Rattle.tree.specs.Fields.{heldFields, AllStand, FirstBreaks}
-use Rattle.tree.specs.Orders.{HeaderIn, ordinativo, OrdersIn}
+use Rattle.tree.specs.Orders.{HeaderIn, OrdersIn}
+use Rattle.order.specs.Ordinativo.{ordinativo}
 
 -- THE VERDICT ON A TREE, for a root of any name and parent: it has that name, and holds what that parent's rows say
 pub record Structured (x : String) (p : Parent) (t : Tree) : Type 0 where
@@ -54,7 +55,7 @@ pub record OneTree (s : List ℕ) (t : Tree) : Type 0 where
   pub alone : (u : Tree) → Reads s u → u ≡ t
   pub verdict : (v : Verdict) → (verdictOf s ≡ v) ↔ FlowVerdict t v
   pub header : (at : ℕ) → verdictOf s ≡ Stands at → HeaderIn (kidsIn (heldOf t)) (headerOf s at)
-  pub orders : (at : ℕ) → verdictOf s ≡ Stands at → OrdersIn (kidsIn (heldOf t)) (map ordinativo (flowOrders s at))
+  pub orders : (at : ℕ) → verdictOf s ≡ Stands at → OrdersIn (kidsIn (heldOf t)) (flowOrders s at)
 
 pub data Answered (s : List ℕ) : Type 0 where
   no-tree : NoTree s → Answered s

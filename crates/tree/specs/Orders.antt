@@ -14,9 +14,8 @@ use Rattle.digits.specs.declared.Number.the-variants.{Value}
 use Rattle.digits.specs.Digits.{esercizio, numero, importo, progressivo}
 use Rattle.dates.specs.declared.Day.the-variants.{On}
 use Rattle.dates.specs.Dates.{dataOf}
-use lib.ListN.{take}
 use Rattle.order.specs.declared.Line.{Line}
-use Rattle.order.specs.declared.Order.{Order}
+use Rattle.order.specs.Ordinativo.{Ordinativo}
 use Rattle.orders.specs.Orders.{Header}
 use Rattle.tree.specs.Tree.{Tree, tree, says, Trees, none, more, nameOf, heldOf, kidsIn}
 
@@ -88,19 +87,7 @@ reversale = record {
   amount = "importo_versante";
 }
 
--- AN ORDER as it is written, with all its lines
-pub record Ordinativo : Type 0 where
-  pub kind : ℕ
-  pub operation : Operation
-  pub number : ℕ
-  pub date : Date
-  pub total : ℕ
-  pub lines : List Line
-
--- (the code keeps the lines in eight places, with their number)
-abbrev pub ordinativo : Order → Ordinativo
-ordinativo o = record { kind = o .kind; operation = o .operation; number = o .number; date = o .date; total = o .total; lines = take (o .lines .count) (o .lines .each) }
-
+-- AN ORDER, with all its lines
 pub record LineIn (w : Words) (t : Tree) (l : Line) : Type 0 where
   pub progressivo : OneValue (w .progressivo) progressivo (kidsIn (heldOf t)) (Value (l .progressivo))
   pub amount : OneValue (w .amount) importo (kidsIn (heldOf t)) (Value (l .amount))

@@ -1,7 +1,7 @@
 -- A tree written out: its bytes, with no white space between elements, and the places that its elements then have. What is written is read back.
 use mathlib.Core.Path.{_≡_}
 use Prim.Native.Nat.{ℕ, suc, _+_}
-use mathlib.Core.List.{List, [], _++_, map}
+use mathlib.Core.List.{List, [], _++_}
 use lib.ListN.{length}
 use Rattle.grammar.specs.Grammar.{Name, Text, startTag, endTag}
 use Rattle.rows.specs.declared.Parent.the-variants.{FlussoOrdinativi}
@@ -9,7 +9,8 @@ use Rattle.flow.specs.declared.Verdict.the-variants.{Stands}
 use Rattle.flow.specs.Flow.{verdictOf, headerOf, flowOrders}
 use Rattle.tree.specs.Tree.{Tree, tree, Held, says, holds, Trees, none, more, heldOf, kidsIn}
 use Rattle.tree.specs.Fields.{AllStand}
-use Rattle.tree.specs.Orders.{HeaderIn, ordinativo, OrdersIn}
+use Rattle.tree.specs.Orders.{HeaderIn, OrdersIn}
+use Rattle.order.specs.Ordinativo.{ordinativo}
 use Rattle.tree.specs.Flow.{Structured, fieldsOf}
 
 unfoldable mutual
@@ -60,7 +61,7 @@ pub record Message (t : Tree) : Type 0 where
 pub record ReadBack (t : Tree) (at : ℕ) : Type 0 where
   pub stands : verdictOf (bytesOf t) ≡ Stands at
   pub header : HeaderIn (kidsIn (heldOf t)) (headerOf (bytesOf t) at)
-  pub orders : OrdersIn (kidsIn (heldOf t)) (map ordinativo (flowOrders (bytesOf t) at))
+  pub orders : OrdersIn (kidsIn (heldOf t)) (flowOrders (bytesOf t) at)
 
 -- READ AND WRITTEN AGAIN: of a flow that stands, white space and all, the tree's bytes stand too, with the same header and orders
 pub record Again (s : List ℕ) (at : ℕ) (t : Tree) : Type 0 where
