@@ -83,7 +83,7 @@ module _ (r : Record) (k : ℕ) where
 
 -- ALL LINES WAITING
 
-none-executed : (s : List ℕ) (k : ℕ) → anyExecuted s ≡ false → getD s k 0 ≡ 2 → ⊥
+pub none-executed : (s : List ℕ) (k : ℕ) → anyExecuted s ≡ false → getD s k 0 ≡ 2 → ⊥
 unfolding anyExecuted
 none-executed [] k e h = omega arith
 none-executed (x ∷ s) k e h = go (eqb x 2) refl e k h (none-executed s)
@@ -142,7 +142,7 @@ pub record Writable (o : Ordinativo) : Type 0 where
   pub total : o .total ≤ maxCents
   pub count : (1 ≤ length (o .lines)) × (length (o .lines) ≤ 8)
 
-code-zero : (ls : List Line) (total : ℕ) → lineCode ls total ≡ 0 → (numberedFrom 1 ls ≡ true) × (sumOf ls ≡ total)
+pub code-zero : (ls : List Line) (total : ℕ) → lineCode ls total ≡ 0 → (numberedFrom 1 ls ≡ true) × (sumOf ls ≡ total)
 unfolding lineCode
 code-zero ls total e = go (numberedFrom 1 ls) (eqb (sumOf ls) total) refl refl e
   where

@@ -155,7 +155,7 @@ unfolding noticeAt
 at-coded executing line rs Nothing = refl
 at-coded executing line rs (At i) = in-coded executing line i (nth rs i)
 
-noticed-code : (m : Noticed) → noticeCodeOf (noticed m) ≡ noticeCode m
+pub noticed-code : (m : Noticed) → noticeCodeOf (noticed m) ≡ noticeCode m
 noticed-code (Moved i cents) = refl
 noticed-code (Unmoved c) = refl
 
