@@ -7,22 +7,28 @@ ghost use lib.ListN.{length};
 ghost use Rattle.markup.specs.Noted.{Noted};
 ghost use Rattle.rows.specs.Table.{table};
 ghost use Rattle.structure.specs.Structure.{ranges, allows, textOnly};
-ghost use Rattle.structure.specs.Walk.{upTo, filledFrom, countedOf};
+ghost use Rattle.structure.specs.Walk.{paired, filledFrom, countedOf};
 
-// Whether n elements may stand in a row, where one stands in each row before the last and 1 to `most` in that.
-fn row_allows(row: usize, n: usize, last: usize, most: usize) -> bool
-    ensures { λ r. ⌜ r ≡ allows (upTo last most) row n ⌝ }
+// A byte as a number.
+fn wide(b: u8) -> usize
+    ensures { λ r. ⌜ r ≡ b ⌝ }
 {
-    if last < row {
+    b as usize
+}
+
+// Whether n elements may stand in a row, where the least and the most of each row are a pair of bytes.
+fn row_allows(row: usize, n: usize, pairs: &[u8]) -> bool
+    ensures { λ r. ⌜ r ≡ allows (paired (now (pairs .entry))) row n ⌝ }
+{
+    if pairs.len() / 2 <= row {
         return false;
     }
-    if n < 1 {
+    let i = 2 * row;
+    let j = i + 1;
+    if n < wide(pairs[i]) {
         return false;
     }
-    if row < last {
-        return n <= 1;
-    }
-    n <= most
+    n <= wide(pairs[j])
 }
 
 // Whether n elements may stand in a row of the parent.
@@ -30,13 +36,17 @@ fn allowed(parent: Parent, row: usize, n: usize) -> bool
     ensures { λ r. ⌜ r ≡ allows (ranges (table parent)) row n ⌝ }
 {
     match parent {
-        Parent::FlussoOrdinativi => row_allows(row, n, 5, 64),
-        Parent::Mandato => row_allows(row, n, 4, 8),
-        Parent::Reversale => row_allows(row, n, 4, 8),
-        Parent::InformazioniBeneficiario => row_allows(row, n, 2, 1),
-        Parent::InformazioniVersante => row_allows(row, n, 2, 1),
-        Parent::Beneficiario => row_allows(row, n, 0, 1),
-        Parent::Versante => row_allows(row, n, 0, 1),
+        Parent::FlussoOrdinativi => row_allows(
+            row,
+            n,
+            b"\x01\x01\x01\x01\x01\x01\x01\x01\x01\x01\x01\x40",
+        ),
+        Parent::Mandato => row_allows(row, n, b"\x01\x01\x01\x01\x01\x01\x01\x01\x01\x08"),
+        Parent::Reversale => row_allows(row, n, b"\x01\x01\x01\x01\x01\x01\x01\x01\x01\x08"),
+        Parent::InformazioniBeneficiario => row_allows(row, n, b"\x01\x01\x01\x01\x01\x01"),
+        Parent::InformazioniVersante => row_allows(row, n, b"\x01\x01\x01\x01\x01\x01"),
+        Parent::Beneficiario => row_allows(row, n, b"\x01\x01"),
+        Parent::Versante => row_allows(row, n, b"\x01\x01"),
     }
 }
 
