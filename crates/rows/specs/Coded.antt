@@ -1,16 +1,19 @@
 -- A parent's names as the bytes that the code holds: words for the contracts of its inner functions. That the bytes say what `table` says is proved.
 use Prim.Native.Nat.{ℕ, zero, suc, _+_, _-_}
 use mathlib.Core.List.{List, [], _∷_}
-use mathlib.Core.Bool.{Bool, cond, _&&_}
+use mathlib.Core.Path.{_≡_}
+use mathlib.Core.Bool.{Bool, true, cond, _&&_}
 use lib.ListN.{length, getD}
 use lib.Dec.{eqb, leb}
 use Rattle.scan.specs.Bytes.{byteAt, part, hasAt}
 use Rattle.fields.specs.declared.Form.the-variants.{CodiceAbi, Identificativo, DataOra, CodiceEnte, Esercizio, TipoOperazione, Numero, Data, Importo, Progressivo, Anagrafica}
+use Rattle.rows.specs.declared.Parent.{Parent}
 use Rattle.rows.specs.declared.Parent.the-variants.{FlussoOrdinativi, Mandato, Reversale, InformazioniBeneficiario, InformazioniVersante, Beneficiario, Versante}
 use Rattle.rows.specs.declared.Holds.{Holds}
 use Rattle.rows.specs.declared.Holds.the-variants.{Text, Rows}
 use Rattle.rows.specs.declared.Spot.{Spot}
 use Rattle.rows.specs.declared.Spot.the-variants.{At, Passed}
+use Rattle.rows.specs.Table.{table, spotIn}
 
 -- WHAT AN ELEMENT HOLDS, by its number
 abbrev pub things : List Holds
@@ -45,3 +48,8 @@ codedBy (suc k) t i = codedBy k t (nameEnd t i)
 
 unfoldable pub coded : List ℕ → Bool
 coded t = codedBy (byteAt t 0) t 1
+
+-- the bytes say what the parent's table says
+pub record Codes (p : Parent) (t : List ℕ) : Type 0 where
+  pub within : coded t ≡ true
+  pub spots : (s : List ℕ) (a e : ℕ) → spotCoded t s a e ≡ spotIn (table p) 0 s a e

@@ -7,8 +7,8 @@ ghost use mathlib.Core.Bool.{true};
 ghost use Prim.Native.Nat.{_+_, _≤_, _<_};
 ghost use lib.ListN.{length};
 ghost use Rattle.markup.specs.Noted.{Noted};
-ghost use Rattle.rows.specs.Table.{nameIs, table, spotIn};
-ghost use Rattle.rows.specs.Coded.{nameEnd, codedIs, coded, spotCoded, heldBy};
+ghost use Rattle.rows.specs.Table.{nameIs};
+ghost use Rattle.rows.specs.Coded.{nameEnd, codedIs, coded, spotCoded, heldBy, Codes};
 ghost use Rattle.rows.specs.Kept.{keptFrom, nextOf};
 
 // The parents of document 01's table.
@@ -162,25 +162,9 @@ fn spot_in(s: &[u8], a: usize, e: usize, t: &[u8]) -> Spot
     Spot::Passed
 }
 
-// Where a name stands in its parent's table.
-pub fn spot_of(s: &[u8], a: usize, e: usize, parent: Parent) -> Spot
-    requires { ⌜ (a ≤ e) × (e ≤ length (now s)) ⌝ }
-    ensures { λ r. ⌜ r ≡ spotIn (table parent) 0 (now (s .entry)) a e ⌝ }
-{
-    match parent {
-        Parent::FlussoOrdinativi => spot_in(s, a, e, &FLUSSO_ORDINATIVI),
-        Parent::Mandato => spot_in(s, a, e, &MANDATO),
-        Parent::Reversale => spot_in(s, a, e, &REVERSALE),
-        Parent::InformazioniBeneficiario => spot_in(s, a, e, &INFORMAZIONI_BENEFICIARIO),
-        Parent::InformazioniVersante => spot_in(s, a, e, &INFORMAZIONI_VERSANTE),
-        Parent::Beneficiario => spot_in(s, a, e, &BENEFICIARIO),
-        Parent::Versante => spot_in(s, a, e, &VERSANTE),
-    }
-}
-
-// The first child from a place on that the parent names.
-pub fn next_named(s: &[u8], from: usize, parent: Parent, past: &[u32]) -> Next
-    requires { ⌜ (from ≤ length (now s)) × Noted (now s) (now past) ⌝ }
+// The first child from a place on that the parent names, where `t` has the parent's bytes.
+fn next_in(s: &[u8], from: usize, parent: Parent, t: &[u8], past: &[u32]) -> Next
+    requires { ⌜ (from ≤ length (now s)) × Codes parent (now t) × Noted (now s) (now past) ⌝ }
     ensures { λ r. ⌜ r ≡ nextOf (keptFrom parent (now (s .entry)) from) ⌝ }
 {
     let mut i = from;
@@ -190,7 +174,7 @@ pub fn next_named(s: &[u8], from: usize, parent: Parent, past: &[u32]) -> Next
         };
         let a = c.lt + 1;
         let e = c.gt;
-        match spot_of(s, a, e, parent) {
+        match spot_in(s, a, e, t) {
             Spot::At(n, h) => {
                 return Next::Named(Kept {
                     child: c,
@@ -201,6 +185,44 @@ pub fn next_named(s: &[u8], from: usize, parent: Parent, past: &[u32]) -> Next
             Spot::Passed => {
                 i = c.after;
             }
+        }
+    }
+}
+
+// The first child from a place on that the parent names. (Each arm has its bytes by a `let`: those written as an argument are laid down where the
+// function begins, for all arms.)
+pub fn next_named(s: &[u8], from: usize, parent: Parent, past: &[u32]) -> Next
+    requires { ⌜ (from ≤ length (now s)) × Noted (now s) (now past) ⌝ }
+    ensures { λ r. ⌜ r ≡ nextOf (keptFrom parent (now (s .entry)) from) ⌝ }
+{
+    match parent {
+        Parent::FlussoOrdinativi => {
+            let t = FLUSSO_ORDINATIVI;
+            next_in(s, from, parent, &t, past)
+        }
+        Parent::Mandato => {
+            let t = MANDATO;
+            next_in(s, from, parent, &t, past)
+        }
+        Parent::Reversale => {
+            let t = REVERSALE;
+            next_in(s, from, parent, &t, past)
+        }
+        Parent::InformazioniBeneficiario => {
+            let t = INFORMAZIONI_BENEFICIARIO;
+            next_in(s, from, parent, &t, past)
+        }
+        Parent::InformazioniVersante => {
+            let t = INFORMAZIONI_VERSANTE;
+            next_in(s, from, parent, &t, past)
+        }
+        Parent::Beneficiario => {
+            let t = BENEFICIARIO;
+            next_in(s, from, parent, &t, past)
+        }
+        Parent::Versante => {
+            let t = VERSANTE;
+            next_in(s, from, parent, &t, past)
         }
     }
 }

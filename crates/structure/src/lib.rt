@@ -9,6 +9,21 @@ ghost use Rattle.rows.specs.Table.{table};
 ghost use Rattle.structure.specs.Structure.{ranges, allows, textOnly};
 ghost use Rattle.structure.specs.Walk.{paired, filledFrom, countedOf};
 
+// HOW MANY elements each row of a parent takes: for each row the least and the most.
+const FLUSSO_ORDINATIVI: [u8; 12] = *b"\x01\x01\x01\x01\x01\x01\x01\x01\x01\x01\x01\x40";
+
+const MANDATO: [u8; 10] = *b"\x01\x01\x01\x01\x01\x01\x01\x01\x01\x08";
+
+const REVERSALE: [u8; 10] = *b"\x01\x01\x01\x01\x01\x01\x01\x01\x01\x08";
+
+const INFORMAZIONI_BENEFICIARIO: [u8; 6] = *b"\x01\x01\x01\x01\x01\x01";
+
+const INFORMAZIONI_VERSANTE: [u8; 6] = *b"\x01\x01\x01\x01\x01\x01";
+
+const BENEFICIARIO: [u8; 2] = *b"\x01\x01";
+
+const VERSANTE: [u8; 2] = *b"\x01\x01";
+
 // A byte as a number.
 fn wide(b: u8) -> usize
     ensures { λ r. ⌜ r ≡ b ⌝ }
@@ -31,25 +46,6 @@ fn row_allows(row: usize, n: usize, pairs: &[u8]) -> bool
     n <= wide(pairs[j])
 }
 
-// Whether n elements may stand in a row of the parent.
-fn allowed(parent: Parent, row: usize, n: usize) -> bool
-    ensures { λ r. ⌜ r ≡ allows (ranges (table parent)) row n ⌝ }
-{
-    match parent {
-        Parent::FlussoOrdinativi => row_allows(
-            row,
-            n,
-            b"\x01\x01\x01\x01\x01\x01\x01\x01\x01\x01\x01\x40",
-        ),
-        Parent::Mandato => row_allows(row, n, b"\x01\x01\x01\x01\x01\x01\x01\x01\x01\x08"),
-        Parent::Reversale => row_allows(row, n, b"\x01\x01\x01\x01\x01\x01\x01\x01\x01\x08"),
-        Parent::InformazioniBeneficiario => row_allows(row, n, b"\x01\x01\x01\x01\x01\x01"),
-        Parent::InformazioniVersante => row_allows(row, n, b"\x01\x01\x01\x01\x01\x01"),
-        Parent::Beneficiario => row_allows(row, n, b"\x01\x01"),
-        Parent::Versante => row_allows(row, n, b"\x01\x01"),
-    }
-}
-
 pub fn rows(parent: Parent) -> usize
     ensures { λ r. ⌜ r ≡ length (ranges (table parent)) ⌝ }
 {
@@ -65,8 +61,8 @@ pub fn rows(parent: Parent) -> usize
 }
 
 // Whether `to` is no earlier row than `row`, and the rows from that, with n elements so far, up to `to` have what they take.
-pub fn filled(parent: Parent, row: usize, n: usize, to: usize) -> bool
-    ensures { λ r. ⌜ r ≡ filledFrom (ranges (table parent)) row n to ⌝ }
+fn filled_in(row: usize, n: usize, to: usize, pairs: &[u8]) -> bool
+    ensures { λ r. ⌜ r ≡ filledFrom (paired (now (pairs .entry))) row n to ⌝ }
 {
     if to < row {
         return false;
@@ -74,13 +70,49 @@ pub fn filled(parent: Parent, row: usize, n: usize, to: usize) -> bool
     let mut i = row;
     let mut m = n;
     while i < to {
-        if !allowed(parent, i, m) {
+        if !row_allows(i, m, pairs) {
             return false;
         }
         i += 1;
         m = 0;
     }
     true
+}
+
+// The same of the parent's rows.
+pub fn filled(parent: Parent, row: usize, n: usize, to: usize) -> bool
+    ensures { λ r. ⌜ r ≡ filledFrom (ranges (table parent)) row n to ⌝ }
+{
+    match parent {
+        Parent::FlussoOrdinativi => {
+            let pairs = FLUSSO_ORDINATIVI;
+            filled_in(row, n, to, &pairs)
+        }
+        Parent::Mandato => {
+            let pairs = MANDATO;
+            filled_in(row, n, to, &pairs)
+        }
+        Parent::Reversale => {
+            let pairs = REVERSALE;
+            filled_in(row, n, to, &pairs)
+        }
+        Parent::InformazioniBeneficiario => {
+            let pairs = INFORMAZIONI_BENEFICIARIO;
+            filled_in(row, n, to, &pairs)
+        }
+        Parent::InformazioniVersante => {
+            let pairs = INFORMAZIONI_VERSANTE;
+            filled_in(row, n, to, &pairs)
+        }
+        Parent::Beneficiario => {
+            let pairs = BENEFICIARIO;
+            filled_in(row, n, to, &pairs)
+        }
+        Parent::Versante => {
+            let pairs = VERSANTE;
+            filled_in(row, n, to, &pairs)
+        }
+    }
 }
 
 // How many elements of row `to` there are with one more, after n of `row`.
