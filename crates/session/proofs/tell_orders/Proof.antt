@@ -1,14 +1,14 @@
 use Prim.Native.Nat.{_≤_}
 use lib.ListN.{length}
 use borrow.Author.Needs.{needs}
-use Rattle.order_desk.proofs.say_orders.Statement.{statement}
-use Rattle.order_desk.proofs.say_orders.Tie as tie
+use Rattle.session.proofs.tell_orders.Statement.{statement}
+use Rattle.session.proofs.tell_orders.Tie as tie
 
 abbrev Inv-loop : tie.InvT-loop
-Inv-loop out orders at₀ left₀ at left = at ≤ length out
+Inv-loop out orders explaining at₀ left₀ at left = at ≤ length out
 
 abbrev μ-loop : tie.MeasureT-loop
-μ-loop out orders at₀ left₀ at left = left
+μ-loop out orders explaining at₀ left₀ at left = left
 
 loop-holds : tie.Need-loop-holds Inv-loop μ-loop
 loop-holds c = search needs
@@ -19,8 +19,11 @@ sub-if1 c = search needs
 returns : tie.Need-returns Inv-loop μ-loop
 returns c = search needs
 
-say-order-requires : tie.Need-say-order-requires Inv-loop μ-loop
-say-order-requires c κs = search needs
+tell-order-requires : tie.Need-tell-order-requires Inv-loop μ-loop
+tell-order-requires c κs = search needs
+
+returns-2 : tie.Need-returns-2 Inv-loop μ-loop
+returns-2 c = search needs
 
 add-at : tie.Need-add-at Inv-loop μ-loop
 add-at c = search needs
@@ -34,11 +37,11 @@ loop-less c = search needs
 loop-again : tie.Need-loop-again Inv-loop μ-loop
 loop-again c = search needs
 
-returns-2 : tie.Need-returns-2 Inv-loop μ-loop
-returns-2 c = search needs
+returns-3 : tie.Need-returns-3 Inv-loop μ-loop
+returns-3 c = search needs
 
-pub say-orders-spec : {M : Type 1} → statement M
-say-orders-spec =
+pub tell-orders-spec : {M : Type 1} → statement M
+tell-orders-spec =
     tie.close
     (tie.spec
     Inv-loop
@@ -46,9 +49,10 @@ say-orders-spec =
     loop-holds
     sub-if1
     returns
-    say-order-requires
+    tell-order-requires
+    returns-2
     add-at
     sub-left
     loop-less
     loop-again
-    returns-2)
+    returns-3)
