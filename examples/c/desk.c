@@ -4,7 +4,7 @@
  * A day at the desk: opens a table for bodies 000471 and 471, takes a flow of 000471, executes a line, reverses it, executes another,
  * and prints the totals of both bodies.
  *
- * At the top of the repository, after `rt staticlib hondivole`:
+ * At the top of the repository, after `./library`:
  *
  *     cc -std=c11 -Wall -Wextra -Iinclude examples/c/desk.c target/staticlib/libhondivole.a -o target/desk && target/desk
  */
