@@ -1,9 +1,11 @@
-// The C interface: five thin functions over the desk, each with its promise. Every result is written on every path.
+// The C interface: six thin functions over the desk, each with its promise. Every result is written on every path.
+use children::Step;
 use desk::FlowAnswer;
 use notices::NoticeAnswer;
 use opening::Opened;
 ghost use mathlib.Core.Path.{_≡_};
 ghost use mathlib.Core.Bool.{true, false};
+ghost use Rattle.hondivole.specs.Field.{fieldAt, FieldReplies};
 ghost use Rattle.opening.specs.Opening.{openCode, OpenReplies};
 ghost use Rattle.desk.specs.Desk.{flowReply, FlowReplies};
 ghost use Rattle.notices.specs.Notices.{noticeCodeOf, noticeCentsOf, NoticeReplies, TotalsPromise};
@@ -186,4 +188,54 @@ pub extern "C" fn hondivole_totals(
     let signed = a.balance;
     *balance = signed;
     a.code
+}
+
+// Where an element's name and text stand in a flow.
+struct FieldSpans {
+    name: usize,
+    name_len: usize,
+    text: usize,
+    text_len: usize,
+}
+
+fn field_spans(flow: &[u8], place: usize) -> FieldSpans
+    ensures { λ r. ⌜ r ≡ fieldAt (now (flow .entry)) place ⌝ }
+{
+    let none = FieldSpans {
+        name: 0,
+        name_len: 0,
+        text: 0,
+        text_len: 0,
+    };
+    if flow.len() < place {
+        return none;
+    }
+    match children::child_alone(flow, place) {
+        Step::One(c) => FieldSpans {
+            name: c.lt + 1,
+            name_len: c.gt - (c.lt + 1),
+            text: c.gt + 1,
+            text_len: c.to - (c.gt + 1),
+        },
+        Step::End => none,
+    }
+}
+
+// Where the name and the text of the element at a place stand.
+#[no_mangle]
+pub extern "C" fn hondivole_field_at(
+    flow: &[u8],
+    place: u64,
+    name: &mut u64,
+    name_len: &mut u64,
+    text: &mut u64,
+    text_len: &mut u64,
+)
+    ensures { λ _. ⌜ FieldReplies (now (flow .entry)) place (record { name = now (name .exit); «name_len» = now («name_len» .exit); text = now (text .exit); «text_len» = now («text_len» .exit) }) ⌝ }
+{
+    let f = field_spans(flow, place as usize);
+    *name = f.name as u64;
+    *name_len = f.name_len as u64;
+    *text = f.text as u64;
+    *text_len = f.text_len as u64;
 }

@@ -97,7 +97,7 @@ fn show(t: &[u8], out: &mut [u8]) -> usize
     n
 }
 
-// A text between quotes, cut where it is longer than any field.
+// A text between quotes, its first 160 bytes.
 fn say_text(t: &[u8]) -> bool {
     let mut out = [0u8; 160];
     let n = show(t, &mut out);
