@@ -1,8 +1,8 @@
 /* SPDX-License-Identifier: EUPL-1.2 */
 
 /*
- * Each code of a notice and of the totals, and order code 18, which needs a notice before it: a script of calls on one table, each printed
- * with its code in words. (examples/orders.xml has the other codes of an order.)
+ * Each code of opening, notices and totals, and those of flows and orders that no flow alone can show (1, 8, 18): a script of calls on one
+ * table, each printed with its code in words. (The flows of examples/ have the other codes of flows and orders.)
  *
  * At the top of the repository, after `./library`:
  *
@@ -22,8 +22,8 @@ static void print(uint64_t code, const char *what)
     printf("%2" PRIu64 "  %s: %s\n", code, what, hondivole_code_text(code));
 }
 
-/* Sends a flow of one mandato with one line, and prints the order's code. */
-static void order(const char *operation, unsigned number, const char *what)
+/* Sends a flow of one mandato with one line, lending so many outcome bytes, and prints the order's code, or the flow's where it is refused. */
+static void order(const char *operation, unsigned number, size_t room, const char *what)
 {
     char flow[2048];
     uint8_t outcomes[16];
@@ -39,8 +39,7 @@ static void order(const char *operation, unsigned number, const char *what)
                           "<beneficiario><anagrafica_beneficiario>Rossi</anagrafica_beneficiario></beneficiario>"
                           "</informazioni_beneficiario></mandato></flusso_ordinativi>",
                           operation, number);
-    uint64_t code = hondivole_flow(table, sizeof table, (const uint8_t *)flow, (size_t)length, outcomes, sizeof outcomes, &place, &orders,
-                                   &accepted);
+    uint64_t code = hondivole_flow(table, sizeof table, (const uint8_t *)flow, (size_t)length, outcomes, room, &place, &orders, &accepted);
     print(code == HONDIVOLE_DONE ? outcomes[2] : code, what);
 }
 
@@ -73,22 +72,24 @@ int main(void)
     print(hondivole_open(request, length - 1, table, sizeof table), "open with a request one byte short");
     print(hondivole_open(request, length, table, sizeof table), "open for 000471 with four slots");
 
-    order("INSERIMENTO", 1, "INSERIMENTO of mandato 1, one line of 20.00");
+    order("INSERIMENTO", 1, 15, "INSERIMENTO of mandato 1, with 15 outcome bytes");
+    order("INSERIMENTO", 1, 16, "INSERIMENTO of mandato 1, one line of 20.00");
     reverse(1, 1, "reverse its line before it is executed");
     execute("471", HONDIVOLE_MANDATO, 1, 1, "execute a line of body 471");
     execute("000471", HONDIVOLE_REVERSALE, 1, 1, "execute a line of reversale 1");
     execute("000471", HONDIVOLE_MANDATO, 1, 2, "execute line 2 of mandato 1");
     execute("000471", HONDIVOLE_MANDATO, 1, 1, "execute line 1 of mandato 1");
     execute("000471", HONDIVOLE_MANDATO, 1, 1, "execute it again");
-    order("ANNULLO", 1, "ANNULLO of mandato 1, whose line is executed");
-    order("VARIAZIONE", 1, "VARIAZIONE of mandato 1, whose line is executed");
+    order("ANNULLO", 1, 16, "ANNULLO of mandato 1, whose line is executed");
+    order("VARIAZIONE", 1, 16, "VARIAZIONE of mandato 1, whose line is executed");
     reverse(1, 1, "reverse line 1 of mandato 1");
-    order("ANNULLO", 1, "ANNULLO of mandato 1");
+    order("ANNULLO", 1, 16, "ANNULLO of mandato 1");
     execute("000471", HONDIVOLE_MANDATO, 1, 1, "execute line 1 of mandato 1");
     totals("000471", "totals of 000471");
     totals("0471", "totals of 0471");
     table[0] = 1;
-    totals("000471", "totals of 000471, a byte of the table damaged");
+    order("INSERIMENTO", 2, 16, "INSERIMENTO of mandato 2, a byte of the table damaged");
+    totals("000471", "totals of 000471 in that table");
     execute("000471", HONDIVOLE_MANDATO, 1, 1, "execute a line in that table");
     return 0;
 }
