@@ -25,10 +25,11 @@ use Rattle.rules.specs.declared.Noticed.{Noticed}
 use Rattle.rules.specs.declared.Noticed.the-variants.{Moved, Unmoved}
 use Rattle.rules.specs.Rules.{situationOf, stepOf, nth, sameOrder, placed, unless, stepped, sostituzione, keyFor, judgeOrder, codeOf, lineMoves, moveOr, noticeIn, noticeAt, judgeNotice, noticeCode}
 use Rattle.service.specs.Service.{orderComes, noticeComes}
-use Rattle.notices.specs.declared.Addressed.{Addressed}
-use Rattle.notices.specs.declared.Addressed.the-variants.{Invalid, Unknown, Body}
+use Rattle.address.specs.declared.Addressed.{Addressed}
+use Rattle.address.specs.declared.Addressed.the-variants.{Invalid, Unknown, Body}
 use Rattle.notices.specs.declared.NoticeAnswer.{NoticeAnswer}
-use Rattle.notices.specs.Notices.{noticed, addressed, noticeBy, noticeCodeOf, NoticePromise}
+use Rattle.address.specs.Address.{addressed}
+use Rattle.notices.specs.Notices.{noticed, noticeBy, noticeCodeOf, NoticePromise}
 use Rattle.desk.specs.declared.FlowAnswer.{FlowAnswer}
 use Rattle.desk.specs.declared.FlowAnswer.the-variants.{InvalidTable, TooLong, BrokenMarkup, BrokenStructure, BrokenField, OtherBank, UnknownBody, NoRoom, Taken}
 use Rattle.desk.specs.Desk.{flowReply}
@@ -166,7 +167,7 @@ notice-codes t executing code k line a t′ p = ap (λ (x : NoticeAnswer). oneOf
     go : (b : Addressed) → oneOf noticeCodes (noticeCodeOf (noticeBy t executing k line b)) ≡ true
     go Invalid = refl
     go Unknown = refl
-    go (Body base n) =
+    go (Body e base n) =
         let rs = recordsAt t base n in
         ap (oneOf noticeCodes) (noticed-code (noticeAt executing line rs (findIn rs 0 k))) ∙ at-coded executing line rs (findIn rs 0 k)
 

@@ -18,7 +18,8 @@ use Rattle.opening.specs.Opening.{headBytes as headAsked, entryBytes, entriesBy
 use Rattle.lines.specs.Lines.{numberedFrom, sumOf, lineCode}
 use Rattle.rules.specs.Rules.{amountsOf, anyExecuted, situationIn, situationOf, placed, stepped, judgeOrder, written, lineMoves, noticeIn, noticeAt, judgeNotice}
 use Rattle.service.specs.Service.{orderComes, orderStored, outcomeBytes, allOutcomes, noticeComes}
-use Rattle.notices.specs.Notices.{addressed, noticeBy}
+use Rattle.address.specs.Address.{addressed}
+use Rattle.notices.specs.Notices.{noticeBy}
 use Rattle.theorems.specs.Marked.{all, marked}
 
 pub all-hold : all marked ≡ true

@@ -9,9 +9,10 @@ use Rattle.rules.specs.declared.Judged.the-variants.{Refused}
 use Rattle.rules.specs.declared.Noticed.{Noticed}
 use Rattle.rules.specs.declared.Noticed.the-variants.{Moved, Unmoved}
 use Rattle.service.specs.Service.{orderComes, orderStored, orderLeaves, noticeComes, noticeStored}
-use Rattle.notices.specs.declared.Addressed.{Addressed}
-use Rattle.notices.specs.declared.Addressed.the-variants.{Invalid, Unknown, Body}
-use Rattle.notices.specs.Notices.{addressed, noticed, noticeBy, noticeTableBy, noticeAnswer, noticeTable, noticeCodeOf}
+use Rattle.address.specs.declared.Addressed.{Addressed}
+use Rattle.address.specs.declared.Addressed.the-variants.{Invalid, Unknown, Body}
+use Rattle.address.specs.Address.{addressed}
+use Rattle.notices.specs.Notices.{noticed, noticeBy, noticeTableBy, noticeAnswer, noticeTable, noticeCodeOf}
 
 pub refused-order : (t : List ℕ) (base n year : ℕ) (o : Order) (c : ℕ) → orderComes t base n year o ≡ Refused c → orderLeaves t base n year o ≡ t
 unfolding orderStored
@@ -29,4 +30,4 @@ refused-notice t executing code k line = go (addressed t code)
     go : (a : Addressed) → (noticeCodeOf (noticeBy t executing k line a) ≡ 0 → ⊥) → noticeTableBy t executing k line a ≡ t
     go Invalid f = refl
     go Unknown f = refl
-    go (Body base n) f = moved base (noticeComes t base n executing k line) f
+    go (Body e base n) f = moved base (noticeComes t base n executing k line) f

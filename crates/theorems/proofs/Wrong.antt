@@ -30,7 +30,8 @@ use Rattle.lines.specs.Lines.{numberedFrom, sumOf, lineCode}
 use Rattle.rules.specs.Rules.{codeOf, amountsOf, anyExecuted, situationIn, situationOf, placed, stepped, judgeOrder, written}
 use Rattle.service.specs.Service.{orderComes, orderStored, orderLeaves}
 use Rattle.notices.specs.declared.TotalsAnswer.{TotalsAnswer}
-use Rattle.notices.specs.Notices.{addressed, bodyTotals, totalsOf, TotalsPromise}
+use Rattle.address.specs.Address.{addressed}
+use Rattle.notices.specs.Notices.{bodyTotals, totalsOf, TotalsPromise}
 use Rattle.isolation.specs.Machine.{Machine, Isolated, Line, whose, run, log}
 use Rattle.isolation.specs.Order.{mine}
 use Rattle.theorems.specs.Marked.{requestOf, orderOf, year}
