@@ -86,7 +86,7 @@ enum {
  * beside its own. tests/stack makes each call on a stack of exactly so many bytes.
  */
 #define HONDIVOLE_OPEN_STACK 1024u
-#define HONDIVOLE_FLOW_STACK 155648u
+#define HONDIVOLE_FLOW_STACK 49152u
 #define HONDIVOLE_NOTICE_STACK 8192u
 #define HONDIVOLE_TOTALS_STACK 8192u
 #define HONDIVOLE_FIELD_AT_STACK 8192u
