@@ -1,5 +1,6 @@
-// The C interface: five thin functions over the desk, each with its promise. Every result is written on every path.
+// The C interface: six thin functions over the desk, each with its promise. Every result is written on every path.
 ghost use mathlib.Core.Bool.{true, false};
+ghost use Rattle.children.specs.Child.{FieldPromise};
 ghost use Rattle.opening.specs.Opening.{OpenReplies};
 ghost use Rattle.desk.specs.Desk.{FlowReplies};
 ghost use Rattle.notices.specs.Notices.{keyed, NoticeReplies, totalled, TotalsPromise};
@@ -87,4 +88,23 @@ pub extern "C" fn hondivole_totals(
     let signed = a.balance;
     *balance = signed;
     a.code
+}
+
+// Where the name and the text of the element at a place stand.
+#[no_mangle]
+pub extern "C" fn hondivole_field_at(
+    flow: &[u8],
+    place: u64,
+    name: &mut u64,
+    name_len: &mut u64,
+    text: &mut u64,
+    text_len: &mut u64,
+)
+    ensures { λ _. ⌜ FieldPromise (now (flow .entry)) place (record { name = now (name .exit); «name_len» = now («name_len» .exit); text = now (text .exit); «text_len» = now («text_len» .exit) }) ⌝ }
+{
+    let f = children::field_at(flow, place as usize);
+    *name = f.name as u64;
+    *name_len = f.name_len as u64;
+    *text = f.text as u64;
+    *text_len = f.text_len as u64;
 }

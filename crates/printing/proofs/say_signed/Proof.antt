@@ -1,7 +1,7 @@
-use Rattle.order_desk.proofs.Laws.{plain-cast}
+use Rattle.printing.proofs.Laws.{plain-cast}
 use borrow.Author.Needs.{needs}
-use Rattle.order_desk.proofs.say_signed.Statement.{statement}
-use Rattle.order_desk.proofs.say_signed.Tie as tie
+use Rattle.printing.proofs.say_signed.Statement.{statement}
+use Rattle.printing.proofs.say_signed.Tie as tie
 
 slice-aggregate-say : tie.Need-slice-aggregate-say
 slice-aggregate-say c = search needs
@@ -27,6 +27,9 @@ returns c = search needs
 returns-2 : tie.Need-returns-2
 returns-2 c = search needs
 
+returns-3 : tie.Need-returns-3
+returns-3 c = search needs
+
 pub say-signed-spec : {M : Type 1} → statement M
 say-signed-spec =
     tie.close
@@ -38,4 +41,5 @@ say-signed-spec =
     cast-say-next
     say-next-requires
     returns
-    returns-2)
+    returns-2
+    returns-3)

@@ -1,6 +1,6 @@
-use Rattle.order_desk.proofs.Laws.{more-fits, back-fits, far-cast, far-fits, far-is}
-use Rattle.order_desk.proofs.magnitude.Statement.{statement}
-use Rattle.order_desk.proofs.magnitude.Tie as tie
+use Rattle.printing.proofs.Laws.{more-fits, back-fits, far-cast, far-fits, far-is}
+use Rattle.printing.proofs.magnitude.Statement.{statement}
+use Rattle.printing.proofs.magnitude.Tie as tie
 
 add-result : tie.Need-add-result
 add-result c = more-fits (c .args .n) (c .pre) (c .fits .n)
