@@ -11,14 +11,14 @@ use Rattle.scan.specs.Bytes.{textIs}
 use Rattle.words.specs.Numbers.{put}
 use Rattle.table.specs.Table.{tableOk, abiOf, bodyOf}
 use Rattle.slots.specs.Slots.{recordsAt}
-use Rattle.order.specs.declared.Order.{Order}
+use Rattle.order.specs.Ordinativo.{Ordinativo}
 use Rattle.orders.specs.Orders.{Header}
 use Rattle.flow.specs.declared.Verdict.{Verdict}
 use Rattle.flow.specs.declared.Verdict.the-variants.{MarkupBreaks, StructureBreaks, FieldBreaks, Stands}
 use Rattle.flow.specs.Flow.{verdictOf, headerOf, flowOrders}
-use Rattle.rules.specs.declared.Judged.{Judged}
-use Rattle.rules.specs.declared.Judged.the-variants.{Accepted, Refused}
-use Rattle.rules.specs.Rules.{codeOf}
+use Rattle.rules.specs.declared.Ruling.{Ruling}
+use Rattle.rules.specs.declared.Ruling.the-variants.{Accepted, Refused}
+use Rattle.rules.specs.Rules.{orderCode}
 use Rattle.service.specs.Service.{orderComes, orderLeaves, outcomeBytes, allOutcomes, allAccepted, one}
 use Rattle.address.specs.declared.Addressed.{Addressed}
 use Rattle.address.specs.declared.Addressed.the-variants.{Invalid, Unknown, Body}
@@ -34,7 +34,7 @@ abbrev Coding : Reading → Type 0
 Coding (refused a) = flowReply a .code ≡ 0 → ⊥
 Coding (served base n year os) = Unit
 
-body-coding : (room year : ℕ) (os : List Order) (b : Addressed) → Coding (forBody room year os b)
+body-coding : (room year : ℕ) (os : List Ordinativo) (b : Addressed) → Coding (forBody room year os b)
 body-coding room year os Invalid = λ e. omega arith
 body-coding room year os Unknown = λ e. omega arith
 body-coding room year os (Body e base n) = go (leb (16 * length os) room)
@@ -43,7 +43,7 @@ body-coding room year os (Body e base n) = go (leb (16 * length os) room)
     go true = tt
     go false = λ e. omega arith
 
-bank-coding : (t : List ℕ) (room : ℕ) (h : Header) (os : List Order) → Coding (forBank t room h os)
+bank-coding : (t : List ℕ) (room : ℕ) (h : Header) (os : List Ordinativo) → Coding (forBank t room h os)
 bank-coding t room h os = go (textIs (abiOf t) (h .abi))
   where
     go : (u : Bool) → Coding (cond u (forBody room (h .esercizio) os (bodyNamed t (h .ente))) (refused OtherBank))
@@ -69,15 +69,15 @@ coding t f room = go (tableOk t) (leb (length f) maxFlow)
 never : _≡_ {A = Bool} false true → ⊥
 never z = let y : _≡_ {A = ℕ} 0 1 = cc in omega arith
 
-judged-one : (j : Judged) → Coded j → one j ≡ cond (eqb (codeOf j) 0) 1 0
-judged-one (Accepted i) h = refl
-judged-one (Refused c) h = go (eqb c 0) refl
+judged-one : (j : Ruling) → Coded j → one j ≡ cond (eqb (orderCode j) 0) 1 0
+judged-one (Accepted c i) h = refl
+judged-one (Refused code) h = go (eqb code 0) refl
   where
-    go : (u : Bool) → eqb c 0 ≡ u → _≡_ {A = ℕ} 0 (cond u 1 0)
+    go : (u : Bool) → eqb code 0 ≡ u → _≡_ {A = ℕ} 0 (cond u 1 0)
     go false e = refl
-    go true e = absurd (never (sym (ap (oneOf orderRefusals) (eqb-true c 0 e)) ∙ h))
+    go true e = absurd (never (sym (ap (oneOf orderRefusals) (eqb-true code 0 e)) ∙ h))
 
-counted : (t : List ℕ) (base n year : ℕ) (os : List Order) (rest : List ℕ) → allAccepted t base n year os ≡ zeroCodes (length os) (allOutcomes t base n year os ++ rest)
+counted : (t : List ℕ) (base n year : ℕ) (os : List Ordinativo) (rest : List ℕ) → allAccepted t base n year os ≡ zeroCodes (length os) (allOutcomes t base n year os ++ rest)
 unfolding allAccepted allOutcomes outcomeBytes orderComes
 counted t base n year [] rest = refl
 counted t base n year (o ∷ os) rest =

@@ -27,15 +27,16 @@ use Rattle.body.proofs.Slots.{parts, valid-at, empty-records}
 use Rattle.valid.proofs.Valid.{Valid}
 use Rattle.entries.specs.Entry.{slotsOf, placeOf}
 use Rattle.table.specs.Table.{bodies, tableOk, entryOf}
-use Rattle.order.specs.declared.Order.{Order}
+use Rattle.order.specs.Ordinativo.{Ordinativo}
 use Rattle.rules.specs.declared.Noticed.{Noticed}
 use Rattle.rules.specs.declared.Noticed.the-variants.{Moved, Unmoved}
 use Rattle.rules.specs.Rules.{nth, judgeNotice}
+use Rattle.rules.specs.Effects.{allRecords, recordsMoved}
 use Rattle.rules.proofs.Judging.{moved}
 use Rattle.service.specs.Service.{noticeComes}
 use Rattle.service.proofs.Laws.{search-held}
-use Rattle.service.proofs.Kept.{allRecords, all-records}
-use Rattle.service.proofs.Moved.{recordsMoved, notice-records}
+use Rattle.service.proofs.Kept.{all-records}
+use Rattle.service.proofs.Moved.{notice-records}
 use Rattle.notices.specs.declared.TotalsAnswer.{TotalsAnswer}
 use Rattle.notices.specs.Notices.{noticed, noticeBy, noticeTableBy, bodyTotals, totalsOf, TotalsPromise}
 use Rattle.request.specs.Request.{requestOk}
@@ -66,7 +67,7 @@ module _ (E : Engine) (t₀ : List ℕ) (r : tableOk t₀ ≡ true) (cs : List C
 
 -- a number that a body's records tell: no order moves it, and a notice moves it by what its answer weighs
 pub record Weighs (w : Weight) (h : List Record → ℕ) : Type 0 where
-  pub orders : (slots year : ℕ) (os : List Order) (rs : List Record) → h (allRecords slots year os rs) ≡ h rs
+  pub orders : (slots year : ℕ) (os : List Ordinativo) (rs : List Record) → h (allRecords slots year os rs) ≡ h rs
   pub executes : (t : List ℕ) (at n : ℕ) → bodyOk t at n ≡ true → (k : Key) (line : ℕ) (m : Noticed) → judgeNotice true k line (recordsAt t at n) ≡ m
       → h (recordsMoved true line (recordsAt t at n) m) ≡ h (recordsAt t at n) + w k line (noticed m)
   pub reverses : (t : List ℕ) (at n : ℕ) → bodyOk t at n ≡ true → (k : Key) (line : ℕ) (m : Noticed) → judgeNotice false k line (recordsAt t at n) ≡ m

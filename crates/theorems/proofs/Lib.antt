@@ -12,3 +12,4 @@ pub mod NoSecond
 pub mod Reordering
 pub mod Wrong
 pub mod Refusals
+pub mod Exactly

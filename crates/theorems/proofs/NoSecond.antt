@@ -11,7 +11,8 @@ use Rattle.notices.specs.declared.NoticeAnswer.{NoticeAnswer}
 use Rattle.notices.specs.declared.TotalsAnswer.{TotalsAnswer}
 use Rattle.notices.specs.Notices.{NoticePromise, TotalsPromise}
 use Rattle.desk.specs.declared.FlowAnswer.{FlowAnswer}
-use Rattle.desk.specs.Desk.{FlowPromise, FlowReply, flowReply, FlowReplies}
+use Rattle.desk.specs.declared.FlowReply.{FlowReply}
+use Rattle.desk.specs.Desk.{FlowPromise, flowReply, FlowReplies}
 
 -- what equals one thing is one thing
 one : {A : Type 0} {x y z : A} → x ≡ z → y ≡ z → x ≡ y
@@ -36,8 +37,8 @@ pub one-reply : (t f out : List ℕ) (m n : FlowReply) (u v x y : List ℕ) → 
 one-reply t f out m n u v x y p q =
     let e = one-flow t f out (p .0) (q .0) u v x y (p .1) (q .1) in
     let r = ap flowReply (e .0) in
-    let code = p .2 ∙ ap (λ (x : FlowReply). x .code) r ∙ sym (q .2) in
-    let place = p .3 ∙ ap (λ (x : FlowReply). x .place) r ∙ sym (q .3) in
-    let orders = p .4 ∙ ap (λ (x : FlowReply). x .orders) r ∙ sym (q .4) in
-    let accepted = p .5 ∙ ap (λ (x : FlowReply). x .accepted) r ∙ sym (q .5) in
+    let code = p .2 .0 ∙ ap (λ (x : FlowReply). x .code) r ∙ sym (q .2 .0) in
+    let place = p .2 .1 ∙ ap (λ (x : FlowReply). x .place) r ∙ sym (q .2 .1) in
+    let orders = p .2 .2 ∙ ap (λ (x : FlowReply). x .orders) r ∙ sym (q .2 .2) in
+    let accepted = p .2 .3 ∙ ap (λ (x : FlowReply). x .accepted) r ∙ sym (q .2 .3) in
     (λ i. record { code = code i; place = place i; orders = orders i; accepted = accepted i }, e .1, e .2)

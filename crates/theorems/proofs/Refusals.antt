@@ -3,9 +3,9 @@ use Prim.Native.Nat.{ℕ}
 use mathlib.Core.Path.{_≡_, refl}
 use mathlib.Core.Bool.{Bool}
 use mathlib.Core.List.{List}
-use Rattle.order.specs.declared.Order.{Order}
+use Rattle.order.specs.Ordinativo.{Ordinativo}
 use Rattle.record.specs.declared.Key.{Key}
-use Rattle.rules.specs.declared.Judged.the-variants.{Refused}
+use Rattle.rules.specs.declared.Ruling.the-variants.{Refused}
 use Rattle.rules.specs.declared.Noticed.{Noticed}
 use Rattle.rules.specs.declared.Noticed.the-variants.{Moved, Unmoved}
 use Rattle.service.specs.Service.{orderComes, orderStored, orderLeaves, noticeComes, noticeStored}
@@ -14,7 +14,7 @@ use Rattle.address.specs.declared.Addressed.the-variants.{Invalid, Unknown, Bod
 use Rattle.address.specs.Address.{addressed}
 use Rattle.notices.specs.Notices.{noticed, noticeBy, noticeTableBy, noticeAnswer, noticeTable, noticeCodeOf}
 
-pub refused-order : (t : List ℕ) (base n year : ℕ) (o : Order) (c : ℕ) → orderComes t base n year o ≡ Refused c → orderLeaves t base n year o ≡ t
+pub refused-order : (t : List ℕ) (base n year : ℕ) (o : Ordinativo) (c : ℕ) → orderComes t base n year o ≡ Refused c → orderLeaves t base n year o ≡ t
 unfolding orderStored
 refused-order t base n year o c e = rw e
 

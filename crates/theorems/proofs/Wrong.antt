@@ -23,11 +23,11 @@ use Rattle.ranges.specs.declared.Found.the-variants.{At}
 use Rattle.table.specs.Table.{headSize, bodyOf, entryOf, headOk, entryOk, layoutOk, bodiesOk, tableOk}
 use Rattle.request.specs.Request.{asked, slotsAsked, needed}
 use Rattle.opening.specs.Opening.{headBytes as headAsked, entryBytes, entriesBytes, opened}
-use Rattle.order.specs.declared.Order.{Order}
-use Rattle.rules.specs.declared.Judged.{Judged}
-use Rattle.rules.specs.declared.Judged.the-variants.{Refused}
+use Rattle.order.specs.Ordinativo.{Ordinativo}
+use Rattle.rules.specs.declared.Ruling.{Ruling}
+use Rattle.rules.specs.declared.Ruling.the-variants.{Refused}
 use Rattle.lines.specs.Lines.{numberedFrom, sumOf, lineCode}
-use Rattle.rules.specs.Rules.{codeOf, amountsOf, anyExecuted, situationIn, situationOf, placed, stepped, judgeOrder, written}
+use Rattle.rules.specs.Rules.{orderCode, amountsOf, anyExecuted, situationIn, situationOf, placed, stepped, judgeOrder, written}
 use Rattle.service.specs.Service.{orderComes, orderStored, orderLeaves}
 use Rattle.notices.specs.declared.TotalsAnswer.{TotalsAnswer}
 use Rattle.address.specs.Address.{addressed}
@@ -73,16 +73,16 @@ by-number engine alike meets =
     omega arith
 
 -- ENGINES that serve orders, each for a body: how an order is judged, and the table that it leaves
-abbrev engine : (List ℕ → ℕ → Order → Judged) → (List ℕ → ℕ → Order → List ℕ) → Machine
+abbrev engine : (List ℕ → ℕ → Ordinativo → Ruling) → (List ℕ → ℕ → Ordinativo → List ℕ) → Machine
 engine judge leaves = record {
   State = List ℕ;
-  Call = ℕ × Order;
+  Call = ℕ × Ordinativo;
   Answer = ℕ;
   Part = List ℕ;
   Rest = List ℕ;
   count = 2;
   who = λ c. cond (ltb (c .0) 2) (some (c .0)) none;
-  answer = λ c t. codeOf (judge t (c .0) (c .1));
+  answer = λ c t. orderCode (judge t (c .0) (c .1));
   next = λ c t. leaves t (c .0) (c .1);
   part = λ b t. part t (place b) (place b + slotSize * size b);
   rest = λ t. part t 0 headSize;

@@ -15,8 +15,7 @@ use Rattle.ranges.specs.declared.Found.{Found}
 use Rattle.ranges.specs.declared.Found.the-variants.{At, Nothing}
 use Rattle.entries.specs.Entry.{slotsOf, placeOf}
 use Rattle.table.specs.Table.{bodyOf, entryOf}
-use Rattle.order.specs.declared.Line.{Line}
-use Rattle.order.specs.declared.Order.{Order}
+use Rattle.order.specs.Ordinativo.{Ordinativo}
 use Rattle.rules.specs.Rules.{keyFor}
 use Rattle.service.specs.Service.{orderLeaves, allOutcomes}
 use Rattle.notices.specs.Notices.{noticeAnswer, noticeCodeOf}
@@ -31,9 +30,9 @@ pub data Case : Type 0 where
   -- two codes, and the bodies of the opened table that they name, counted from 0
   code : String → String → ℕ → ℕ → Case
   -- an order twice in one flow for the first body of the opened table: the two outcome codes
-  again : Order → ℕ → ℕ → Case
+  again : Ordinativo → ℕ → ℕ → Case
   -- a line of an order just inserted there, and the code of the notice of its reversal
-  reversal : Order → ℕ → ℕ → Case
+  reversal : Ordinativo → ℕ → ℕ → Case
 
 abbrev sameNumber : Number → Number → Bool
 sameNumber (Value v) (Value w) = eqb v w
@@ -65,7 +64,7 @@ abbrev isBody : Found → ℕ → Bool
 isBody (At b) n = eqb b n
 isBody Nothing n = false
 
-abbrev codes : Order → List ℕ
+abbrev codes : Ordinativo → List ℕ
 codes o = allOutcomes table base slots year (o ∷ o ∷ [])
 
 -- WHAT THE RULES SAY of a case
@@ -82,21 +81,15 @@ abbrev pub all : List Case → Bool
 all [] = true
 all (c ∷ cs) = holds c && all cs
 
-abbrev noLine : Line
-noLine = record { progressivo = 0; amount = 0 }
-
 -- document 01's first order: mandato n, there 12, of 2021-03-01, 150.00 in lines of 100.00 and 50.00
-abbrev pub orderOf : ℕ → Order
+abbrev pub orderOf : ℕ → Ordinativo
 orderOf n = record {
   kind = 1;
   operation = Inserimento;
   number = n;
   date = record { year = 2021; month = 3; day = 1 };
   total = 15000;
-  lines = record {
-    count = 2;
-    each = record { progressivo = 1; amount = 10000 } ∷ record { progressivo = 2; amount = 5000 } ∷ replicate 6 noLine;
-  };
+  lines = record { progressivo = 1; amount = 10000 } ∷ record { progressivo = 2; amount = 5000 } ∷ [];
 }
 
 -- THE TABLE

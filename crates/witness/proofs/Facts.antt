@@ -8,7 +8,7 @@ use Rattle.words.specs.Numbers.{put, be2, be4, be8}
 use Rattle.digits.specs.declared.Number.the-variants.{Value}
 use Rattle.ranges.specs.declared.Found.the-variants.{At}
 use Rattle.table.specs.Table.{bodyOf, headOk, entryOk, layoutOk, bodiesOk, tableOk}
-use Rattle.order.specs.declared.Order.{Order}
+use Rattle.order.specs.Ordinativo.{Ordinativo}
 use Rattle.service.specs.Service.{orderComes, orderStored, outcomeBytes, allLeave, allOutcomes, allAccepted}
 use Rattle.desk.specs.declared.FlowAnswer.the-variants.{Taken}
 use Rattle.desk.specs.Desk.{served, forBank, flowReads, flowAnswer, flowTable, flowOutcomes}
@@ -29,10 +29,10 @@ use Rattle.lines.specs.Lines.{numberedFrom, sumOf, lineCode}
 use Rattle.rules.specs.Rules.{amountsOf, anyExecuted, situationIn, situationOf, placed, stepped, judgeOrder, written}
 
 -- one order of 471's on a table, as it is served there; 000471's slots begin at byte 80, 471's at 464, four of 96 bytes each
-abbrev one : List Order
+abbrev one : List Ordinativo
 one = order 1 ∷ []
 
-abbrev many : List Order
+abbrev many : List Ordinativo
 many = order 1 ∷ order 1 ∷ order 2 ∷ []
 
 pub record Facts : Type 0 where

@@ -9,7 +9,8 @@ use Rattle.table.specs.Table.{bodyOf}
 use Rattle.orders.specs.Orders.{Header}
 use Rattle.desk.specs.declared.FlowAnswer.{FlowAnswer}
 use Rattle.desk.specs.declared.FlowAnswer.the-variants.{Taken}
-use Rattle.desk.specs.Desk.{Reading, flowReads, flowAnswer, flowTable, flowOutcomes, Gives, FlowPromise, FlowReply, flowReply, FlowReplies}
+use Rattle.desk.specs.declared.FlowReply.{FlowReply}
+use Rattle.desk.specs.Desk.{Reading, flowReads, flowAnswer, flowTable, flowOutcomes, Gives, FlowPromise, flowReply, FlowReplies}
 use Rattle.theorems.specs.Marked.{table}
 use Rattle.theorems.proofs.Accepted.{accepted-counts}
 use Rattle.witness.specs.Flows.{room, first, second, single, three, order}
@@ -33,7 +34,7 @@ module _ (a : FlowAnswer) (t′ out′ : List ℕ) (p : FlowPromise table (singl
 pub taken-reply : (n : FlowReply) (t′ out′ : List ℕ) → FlowReplies table (single "471") (room 1) n t′ out′ → (n .code ≡ 0) × (n .place ≡ 0) × (n .orders ≡ 1) × (n .accepted ≡ 1)
 taken-reply n t′ out′ p =
     let e = ap flowReply (taken (p .0) t′ out′ (p .1)) in
-    (p .2 ∙ ap (λ (x : FlowReply). x .code) e, p .3 ∙ ap (λ (x : FlowReply). x .place) e, p .4 ∙ ap (λ (x : FlowReply). x .orders) e, p .5 ∙ ap (λ (x : FlowReply). x .accepted) e)
+    (p .2 .0 ∙ ap (λ (x : FlowReply). x .code) e, p .2 .1 ∙ ap (λ (x : FlowReply). x .place) e, p .2 .2 ∙ ap (λ (x : FlowReply). x .orders) e, p .2 .3 ∙ ap (λ (x : FlowReply). x .accepted) e)
 
 -- taken again on the table that it left: its order is refused (14)
 pub taken-again : (a : FlowAnswer) (t′ out′ : List ℕ) → FlowPromise second (single "471") (room 1) a t′ out′ → a ≡ Taken 1 0

@@ -1,12 +1,12 @@
 -- Flows for document 01's table (bodies 000471 and 471), as bytes, and what they are to be read as.
 use Prim.Native.Nat.{ℕ, _*_}
 use Prim.Native.String.{String}
-use mathlib.Core.List.{List, _∷_, _++_}
+use mathlib.Core.List.{List, [], _∷_, _++_}
 use lib.ListN.{replicate}
 use Rattle.scan.specs.Bytes.{bytes}
 use Rattle.codes.specs.declared.Operation.the-variants.{Inserimento}
-use Rattle.order.specs.declared.Order.{Order}
-use Rattle.orders.specs.Orders.{Header, noLine}
+use Rattle.order.specs.Ordinativo.{Ordinativo}
+use Rattle.orders.specs.Orders.{Header}
 use Rattle.service.specs.Service.{orderLeaves}
 use Rattle.theorems.specs.Marked.{table}
 
@@ -33,14 +33,14 @@ three = flowOf "471" (mandato "1" ++ mandato "1" ++ mandato "2")
 abbrev pub headerFor : String → Header
 headerFor code = record { abi = bytes "01234"; ente = bytes code; esercizio = 2021 }
 
-abbrev pub order : ℕ → Order
+abbrev pub order : ℕ → Ordinativo
 order n = record {
   kind = 1;
   operation = Inserimento;
   number = n;
   date = record { year = 2021; month = 3; day = 1 };
   total = 100;
-  lines = record { count = 1; each = record { progressivo = 1; amount = 100 } ∷ replicate 7 noLine };
+  lines = record { progressivo = 1; amount = 100 } ∷ [];
 }
 
 -- AN OUTCOME BUFFER with room for n orders

@@ -7,7 +7,7 @@ use Rattle.digits.specs.declared.Number.the-variants.{Value}
 use Rattle.digits.specs.Digits.{digits}
 use Rattle.ranges.specs.declared.Found.the-variants.{At}
 use Rattle.table.specs.Table.{bodyOf}
-use Rattle.order.specs.declared.Order.{Order}
+use Rattle.order.specs.Ordinativo.{Ordinativo}
 use Rattle.flow.specs.declared.Verdict.the-variants.{Stands}
 use Rattle.flow.specs.Flow.{verdictOf, headerOf, flowOrders}
 use Rattle.service.specs.Service.{orderLeaves}
@@ -41,7 +41,7 @@ StoresNothing T = (t f out : List ℕ) → flowReply (T .answer t f out) .code �
 
 -- serves a flow's first order alone, whatever it writes for the others
 abbrev pub FirstOnly : Taker → Type 0
-FirstOnly T = (t f out : List ℕ) (base n year : ℕ) (o : Order) (os : List Order) → flowReads t f (length out) ≡ served base n year (o ∷ os)
+FirstOnly T = (t f out : List ℕ) (base n year : ℕ) (o : Ordinativo) (os : List Ordinativo) → flowReads t f (length out) ≡ served base n year (o ∷ os)
     → T .table t f out ≡ orderLeaves t base n year o
 
 -- answers 0 and somewhere an `accepted` that isn't how many of the outcomes it wrote have code 0
