@@ -1,5 +1,6 @@
 -- Orders and notices served on one body of a table's bytes (document 01, "Answers"): the rules over its records, and the bytes they leave.
 use Prim.Native.Nat.{ℕ, zero, suc, _+_, _*_, _-_}
+use mathlib.Core.Path.{_≡_}
 use mathlib.Core.Bool.{Bool}
 use mathlib.Core.List.{List, [], _∷_, _++_}
 use lib.ListN.{length}
@@ -28,6 +29,10 @@ orderStored t base year o (Refused code) = t
 
 abbrev pub orderLeaves : List ℕ → ℕ → ℕ → ℕ → Ordinativo → List ℕ
 orderLeaves t base n year o = orderStored t base year o (orderComes t base n year o)
+
+-- an order served on the table t: the ruling r, and the table t′ afterwards
+abbrev pub OrderServed : List ℕ → ℕ → ℕ → ℕ → Ordinativo → Ruling → List ℕ → Type 0
+OrderServed t base n year o r t′ = (r ≡ orderComes t base n year o) × (t′ ≡ orderLeaves t base n year o)
 
 -- "Each writes 16 outcome bytes: 0 kind, 1 operation (1 to 4 in the field table's order), 2 code, 3 lines, 4-7 number, 8-15 total"
 unfoldable pub outcomeBytes : Ordinativo → ℕ → List ℕ
@@ -74,3 +79,7 @@ noticeStored t base executing line (Unmoved c) = t
 
 abbrev pub noticeLeaves : List ℕ → ℕ → ℕ → Bool → Key → ℕ → List ℕ
 noticeLeaves t base n executing k line = noticeStored t base executing line (noticeComes t base n executing k line)
+
+-- a notice served on the table t: what it comes to, m, and the table t′ afterwards
+abbrev pub NoticeServed : List ℕ → ℕ → ℕ → Bool → Key → ℕ → Noticed → List ℕ → Type 0
+NoticeServed t base n executing k line m t′ = (m ≡ noticeComes t base n executing k line) × (t′ ≡ noticeLeaves t base n executing k line)

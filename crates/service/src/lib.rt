@@ -18,7 +18,7 @@ ghost use Rattle.slots.specs.Slots.{recordsAt};
 ghost use Rattle.body.specs.Body.{bodyOk};
 ghost use Rattle.rules.specs.declared.Change.the-variants.{Annul};
 ghost use Rattle.rules.specs.Rules.{situationOf, firstEmpty, placed, stepped, judgeChange, movedTo};
-ghost use Rattle.service.specs.Service.{orderComes, orderLeaves, outcomeBytes, noticeComes, noticeLeaves};
+ghost use Rattle.service.specs.Service.{orderComes, OrderServed, outcomeBytes, noticeComes, NoticeServed};
 ghost use Rattle.service.specs.Inner.{foundIn, atFound};
 
 // Where a slot's line states begin.
@@ -130,7 +130,7 @@ pub fn judge_order(t: &[u8], base: usize, n: usize, year: u64, o: Order) -> Ruli
 // Serves an order: its record is stored where it is accepted.
 pub fn serve_order(t: &mut [u8], base: usize, n: usize, year: u64, o: Order) -> Ruling
     requires { ⌜ base + slotSize * n ≤ length (now t) ⌝ }
-    ensures { λ r. ⌜ (r ≡ orderComes (now (t .entry)) base n year (ordinativo o)) × (now (t .exit) ≡ orderLeaves (now (t .entry)) base n year (ordinativo o)) ⌝ }
+    ensures { λ r. ⌜ OrderServed (now (t .entry)) base n year (ordinativo o) r (now (t .exit)) ⌝ }
 {
     let j = judge_order(t, base, n, year, o);
     match j {
@@ -197,7 +197,7 @@ pub fn serve_notice(
     line: u64,
 ) -> Noticed
     requires { ⌜ (base + slotSize * n ≤ length (now t)) × (bodyOk (now t) base n ≡ true) ⌝ }
-    ensures { λ r. ⌜ (r ≡ noticeComes (now (t .entry)) base n executing key line) × (now (t .exit) ≡ noticeLeaves (now (t .entry)) base n executing key line) ⌝ }
+    ensures { λ r. ⌜ NoticeServed (now (t .entry)) base n executing key line r (now (t .exit)) ⌝ }
 {
     let m = judge_notice(t, base, n, executing, key, line);
     match m {
