@@ -16,14 +16,15 @@ use Rattle.order.specs.declared.Order.{Order}
 use Rattle.record.specs.declared.Record.{Record}
 use Rattle.record.specs.Slot.{keyOf}
 use Rattle.ranges.specs.declared.Found.the-variants.{At}
-use Rattle.valid.specs.Valid.{maxCents, lineThere, lineAbsent, lineOk, sum, rangesOk}
+use Rattle.valid.specs.Valid.{lineThere, lineAbsent, lineOk, sum, rangesOk}
 use Rattle.slots.specs.Slots.{findIn}
-use Rattle.valid.proofs.Valid.{Valid, ok-bounds, ok-line, ok-sum, ok-amount, ok-tests, ok-from}
+use Rattle.valid.proofs.Valid.{Valid, one-of-sum, ok-bounds, ok-line, ok-sum, ok-amount, ok-tests, ok-from}
 use Rattle.slots.proofs.Search.{found-below, found-key}
 use Rattle.rules.specs.declared.Judged.the-variants.{Accepted}
 use Rattle.lines.specs.Lines.{linesOf, numberedFrom, sumOf, lineCode}
 use Rattle.lines.proofs.Laws.{noLine}
 use Rattle.rules.specs.Rules.{amountsOf, waitingFor, waiting, anyExecuted, keyFor, nth, noRecord, judgeOrder, annulled, written}
+use Rattle.bounds.specs.Bounds.{maxCents}
 use Rattle.rules.proofs.Judging.{Stands, inserting, varying, annulling, accepted, accepted-lines}
 
 within : (lo hi b : ℕ) → (lo ≤ b) × (b ≤ hi) → between lo hi b ≡ true
@@ -112,13 +113,6 @@ length-amounts : (e : List Line) → length (amountsOf e) ≡ length e
 unfolding amountsOf
 length-amounts [] = refl
 length-amounts (l ∷ e) = ap suc (length-amounts e)
-
--- one of the numbers is at most their sum
-one-of-sum : (a : List ℕ) (k : ℕ) → getD a k 0 ≤ sum a
-unfolding sum
-one-of-sum [] k = omega arith
-one-of-sum (x ∷ a) zero = omega arith
-one-of-sum (x ∷ a) (suc k) = omega (arith, one-of-sum a k)
 
 -- lines that aren't there add nothing
 sum-front : (e : List Line) (n : ℕ) → ((k : ℕ) → n ≤ k → getD e k noLine .amount ≡ 0) → sum (amountsOf e) ≡ sumOf (take n e)

@@ -11,7 +11,7 @@ use Rattle.ranges.specs.declared.Found.the-variants.{At, Nothing}
 use Rattle.order.specs.declared.Order.{Order}
 use Rattle.record.specs.declared.Record.{Record}
 use Rattle.record.specs.declared.Key.{Key}
-use Rattle.record.specs.Slot.{slotSize, recordAt, recordBytes}
+use Rattle.record.specs.Slot.{statesOffset, slotSize, recordAt, recordBytes}
 use Rattle.slots.specs.Slots.{recordsAt}
 use Rattle.rules.specs.declared.Judged.{Judged}
 use Rattle.rules.specs.declared.Judged.the-variants.{Accepted, Refused}
@@ -44,7 +44,11 @@ orderStored t base year o (Refused c) = t
 abbrev pub orderLeaves : List ℕ → ℕ → ℕ → ℕ → Order → List ℕ
 orderLeaves t base n year o = orderStored t base year o (orderComes t base n year o)
 
--- "Each writes 16 outcome bytes: 0 kind, 1 operation (1 to 4 in the field table's order), 2 code, 3 lines, 4-7 number, 8-15 total"
+-- "Each writes 16 outcome bytes"
+abbrev pub outcomeSize : ℕ
+outcomeSize = 16
+
+-- "0 kind, 1 operation (1 to 4 in the field table's order), 2 code, 3 lines, 4-7 number, 8-15 total"
 unfoldable pub outcomeBytes : Order → ℕ → List ℕ
 outcomeBytes o code =
     o .kind ∷ operationNumber (o .operation) ∷ code ∷ o .lines .count ∷ (bytes4 (o .number) ++ bytes8 (o .total))
@@ -76,7 +80,7 @@ noticeComes t base n executing k line = judgeNotice executing k line (recordsAt 
 
 -- the byte of a line's state, counted from 1: "24-31 eight line states"
 abbrev pub statePlace : ℕ → ℕ → ℕ → ℕ
-statePlace base i line = base + slotSize * i + 24 + (line - 1)
+statePlace base i line = base + slotSize * i + statesOffset + (line - 1)
 
 -- the table after it: one byte changes, or none
 unfoldable pub noticeStored : List ℕ → ℕ → Bool → ℕ → Noticed → List ℕ

@@ -18,7 +18,10 @@ ghost use Rattle.slots.specs.Slots.{recordsAt};
 ghost use Rattle.body.specs.Body.{bodyOk};
 ghost use Rattle.rules.specs.declared.Judged.the-variants.{Accepted, Refused};
 ghost use Rattle.rules.specs.Rules.{situationOf, placed, stepped, sostituzione, movedTo};
-ghost use Rattle.service.specs.Service.{foundIn, atFound, orderComes, orderLeaves, outcomeBytes, noticeComes, noticeLeaves};
+ghost use Rattle.service.specs.Service.{outcomeSize, foundIn, atFound, orderComes, orderLeaves, outcomeBytes, noticeComes, noticeLeaves};
+
+// How many bytes an order's outcome takes.
+pub const OUTCOME: usize = 16;
 
 // The situation of the order that a search found, or not, among a body's records.
 fn situation_of(t: &[u8], base: usize, n: usize, f: Found) -> Situation
@@ -149,7 +152,7 @@ pub fn serve_order(t: &mut [u8], base: usize, n: usize, year: u64, o: Order) -> 
 
 // Writes an order's 16 outcome bytes at a place.
 pub fn put_outcome(out: &mut [u8], at: usize, o: Order, code: u8)
-    requires { ⌜ (at + 16 ≤ length (now out)) × (o .lines .count ≤ 8) ⌝ }
+    requires { ⌜ (at + outcomeSize ≤ length (now out)) × (o .lines .count ≤ 8) ⌝ }
     ensures { λ _. ⌜ now (out .exit) ≡ put (now (out .entry)) at (outcomeBytes o code) ⌝ }
 {
     let ls = o.lines;
@@ -209,7 +212,7 @@ pub fn serve_notice(
     let m = judge_notice(t, base, n, executing, key, line);
     match m {
         Noticed::Moved(i, cents) => {
-            let at = base + record::SLOT * i + 24 + ((line - 1) as usize);
+            let at = base + record::SLOT * i + record::STATES + ((line - 1) as usize);
             let state = [moved_to(executing)];
             words::copy_in(t, at, &state);
             Noticed::Moved(i, cents)

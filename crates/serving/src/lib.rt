@@ -8,7 +8,7 @@ ghost use lib.ListN.{length};
 ghost use Rattle.words.specs.Numbers.{put};
 ghost use Rattle.record.specs.Slot.{slotSize};
 ghost use Rattle.rules.specs.Rules.{codeOf};
-ghost use Rattle.service.specs.Service.{one, allLeave, allOutcomes, allAccepted};
+ghost use Rattle.service.specs.Service.{outcomeSize, one, allLeave, allOutcomes, allAccepted};
 ghost use Rattle.serving.specs.Served.{ordersFrom, Rooted};
 
 // An order's code, for its outcome bytes.
@@ -41,7 +41,7 @@ pub fn serve_all(
     out: &mut [u8],
     past: &[u32],
 ) -> usize
-    requires { ⌜ (base + slotSize * n ≤ length (now t)) × Rooted (now f) (now past) from × (16 * length (ordersFrom (now f) from) ≤ length (now out)) ⌝ }
+    requires { ⌜ (base + slotSize * n ≤ length (now t)) × Rooted (now f) (now past) from × (outcomeSize * length (ordersFrom (now f) from) ≤ length (now out)) ⌝ }
     ensures { λ r. ⌜ (r ≡ allAccepted (now (t .entry)) base n year (ordersFrom (now (f .entry)) from)) × (now (t .exit) ≡ allLeave (now (t .entry)) base n year (ordersFrom (now (f .entry)) from)) × (now (out .exit) ≡ put (now (out .entry)) 0 (allOutcomes (now (t .entry)) base n year (ordersFrom (now (f .entry)) from))) ⌝ }
 {
     let mut i = from;
@@ -56,7 +56,7 @@ pub fn serve_all(
         let j = service::serve_order(t, base, n, year, o);
         service::put_outcome(out, to, o, code_of(j));
         accepted += one_of(j);
-        to += 16;
+        to += service::OUTCOME;
         i = c.after;
     }
 }
