@@ -60,10 +60,11 @@ fn with_room(
     past: &[u32],
 ) -> FlowAnswer
     requires { ⌜ (base + slotSize * n ≤ length (now t)) × Rooted (now f) (now past) from × (length (now f) ≤ maxFlow) ⌝ }
-    ensures { λ r. ⌜ Gives (now (t .entry)) (now (out .entry)) (roomFor (length (now (out .entry))) (headerFrom (now (f .entry)) from) (ordersFrom (now (f .entry)) from) base n) r (now (t .exit)) (now (out .exit)) ⌝ }
+    ensures { λ r. ⌜ Gives (now (t .entry)) (now (out .entry))
+        (roomFor (length (now (out .entry))) (headerFrom (now (f .entry)) from) (ordersFrom (now (f .entry)) from) base n) r (now (t .exit)) (now (out .exit)) ⌝ }
 {
     let count = orders::count_orders(f, from, past);
-    if out.len() < 16 * count {
+    if out.len() < service::OUTCOME * count {
         return FlowAnswer::NoRoom;
     }
     let year = year_of(f, from, past);
@@ -76,7 +77,8 @@ fn with_room(
 // The orders of a flow, for the body with the flow's code: 7, or as the room says.
 fn for_body(t: &mut [u8], f: &[u8], from: usize, out: &mut [u8], past: &[u32]) -> FlowAnswer
     requires { ⌜ (tableOk (now t) ≡ true) × Rooted (now f) (now past) from × (length (now f) ≤ maxFlow) ⌝ }
-    ensures { λ r. ⌜ Gives (now (t .entry)) (now (out .entry)) (bodyFor (now (t .entry)) (length (now (out .entry))) (headerFrom (now (f .entry)) from) (ordersFrom (now (f .entry)) from)) r (now (t .exit)) (now (out .exit)) ⌝ }
+    ensures { λ r. ⌜ Gives (now (t .entry)) (now (out .entry))
+        (bodyFor (now (t .entry)) (length (now (out .entry))) (headerFrom (now (f .entry)) from) (ordersFrom (now (f .entry)) from)) r (now (t .exit)) (now (out .exit)) ⌝ }
 {
     let ente = orders::field_text(f, from, Parent::FlussoOrdinativi, 3, past);
     match address::body_named(t, ente) {
@@ -89,7 +91,8 @@ fn for_body(t: &mut [u8], f: &[u8], from: usize, out: &mut [u8], past: &[u32]) -
 // A flow that stands, its root's content at a place: 6, or as its body says.
 fn for_bank(t: &mut [u8], f: &[u8], at: usize, out: &mut [u8], past: &[u32]) -> FlowAnswer
     requires { ⌜ (tableOk (now t) ≡ true) × (verdictOf (now f) ≡ Stands at) × Noted (now f) (now past) × (length (now f) ≤ maxFlow) ⌝ }
-    ensures { λ r. ⌜ Gives (now (t .entry)) (now (out .entry)) (forBank (now (t .entry)) (length (now (out .entry))) (headerOf (now (f .entry)) at) (flowOrders (now (f .entry)) at)) r (now (t .exit)) (now (out .exit)) ⌝ }
+    ensures { λ r. ⌜ Gives (now (t .entry)) (now (out .entry))
+        (forBank (now (t .entry)) (length (now (out .entry))) (headerOf (now (f .entry)) at) (flowOrders (now (f .entry)) at)) r (now (t .exit)) (now (out .exit)) ⌝ }
 {
     let from = scan::white_end(f, at);
     let abi = orders::field_text(f, from, Parent::FlussoOrdinativi, 0, past);

@@ -16,9 +16,9 @@ use Rattle.order.specs.Ordinativo.{Ordinativo}
 use Rattle.record.specs.declared.Record.{Record}
 use Rattle.record.specs.Slot.{keyOf}
 use Rattle.ranges.specs.declared.Found.the-variants.{At}
-use Rattle.valid.specs.Valid.{maxCents, lineThere, lineAbsent, lineOk, sum, rangesOk}
+use Rattle.valid.specs.Valid.{lineThere, lineAbsent, lineOk, sum, rangesOk}
 use Rattle.slots.specs.Slots.{findIn}
-use Rattle.valid.proofs.Valid.{Valid, ok-bounds, ok-line, ok-sum, ok-amount, ok-tests, ok-from}
+use Rattle.valid.proofs.Valid.{Valid, one-of-sum, ok-bounds, ok-line, ok-sum, ok-amount, ok-tests, ok-from}
 use Rattle.slots.proofs.Search.{found-below, found-key}
 use Rattle.lines.specs.Lines.{numberedFrom, sumOf, lineCode}
 use Rattle.rules.specs.declared.Change.{Change}
@@ -26,6 +26,7 @@ use Rattle.rules.specs.declared.Ruling.the-variants.{Accepted}
 use Rattle.rules.specs.Rules.{anyExecuted, keyFor, nth, noRecord, eight, amountsOf, judgeOrder, annulled, written}
 use Rattle.rules.specs.Effects.{withState}
 use Rattle.rules.proofs.Laws.{eight-at, length-eight}
+use Rattle.bounds.specs.Bounds.{maxCents}
 use Rattle.rules.proofs.Judging.{Stands, inserting, varying, annulling, accepted, accepted-lines}
 
 within : (lo hi b : ℕ) → (lo ≤ b) × (b ≤ hi) → between lo hi b ≡ true
@@ -103,13 +104,6 @@ waiting-none (suc m) (suc n) k = waiting-none m n k
 
 pub waiting-all : (n : ℕ) → anyExecuted (eight (replicate n 1)) ≡ false
 waiting-all n = waiting-none 8 n 8
-
--- one of the numbers is at most their sum
-one-of-sum : (a : List ℕ) (k : ℕ) → getD a k 0 ≤ sum a
-unfolding sum
-one-of-sum [] k = omega arith
-one-of-sum (x ∷ a) zero = omega arith
-one-of-sum (x ∷ a) (suc k) = omega (arith, one-of-sum a k)
 
 -- places past the lines add nothing
 sum-none : (m k : ℕ) → sum (take m (replicate k 0)) ≡ 0

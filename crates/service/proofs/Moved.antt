@@ -4,7 +4,6 @@ use mathlib.Core.Bool.{Bool, true, false, _&&_}
 use mathlib.Core.List.{List, [], _∷_}
 use mathlib.Core.Path.{_≡_, refl, sym, ap, _∙_}
 use native.Mathlib.Omega.{arith}
-use native.Mathlib.Nat.{add-zero}
 use lib.ListN.{length, getD, set, length-set}
 use lib.Seq.{ext-getD, getD-set-same, getD-set-other}
 use lib.Dec.{eqb, ltb}
@@ -14,7 +13,7 @@ use Rattle.words.proofs.Laws.{Agree, on, at-it, same2, same4, same8, get-before
 use Rattle.record.specs.declared.Record.{Record}
 use Rattle.record.specs.declared.Key.{Key}
 use Rattle.record.specs.Slot.{slotSize, eightAt, be8s, dateAt, recordAt, restZero, keyOf}
-use Rattle.record.proofs.Back.{same-record, agree-before, agree-after}
+use Rattle.record.proofs.Back.{eight-at, same-be8s, same-record, agree-before, agree-after}
 use Rattle.valid.specs.Valid.{recordOk}
 use Rattle.slots.specs.Slots.{usedAt, slotsAt, recordsAt, distinct}
 use Rattle.body.specs.Body.{slotOk, bodyOk}
@@ -38,17 +37,6 @@ use Rattle.service.proofs.Laws.{Held, search-held}
 use Rattle.service.proofs.Kept.{Kept, unchanged}
 
 -- THE BYTE OF A STATE
-
-eight-at : (t : List ℕ) (p j : ℕ) → j < 8 → getD (eightAt t p) j 0 ≡ getD t (p + j) 0
-eight-at t p zero h = ap (λ (x : ℕ). getD t x 0) (sym (add-zero p))
-eight-at t p (suc zero) h = refl
-eight-at t p (suc (suc zero)) h = refl
-eight-at t p (suc (suc (suc zero))) h = refl
-eight-at t p (suc (suc (suc (suc zero)))) h = refl
-eight-at t p (suc (suc (suc (suc (suc zero))))) h = refl
-eight-at t p (suc (suc (suc (suc (suc (suc zero)))))) h = refl
-eight-at t p (suc (suc (suc (suc (suc (suc (suc zero))))))) h = refl
-eight-at t p (suc (suc (suc (suc (suc (suc (suc (suc j)))))))) h = absurd (omega arith)
 
 module _ (t : List ℕ) (at k s : ℕ) (small : k < 8) (fits : at + slotSize ≤ length t) where
   abbrev after : List ℕ
@@ -84,18 +72,7 @@ module _ (t : List ℕ) (at k s : ℕ) (small : k < 8) (fits : at + slotSize ≤
   date-same = let g = on head-same 12 4 (omega arith) in cc (same2 g (omega arith), g .same 2 (omega arith), g .same 3 (omega arith))
 
   amounts-same : be8s after (at + 32) ≡ be8s t (at + 32)
-  amounts-same =
-      let g = tail-same in
-      cc (
-        same8 g (omega arith),
-        same8 (on g 8 8 (omega arith)) (omega arith),
-        same8 (on g 16 8 (omega arith)) (omega arith),
-        same8 (on g 24 8 (omega arith)) (omega arith),
-        same8 (on g 32 8 (omega arith)) (omega arith),
-        same8 (on g 40 8 (omega arith)) (omega arith),
-        same8 (on g 48 8 (omega arith)) (omega arith),
-        same8 (on g 56 8 (omega arith)) (omega arith),
-      )
+  amounts-same = same-be8s tail-same
 
   pub state-record : recordAt after at ≡ withState (recordAt t at) k s
   unfolding recordAt

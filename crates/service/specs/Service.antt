@@ -8,7 +8,7 @@ use Rattle.words.specs.Numbers.{put, bytes4, bytes8}
 use Rattle.codes.specs.Codes.{operationNumber}
 use Rattle.order.specs.Ordinativo.{Ordinativo}
 use Rattle.record.specs.declared.Key.{Key}
-use Rattle.record.specs.Slot.{slotSize, recordAt, recordBytes}
+use Rattle.record.specs.Slot.{statesOffset, slotSize, recordAt, recordBytes}
 use Rattle.slots.specs.Slots.{recordsAt}
 use Rattle.rules.specs.declared.Ruling.{Ruling}
 use Rattle.rules.specs.declared.Ruling.the-variants.{Accepted, Refused}
@@ -34,7 +34,11 @@ orderLeaves t base n year o = orderStored t base year o (orderComes t base n yea
 abbrev pub OrderServed : List ℕ → ℕ → ℕ → ℕ → Ordinativo → Ruling → List ℕ → Type 0
 OrderServed t base n year o r t′ = (r ≡ orderComes t base n year o) × (t′ ≡ orderLeaves t base n year o)
 
--- "Each writes 16 outcome bytes: 0 kind, 1 operation (1 to 4 in the field table's order), 2 code, 3 lines, 4-7 number, 8-15 total"
+-- "Each writes 16 outcome bytes"
+abbrev pub outcomeSize : ℕ
+outcomeSize = 16
+
+-- "0 kind, 1 operation (1 to 4 in the field table's order), 2 code, 3 lines, 4-7 number, 8-15 total"
 unfoldable pub outcomeBytes : Ordinativo → ℕ → List ℕ
 outcomeBytes o code =
     o .kind ∷ operationNumber (o .operation) ∷ code ∷ length (o .lines) ∷ (bytes4 (o .number) ++ bytes8 (o .total))
@@ -64,13 +68,9 @@ allAccepted t base n year (o ∷ os) = one (orderComes t base n year o) + allAcc
 unfoldable pub noticeComes : List ℕ → ℕ → ℕ → Bool → Key → ℕ → Noticed
 noticeComes t base n executing k line = judgeNotice executing k line (recordsAt t base n)
 
--- "24-31 eight line states"
-abbrev pub statesAt : ℕ
-statesAt = 24
-
--- the byte of a line's state; lines are counted from 1
+-- the byte of a line's state, counted from 1: "24-31 eight line states"
 abbrev pub statePlace : ℕ → ℕ → ℕ → ℕ
-statePlace base i line = base + slotSize * i + statesAt + (line - 1)
+statePlace base i line = base + slotSize * i + statesOffset + (line - 1)
 
 -- the table after it: one byte changes, or none
 unfoldable pub noticeStored : List ℕ → ℕ → Bool → ℕ → Noticed → List ℕ

@@ -3,6 +3,7 @@ use Prim.Native.Nat.{ℕ, zero, suc, _+_}
 use mathlib.Core.Bool.{Bool, false, cond, _||_}
 use mathlib.Core.List.{List, [], _∷_}
 use lib.Dec.{eqb}
+use Rattle.service.specs.Service.{outcomeSize}
 use lib.ListN.{getD, drop}
 
 abbrev pub oneOf : List ℕ → ℕ → Bool
@@ -27,4 +28,4 @@ flowCodes = 0 ∷ 1 ∷ 2 ∷ 3 ∷ 4 ∷ 5 ∷ 6 ∷ 7 ∷ 8 ∷ []
 -- of the first k outcomes of a buffer, 16 bytes each with the code in byte 2: how many have code 0
 abbrev pub zeroCodes : ℕ → List ℕ → ℕ
 zeroCodes zero out = 0
-zeroCodes (suc k) out = cond (eqb (getD out 2 0) 0) 1 0 + zeroCodes k (drop 16 out)
+zeroCodes (suc k) out = cond (eqb (getD out 2 0) 0) 1 0 + zeroCodes k (drop outcomeSize out)

@@ -13,7 +13,7 @@ use Rattle.ranges.specs.declared.Found.{Found}
 use Rattle.ranges.specs.declared.Found.the-variants.{At, Nothing}
 use Rattle.record.specs.Slot.{slotSize}
 use Rattle.record.specs.declared.Key.{Key}
-use Rattle.entries.specs.Entry.{entrySize, slotsOf, placeOf}
+use Rattle.entries.specs.Entry.{entryFixed, entrySize, slotsOf, placeOf}
 use Rattle.table.specs.Table.{headSize, bodies, abiOf, bodyOf, entryOf}
 use Rattle.flow.specs.declared.Verdict.{Verdict}
 use Rattle.flow.specs.declared.Verdict.the-variants.{MarkupBreaks, StructureBreaks, FieldBreaks, Stands}
@@ -89,12 +89,12 @@ who t₀ c = position t₀ (names t₀ c)
 
 -- WHAT BODY b OWNS of a table t: its entry from byte 24 on, and the bytes of its slots, where t₀ has them
 abbrev pub owned : List ℕ → ℕ → List ℕ → List ℕ
-owned t₀ b t = part t (entryOf b + 24) (entryOf b + entrySize) ++ part t (placeOf t₀ (entryOf b)) (placeOf t₀ (entryOf b) + slotSize * slotsOf t₀ (entryOf b))
+owned t₀ b t = part t (entryOf b + entryFixed) (entryOf b + entrySize) ++ part t (placeOf t₀ (entryOf b)) (placeOf t₀ (entryOf b) + slotSize * slotsOf t₀ (entryOf b))
 
 -- WHAT NO BODY OWNS: the length, the head, and each entry's bytes before 24, which are its code, slots and place
 unfoldable pub fixedBytes : List ℕ → ℕ → ℕ → List (List ℕ)
 fixedBytes t at zero = []
-fixedBytes t at (suc n) = part t at (at + 24) ∷ fixedBytes t (at + entrySize) n
+fixedBytes t at (suc n) = part t at (at + entryFixed) ∷ fixedBytes t (at + entrySize) n
 
 pub record Rest : Type 0 where
   pub long : ℕ
