@@ -23,7 +23,7 @@ use Rattle.slots.specs.Slots.{findIn, distinct}
 use Rattle.slots.proofs.Search.{nothing-is, found-below, found-key}
 use Rattle.lines.specs.Lines.{numberedFrom, sumOf, lineCode}
 use Rattle.rules.specs.declared.Situation.{Situation}
-use Rattle.rules.specs.declared.Situation.the-variants.{Absent, Annulled, Waiting, Executed}
+use Rattle.rules.specs.declared.Situation.the-variants.{Annulled, Waiting, Executed}
 use Rattle.rules.specs.declared.Change.{Change}
 use Rattle.rules.specs.declared.Change.the-variants.{Insert, Vary, Annul}
 use Rattle.rules.specs.declared.Asks.{Asks}
@@ -34,7 +34,7 @@ use Rattle.rules.specs.declared.Noticed.{Noticed}
 use Rattle.rules.specs.declared.Noticed.the-variants.{Moved, Unmoved}
 use Rattle.rules.specs.Rules.{asksOf, anyExecuted, situationIn, situationOf, row, stepCode, keyFor, nth, noRecord, eight, amountsOf, sameList, sameOrder, placed, unless, stepped, judgeChange, judgeAsked, judgeOrder, lineMoves, moveOr, noticeIn, noticeAt, judgeNotice}
 use Rattle.rules.specs.Listed.{Has, HasNone, IsAnnulled, IsExecuted, Numbered, Differs, total, count, amounts, OnRecord, variazione, annullo, Applies, sostituzione, misnumbered, missummed, present, full, absent, annulled, executed, differs, NoticeApplies, unknown, closed, zeroth, past, already, notYet, turn, noticeTurn}
-use Rattle.rules.proofs.Laws.{moves-executed, moves-waiting}
+use Rattle.rules.proofs.Laws.{in-annulled, in-executed, moves-executed, moves-waiting}
 use Rattle.rules.proofs.Kept.{none-executed}
 
 -- two constructors are never equal
@@ -303,6 +303,17 @@ row-of : {p : Operation} → OnRecord p → Row p
 row-of variazione = record { change = Vary; asks = refl; codes = λ s. refl }
 row-of annullo = record { change = Annul; asks = refl; codes = λ s. refl }
 
+-- the code that the step table gives what is asked for, and the one that comes after it
+abbrev stepFor : Asks → Situation → ℕ
+stepFor (For c) s = stepCode c s
+stepFor (Unserved code) s = 0
+
+abbrev lastFor : Asks → ℕ
+lastFor (For Insert) = 15
+lastFor (For Vary) = 0
+lastFor (For Annul) = 19
+lastFor (Unserved code) = 0
+
 module _ (slots year : ℕ) (o : Ordinativo) (rs : List Record) where
   abbrev key : Key
   key = keyFor year o
@@ -414,6 +425,44 @@ module _ (slots year : ℕ) (o : Ordinativo) (rs : List Record) where
     pub accepted-none : {c : Change} {i code : ℕ} → answer ≡ Accepted c i → Applies slots year o rs code → ⊥
     accepted-none e a = let b = applies-by a in let z : clash = cc (b .is) in no z
 
+    -- ONE REFUSAL AT MOST of each turn
+    abbrev codeAt : ℕ → ℕ
+    codeAt t =
+        cond (eqb t 1) 11 (cond (eqb t 2) 12 (cond (eqb t 3) 13 (cond (eqb t 4) (stepFor (asksOf (o .operation)) (situationOf rs (findIn rs 0 key))) (lastFor (asksOf (o .operation))))))
+
+    step-code : {c : Change} {f : Found} → asksOf (o .operation) ≡ For c → findIn rs 0 key ≡ f → stepFor (asksOf (o .operation)) (situationOf rs (findIn rs 0 key)) ≡ stepCode c (situationOf rs f)
+    step-code q e = λ i. stepFor (q i) (situationOf rs (e i))
+
+    record-code : OnRecord (o .operation) → {f : Found} {s : Situation} → findIn rs 0 key ≡ f → situationOf rs f ≡ s → row 16 17 0 18 s ≡ stepFor (asksOf (o .operation)) (situationOf rs (findIn rs 0 key))
+    record-code w {f} {s} e q = let r = row-of w in sym (step-code (r .asks) e ∙ r .codes (situationOf rs f) ∙ ap (row 16 17 0 18) q)
+
+    there-code : (i : ℕ) → stepCode Insert (situationOf rs (At i)) ≡ 14
+    unfolding situationOf situationIn
+    there-code i = go (eqb (nth rs i .state) 2) (anyExecuted (nth rs i .states))
+      where
+        go : (a b : Bool) → row 0 14 14 14 (cond a Annulled (cond b Executed Waiting)) ≡ 14
+        go true b = refl
+        go false true = refl
+        go false false = refl
+
+    turn-code : {c : ℕ} → Applies slots year o rs c → c ≡ codeAt (turn c)
+    unfolding situationOf
+    turn-code (sostituzione q) = refl
+    turn-code (misnumbered h) = refl
+    turn-code (missummed h) = refl
+    turn-code (present q r h) = let x = has-at rs key r d h in sym (step-code (ap asksOf q) (x .found) ∙ there-code (x .at))
+    turn-code (full q l) = sym (ap lastFor (ap asksOf q))
+    turn-code (absent w h) = record-code w (none-nothing rs key h) refl
+    turn-code (annulled w r h e) = let x = has-at rs key r d h in record-code w (x .found) (in-annulled (nth rs (x .at)) (ap (λ (y : Record). y .state) (x .same) ∙ e))
+    turn-code (executed w r h n k e) =
+        let x = has-at rs key r d h in
+        record-code w (x .found)
+        (ap situationIn (x .same) ∙ in-executed r n (is-executed (r .states) k e))
+    turn-code (differs q r h e) = sym (ap lastFor (ap asksOf q))
+
+    pub one-in-turn : {a b : ℕ} → Applies slots year o rs a → Applies slots year o rs b → turn a ≡ turn b → a ≡ b
+    one-in-turn x y e = turn-code x ∙ ap codeAt e ∙ sym (turn-code y)
+
 -- A NOTICE
 module _ (executing : Bool) (k : Key) (line : ℕ) (rs : List Record) where
   module _ (code : ℕ) where
@@ -516,3 +565,18 @@ module _ (executing : Bool) (k : Key) (line : ℕ) (rs : List Record) where
 
     pub moved-none : {i cents c : ℕ} → judgeNotice executing k line rs ≡ Moved i cents → NoticeApplies executing k line rs c → ⊥
     moved-none e a = let b = notice-by a in let z : clash = cc (b .is) in no z
+
+  -- one refusal at most of each turn
+  abbrev noticeCodeAt : ℕ → ℕ
+  noticeCodeAt t = cond (eqb t 1) 16 (cond (eqb t 2) 17 (cond (eqb t 3) 20 (cond executing 21 22)))
+
+  notice-turn-code : {c : ℕ} → NoticeApplies executing k line rs c → c ≡ noticeCodeAt (noticeTurn c)
+  notice-turn-code (unknown h) = refl
+  notice-turn-code (closed r h e) = refl
+  notice-turn-code (zeroth e) = refl
+  notice-turn-code (past r h l) = refl
+  notice-turn-code (already p r h e) = sym (ap (λ (b : Bool). cond b 21 22) p)
+  notice-turn-code (notYet p r h n) = sym (ap (λ (b : Bool). cond b 21 22) p)
+
+  pub one-notice-in-turn : {a b : ℕ} → NoticeApplies executing k line rs a → NoticeApplies executing k line rs b → noticeTurn a ≡ noticeTurn b → a ≡ b
+  one-notice-in-turn x y e = notice-turn-code x ∙ ap noticeCodeAt e ∙ sym (notice-turn-code y)

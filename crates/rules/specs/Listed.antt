@@ -1,5 +1,5 @@
--- THE LISTED REFUSALS (document 01, "Answers"), each by what it says, with no thought of the order in which they are looked for. An order or a notice is
--- accepted exactly when none of them applies (crates/theorems/proofs/Exactly.antt).
+-- THE LISTED REFUSALS (document 01, "Answers"), each by what it says. An order or a notice is accepted exactly when none of them applies; otherwise its
+-- code is that of the one that applies and has the first turn (crates/theorems/proofs/Exactly.antt).
 use Prim.Native.Nat.{ℕ, _+_, _-_, _≤_, _<_}
 use mathlib.Core.Path.{_≡_}
 use mathlib.Core.Bool.{Bool, true, false, _||_, cond}

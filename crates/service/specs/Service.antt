@@ -1,5 +1,5 @@
 -- Orders and notices served on one body of a table's bytes (document 01, "Answers"): the rules over its records, and the bytes they leave.
-use Prim.Native.Nat.{ℕ, zero, suc, _+_, _*_, _-_}
+use Prim.Native.Nat.{ℕ, _+_, _*_, _-_}
 use mathlib.Core.Path.{_≡_}
 use mathlib.Core.Bool.{Bool}
 use mathlib.Core.List.{List, [], _∷_, _++_}

@@ -1,11 +1,11 @@
 -- ACCEPTED EXACTLY WHEN NO LISTED REFUSAL APPLIES (document 01, "Answers"; what the refusals say: crates/rules/specs/Listed.antt), on a valid body:
 --   order-exactly    an order's outcome code is 0 exactly when no listed refusal applies to it
---   order-refused    any other code is that of a listed refusal that applies, and none that applies has an earlier turn
+--   order-answer     it is another number exactly when the refusal of that number applies and none that applies has an earlier turn
 --   notice-exactly   a notice's code is 0 exactly when no listed refusal applies to it
---   notice-refused   any other code is that of a listed refusal that applies, and none that applies has an earlier turn
+--   notice-answer    it is another number exactly when the refusal of that number applies and none that applies has an earlier turn
 --   no-such-key      "a kind other than 1 and 2, or a number 0, gets 16"
-use Prim.Native.Nat.{ℕ, _≤_, _<_}
-use mathlib.Core.Path.{_≡_, refl, sym, ap, _∙_}
+use Prim.Native.Nat.{ℕ, _≤_}
+use mathlib.Core.Path.{_≡_, refl, sym, ap, subst, _∙_}
 use mathlib.Core.Bool.{Bool, true}
 use mathlib.Core.List.{List}
 use native.Mathlib.Omega.{arith}
@@ -25,7 +25,7 @@ use Rattle.rules.specs.declared.Noticed.{Noticed}
 use Rattle.rules.specs.declared.Noticed.the-variants.{Moved, Unmoved}
 use Rattle.rules.specs.Rules.{nth, noRecord, judgeOrder, orderCode, noticeAt, judgeNotice, noticeCode}
 use Rattle.rules.specs.Listed.{Applies, turn, NoticeApplies, unknown, closed, zeroth, past, already, notYet, noticeTurn}
-use Rattle.rules.proofs.Listed.{refused-applies, applies-by, accepted-none, unmoved-applies, notice-by, moved-none}
+use Rattle.rules.proofs.Listed.{refused-applies, applies-by, accepted-none, one-in-turn, unmoved-applies, notice-by, moved-none, one-notice-in-turn}
 use Rattle.service.specs.Service.{orderComes, noticeComes, noticeStored}
 use Rattle.notices.specs.declared.Addressed.the-variants.{Body}
 use Rattle.notices.specs.declared.NoticeAnswer.{NoticeAnswer}
@@ -66,7 +66,7 @@ module _ (t : List ℕ) (base n : ℕ) (ok : bodyOk t base n ≡ true) where
         go h (Accepted c i) e = refl
         go h (Refused code) e = absurd (h code (refused-applies n year o records code e))
 
-    pub order-refused : (orderCode (orderComes t base n year o) ≡ 0 → ⊥) → InTurn turn (Applies n year o records) (orderCode (orderComes t base n year o))
+    order-refused : (orderCode (orderComes t base n year o) ≡ 0 → ⊥) → InTurn turn (Applies n year o records) (orderCode (orderComes t base n year o))
     unfolding orderComes
     order-refused h = go (judgeOrder n year o records) refl h
       where
@@ -76,6 +76,14 @@ module _ (t : List ℕ) (base n : ℕ) (ok : bodyOk t base n ≡ true) where
           refused-applies n year o records code e,
           λ c a. let b = applies-by n year o records apart a in let q : b .code ≡ code = cc (b .is) in omega (arith, b .soon, ap turn q),
         )
+
+    pub order-answer : (c : ℕ) → (c ≡ 0 → ⊥) → Exactly (orderCode (orderComes t base n year o) ≡ c) (InTurn turn (Applies n year o records) c)
+    order-answer c h = (λ e. subst (InTurn turn (Applies n year o records)) e (order-refused (λ z. h (sym e ∙ z))), given)
+      where
+        given : InTurn turn (Applies n year o records) c → orderCode (orderComes t base n year o) ≡ c
+        given x =
+            let y = order-refused (λ z. order-exactly .0 z c (x .0)) in
+            one-in-turn n year o records apart (y .0) (x .0) (omega (arith, y .1 c (x .0), x .1 (orderCode (orderComes t base n year o)) (y .0)))
 
   -- A NOTICE on the body
   module _ (executing : Bool) (k : Key) (line : ℕ) where
@@ -127,8 +135,16 @@ module _ (t : List ℕ) (executing : Bool) (code : List ℕ) (k : Key) (line : �
       let x = comes-exactly t base n (slots t code e .valid) executing k line in
       (λ z. x .0 (sym code-is ∙ z), λ h. code-is ∙ x .1 h)
 
-  pub notice-refused : (noticeCodeOf a ≡ 0 → ⊥) → InTurn noticeTurn (NoticeApplies executing k line (recordsAt t base n)) (noticeCodeOf a)
+  notice-refused : (noticeCodeOf a ≡ 0 → ⊥) → InTurn noticeTurn (NoticeApplies executing k line (recordsAt t base n)) (noticeCodeOf a)
   notice-refused h = rw code-is (comes-refused t base n (slots t code e .valid) executing k line (noticeComes t base n executing k line) refl (λ z. h (code-is ∙ z)))
+
+  pub notice-answer : (c : ℕ) → (c ≡ 0 → ⊥) → Exactly (noticeCodeOf a ≡ c) (InTurn noticeTurn (NoticeApplies executing k line (recordsAt t base n)) c)
+  notice-answer c h = (λ q. subst (InTurn noticeTurn (NoticeApplies executing k line (recordsAt t base n))) q (notice-refused (λ z. h (sym q ∙ z))), given)
+    where
+      given : InTurn noticeTurn (NoticeApplies executing k line (recordsAt t base n)) c → noticeCodeOf a ≡ c
+      given x =
+          let y = notice-refused (λ z. notice-exactly .0 z c (x .0)) in
+          one-notice-in-turn executing k line (recordsAt t base n) (y .0) (x .0) (omega (arith, y .1 c (x .0), x .1 (noticeCodeOf a) (y .0)))
 
   pub no-such-key : Strange k → (a ≡ Declined 16) × (t′ ≡ t)
   unfolding noticeTableBy noticeComes judgeNotice noticeAt noticeStored

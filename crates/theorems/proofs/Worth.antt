@@ -26,7 +26,7 @@ use Rattle.ranges.specs.declared.Found.the-variants.{At}
 use Rattle.rules.specs.declared.Noticed.the-variants.{Moved}
 use Rattle.rules.specs.Rules.{anyExecuted, keyFor, nth, noRecord, eight, judgeOrder, written, lineMoves, movedTo, judgeNotice}
 use Rattle.rules.specs.Effects.{storedAt, recordsBy, allRecords, withState}
-use Rattle.rules.proofs.Judging.{Waits, Stands, inserting, varying, annulling, accepted, Moves, moved}
+use Rattle.rules.proofs.Judging.{Stands, inserting, varying, annulling, accepted, Moves, moved}
 use Rattle.rules.proofs.Kept.{waiting-all}
 use Rattle.service.proofs.Kept.{stored-end}
 use Rattle.theorems.specs.History.{Which, Value, worthIn, worth, ofKind, inCents, withKey, onLine}
