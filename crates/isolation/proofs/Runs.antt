@@ -82,25 +82,6 @@ module _ (M : Machine) (Good : M .State → Type 0) (laws : Laws M Good) where
       log-append M first (strays (M .who) cs) s
       ∙ ap₂ {C = List (Line M)} _++_ (bodies-log (M .count) (omega arith) cs s g) (sym (strays-log cs s (run M first s) g (good-run first s g)))
 
-  -- the same by the place of a call: c, called after `before` and before `after`, is answered as when it is served in its body's turn,
-  -- after every call of the bodies listed before b and after b's own earlier calls
-  pub in-turn : (fresh : M .State) → Good fresh → (before : List (M .Call)) (c : M .Call) (after : List (M .Call)) (b : ℕ) → M .who c ≡ some b
-      → M .answer c (run M before fresh) ≡ M .answer c (run M (bodies (M .who) b (before ++ c ∷ after) ++ mine (M .who) b before) fresh)
-  in-turn s g before c after b e =
-      let l = laws .named c b e in
-      let first = bodies (M .who) b (before ++ c ∷ after) in
-      let t = run M first s in
-      let h : Good t = good-run first s g in
-      let p : M .part b s ≡ M .part b t = sym (rw (mine-bodies-past (M .who) b b (omega arith) (before ++ c ∷ after)) at (alone first b l s s g g refl .1)) in
-      rw run-append (laws .own c (run M before s) (run M (mine (M .who) b before) t) b (good-run before s g) (good-run (mine (M .who) b before) t h) e
-      (alone before b l s t g h p .1) .0)
-
-  -- and as if the other bodies had never called
-  pub by-itself : (fresh : M .State) → Good fresh → (before : List (M .Call)) (c : M .Call) (b : ℕ) → M .who c ≡ some b
-      → M .answer c (run M before fresh) ≡ M .answer c (run M (mine (M .who) b before) fresh)
-  by-itself s g before c b e =
-      laws .own c (run M before s) (run M (mine (M .who) b before) s) b (good-run before s g) (good-run (mine (M .who) b before) s g) e (alone before b (laws .named c b e) s s g g refl .1) .0
-
   -- two sequences in which body b makes the same calls in the same order, whatever else they hold
   pub two-runs : (fresh : M .State) → Good fresh → (cs ds : List (M .Call)) (b : ℕ) → b < M .count → mine (M .who) b cs ≡ mine (M .who) b ds
       → (mine (whose M) b (log M cs fresh) ≡ mine (whose M) b (log M ds fresh)) × (M .part b (run M cs fresh) ≡ M .part b (run M ds fresh))
