@@ -25,7 +25,7 @@ use Rattle.opening.proofs.Laws.{length-part}
 use Rattle.rules.proofs.Kept.{split}
 use Rattle.service.proofs.Kept.{Kept}
 use Rattle.service.proofs.Own.{Ready}
-use Rattle.theorems.specs.Condition3.{owned, fixedBytes, unowned}
+use Rattle.theorems.specs.Engine.{owned, fixedBytes, unowned}
 
 pub record Good (t₀ t : List ℕ) : Type 0 where
   pub ok : tableOk t ≡ true

@@ -1,3 +1,6 @@
+pub mod Codes
+pub mod Accepted
+pub mod Condition2
 pub mod Good
 pub mod Named
 pub mod Steps
@@ -6,9 +9,6 @@ pub mod Worth
 pub mod Condition3
 pub mod History
 pub mod Marked
-pub mod Codes
-pub mod Accepted
 pub mod NoSecond
-pub mod Reordering
 pub mod Wrong
-pub mod Refusals
+pub mod Condition1

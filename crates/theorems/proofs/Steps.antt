@@ -6,7 +6,7 @@ use Prim.Native.Nat.{ℕ}
 use lib.ListN.{length}
 use Rattle.notices.specs.Notices.{noticeAnswer, noticeTable, totalsOf}
 use Rattle.desk.specs.Desk.{flowReads, flowAnswer, flowTable, flowOutcomes}
-use Rattle.theorems.specs.Condition3.{Call, flow, execute, reverse, totals, Answer, ofFlow, ofNotice, ofTotals, Step, Engine}
+use Rattle.theorems.specs.Engine.{Call, flow, execute, reverse, totals, Answer, ofFlow, ofNotice, ofTotals, Step, Engine}
 
 abbrev pub answer : Call → List ℕ → Answer
 answer (flow f out) t = ofFlow (flowAnswer t (flowReads t f (length out))) (flowOutcomes t out (flowReads t f (length out)))

@@ -13,7 +13,7 @@ use Rattle.flow.specs.Flow.{verdictOf, headerOf, flowOrders}
 use Rattle.service.specs.Service.{orderLeaves}
 use Rattle.desk.specs.declared.FlowAnswer.{FlowAnswer}
 use Rattle.desk.specs.Desk.{served, flowReads, FlowPromise, flowReply}
-use Rattle.theorems.specs.Codes.{zeroCodes}
+use Rattle.theorems.specs.Codes.{outcomeCodes, zeroCodes}
 
 pub record Taker : Type 0 where
   pub answer : List ℕ → List ℕ → List ℕ → FlowAnswer
@@ -50,7 +50,8 @@ pub record InventsAccepted (T : Taker) : Type 0 where
   pub flow : List ℕ
   pub lent : List ℕ
   pub taken : flowReply (T .answer table flow lent) .code ≡ 0
-  pub other : flowReply (T .answer table flow lent) .accepted ≡ zeroCodes (flowReply (T .answer table flow lent) .orders) (T .outcomes table flow lent) → ⊥
+  pub other : flowReply (T .answer table flow lent) .accepted
+      ≡ zeroCodes (outcomeCodes (flowReply (T .answer table flow lent) .orders) (T .outcomes table flow lent)) → ⊥
 
 -- tells `accepted` from the number of orders alone
 abbrev pub CountsOrders : Taker → Type 0
