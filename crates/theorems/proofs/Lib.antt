@@ -8,7 +8,5 @@ pub mod Calls
 pub mod Worth
 pub mod Condition3
 pub mod History
-pub mod Marked
 pub mod NoSecond
-pub mod Wrong
 pub mod Condition1

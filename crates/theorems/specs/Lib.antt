@@ -5,4 +5,3 @@ pub mod Condition1
 pub mod Condition2
 pub mod Condition3
 pub mod History
-pub mod Marked
