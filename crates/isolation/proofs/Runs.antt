@@ -1,13 +1,12 @@
 -- What the laws give of a run and its log. Assumes nothing.
 use mathlib.Core.Path.{_≡_, refl, sym, _∙_, ap, ap₂}
 use mathlib.Core.Bool.{Bool, true, false, true≢false}
-use mathlib.Core.Logic.{_≢_}
 use mathlib.Core.Option.{Option, none, some}
 use mathlib.Core.List.{List, [], _∷_, _++_}
 use Prim.Native.Nat.{ℕ, zero, suc, _<_, _≤_}
 use native.Mathlib.Omega.{arith}
-use Rattle.isolation.specs.Order.{is, nobody, mine, strays, bodies, inOrder}
-use Rattle.isolation.proofs.OrderLaws.{is-some, is-same, mine-inOrder, mine-bodies-past}
+use Rattle.isolation.specs.Order.{is, mine, strays, bodies, inOrder}
+use Rattle.isolation.proofs.OrderLaws.{is-some, is-same, mine-bodies-past}
 use Rattle.isolation.specs.Machine.{Machine, Laws, Line, whose, run, log}
 
 -- a sequence in two parts

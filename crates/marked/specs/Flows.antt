@@ -17,7 +17,9 @@ sampleTable = opened (requestOf 4)
 abbrev pub mandatoFor : String → String → String → List ℕ
 mandatoFor name operation number =
     bytes "<mandato><tipo_operazione>" ++ bytes operation ++ bytes "</tipo_operazione><numero_mandato>" ++ bytes number
-    ++ bytes "</numero_mandato><data_mandato>2021-03-01</data_mandato><importo_mandato>1.00</importo_mandato><informazioni_beneficiario><progressivo_beneficiario>1</progressivo_beneficiario><importo_beneficiario>1.00</importo_beneficiario><beneficiario><anagrafica_beneficiario>"
+    ++ bytes "</numero_mandato><data_mandato>2021-03-01</data_mandato><importo_mandato>1.00</importo_mandato>"
+    ++ bytes "<informazioni_beneficiario><progressivo_beneficiario>1</progressivo_beneficiario><importo_beneficiario>1.00</importo_beneficiario>"
+    ++ bytes "<beneficiario><anagrafica_beneficiario>"
     ++ bytes name ++ bytes "</anagrafica_beneficiario></beneficiario></informazioni_beneficiario></mandato>"
 
 abbrev pub mandato : String → String → List ℕ
@@ -26,7 +28,8 @@ mandato = mandatoFor "R"
 -- a flow of 2021 with orders for the body with this code
 abbrev pub flowOf : String → List ℕ → List ℕ
 flowOf code orders =
-    bytes "<flusso_ordinativi><codice_ABI_BT>01234</codice_ABI_BT><identificativo_flusso>A</identificativo_flusso><data_ora_creazione_flusso>2021-03-01T09:30:00</data_ora_creazione_flusso><codice_ente_BT>"
+    bytes "<flusso_ordinativi><codice_ABI_BT>01234</codice_ABI_BT><identificativo_flusso>A</identificativo_flusso>"
+    ++ bytes "<data_ora_creazione_flusso>2021-03-01T09:30:00</data_ora_creazione_flusso><codice_ente_BT>"
     ++ bytes code ++ bytes "</codice_ente_BT><esercizio>2021</esercizio>" ++ orders ++ bytes "</flusso_ordinativi>"
 
 -- mandato 1 inserted

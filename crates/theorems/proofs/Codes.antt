@@ -2,7 +2,7 @@
 use Prim.Native.Nat.{ℕ, zero, suc, _-_}
 use mathlib.Core.Path.{_≡_, refl, sym, ap, _∙_}
 use mathlib.Core.Bool.{Bool, true, false, cond, _&&_, _||_}
-use mathlib.Core.List.{List, _∷_, _++_}
+use mathlib.Core.List.{List, _∷_}
 use mathlib.Core.Logic.{_⊎_, inl, inr}
 use native.Mathlib.Omega.{arith}
 use lib.Dec.{eqb, leb, ltb}
@@ -24,12 +24,12 @@ use Rattle.rules.specs.declared.Judged.the-variants.{Accepted, Refused}
 use Rattle.rules.specs.declared.Noticed.{Noticed}
 use Rattle.rules.specs.declared.Noticed.the-variants.{Moved, Unmoved}
 use Rattle.rules.specs.Rules.{situationOf, stepOf, nth, sameOrder, placed, unless, stepped, sostituzione, keyFor, judgeOrder, codeOf, lineMoves, moveOr, noticeIn, noticeAt, judgeNotice, noticeCode}
-use Rattle.service.specs.Service.{orderComes, noticeComes}
+use Rattle.service.specs.Service.{noticeComes}
 use Rattle.notices.specs.declared.Addressed.{Addressed}
 use Rattle.notices.specs.declared.Addressed.the-variants.{Invalid, Unknown, Body}
 use Rattle.notices.specs.declared.NoticeAnswer.{NoticeAnswer}
 use Rattle.notices.specs.declared.TotalsAnswer.{TotalsAnswer}
-use Rattle.notices.specs.Notices.{noticed, addressed, noticeBy, noticeCodeOf, NoticePromise, bodyTotals, totalsBy, totalsOf, TotalsPromise}
+use Rattle.notices.specs.Notices.{noticed, addressed, noticeBy, noticeCodeOf, bodyTotals, totalsBy, totalsOf}
 use Rattle.opening.specs.declared.Opened.{Opened}
 use Rattle.opening.specs.declared.Opened.the-variants.{Open, WrongRequest, WrongLength}
 use Rattle.opening.specs.Opening.{openCode}

@@ -4,12 +4,11 @@ use lib.IntN.{pos, _-ℤ_}
 use mathlib.Core.Path.{_≡_, refl, sym, ap, _∙_, subst}
 use mathlib.Core.Bool.{Bool, true}
 use mathlib.Core.Logic.{_⊎_, inl, inr}
-use mathlib.Core.List.{List, [], _∷_}
+use mathlib.Core.List.{List}
 use native.Mathlib.Omega.{arith}
 use Rattle.ranges.specs.declared.Found.{Found}
 use Rattle.ranges.specs.declared.Found.the-variants.{At, Nothing}
 use Rattle.record.specs.declared.Key.{Key}
-use Rattle.record.specs.declared.Record.{Record}
 use Rattle.record.specs.Slot.{keyOf}
 use Rattle.valid.proofs.Valid.{Valid, ok-bounds}
 use Rattle.slots.specs.Slots.{recordsAt, findIn}

@@ -1,5 +1,5 @@
 -- CONDITION 3, proved: the laws of isolation hold of every engine that keeps the promises, since each call is one body's or none's (Calls).
-use Prim.Native.Nat.{ℕ, _<_}
+use Prim.Native.Nat.{ℕ}
 use mathlib.Core.Path.{_≡_, refl, sym, ap, _∙_, subst}
 use mathlib.Core.Bool.{Bool, true, false, cond, false≢true}
 use mathlib.Core.Option.{Option, none, some}

@@ -6,22 +6,20 @@ use mathlib.Core.Logic.{_⊎_, inl, inr}
 use mathlib.Core.Option.{Option, none, some}
 use mathlib.Core.List.{List, []}
 use native.Mathlib.Omega.{arith}
-use Rattle.ranges.specs.declared.Found.the-variants.{At}
 use Rattle.ranges.proofs.Laws.{get-zeros}
 use Rattle.record.specs.declared.Key.{Key}
 use Rattle.record.specs.declared.Record.{Record}
 use Rattle.record.specs.Slot.{slotSize}
-use Rattle.slots.specs.Slots.{recordsAt, findIn, distinct}
+use Rattle.slots.specs.Slots.{recordsAt, distinct}
 use Rattle.body.specs.Body.{bodyOk, centsOf}
 use Rattle.body.proofs.Same.{records-agree}
 use Rattle.body.proofs.Slots.{parts, empty-records}
-use Rattle.valid.proofs.Valid.{Valid}
 use Rattle.entries.specs.Entry.{slotsOf, placeOf}
 use Rattle.table.specs.Table.{bodies, tableOk, bodyOf, entryOf}
 use Rattle.order.specs.declared.Order.{Order}
 use Rattle.rules.specs.declared.Noticed.{Noticed}
 use Rattle.rules.specs.declared.Noticed.the-variants.{Moved, Unmoved}
-use Rattle.rules.specs.Rules.{nth, judgeNotice}
+use Rattle.rules.specs.Rules.{judgeNotice}
 use Rattle.rules.proofs.Judging.{moved}
 use Rattle.service.specs.Service.{noticeComes}
 use Rattle.service.proofs.Kept.{allRecords, all-records}

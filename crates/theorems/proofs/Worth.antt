@@ -5,7 +5,7 @@ use mathlib.Core.Path.{_≡_, refl, sym, ap, _∙_}
 use mathlib.Core.Bool.{Bool, true, false, cond, _||_}
 use mathlib.Core.List.{List, [], _∷_, _++_}
 use native.Mathlib.Omega.{arith}
-use lib.ListN.{length, getD, set, take, drop, drop-of-length-le}
+use lib.ListN.{length, getD, set, drop-of-length-le}
 use lib.Seq.{set-split, take-all}
 use lib.Dec.{eqb, ltb}
 use borrow.Author.Tests.{eqb-true, ne-eqb}
@@ -24,7 +24,7 @@ use Rattle.rules.specs.declared.Judged.the-variants.{Accepted, Refused}
 use Rattle.ranges.specs.declared.Found.the-variants.{At}
 use Rattle.rules.specs.declared.Noticed.the-variants.{Moved}
 use Rattle.rules.specs.Rules.{waitingFor, waiting, anyExecuted, keyFor, nth, noRecord, judgeOrder, written, lineMoves, movedTo, judgeNotice}
-use Rattle.rules.proofs.Judging.{Waits, Stands, inserting, varying, annulling, accepted, Moves, moved}
+use Rattle.rules.proofs.Judging.{Stands, inserting, varying, annulling, accepted, Moves, moved}
 use Rattle.rules.proofs.Kept.{withState}
 use Rattle.service.proofs.Kept.{storedAt, recordsBy, allRecords}
 use Rattle.theorems.specs.History.{Which, Value, worthIn, worth, ofKind, itsCents, withKey, onLine}

@@ -1,17 +1,17 @@
 -- CONDITION 3 of the tender letter, of every engine that keeps the calls' promises, "under the rules of condition 2". Proved: `condition3 : FromValid`,
--- `condition3-opened : FromOpening`. "Reason: this is the defect we had."
+-- `condition3-opened : FromOpening`, `any-run : AnyRun`, and that there is such an engine: `ours : Engine`. "Reason: this is the defect we had."
 use Prim.Native.Nat.{ℕ, _<_}
 use mathlib.Core.Path.{_≡_}
 use mathlib.Core.Bool.{true}
 use mathlib.Core.Option.{none, some}
-use mathlib.Core.List.{List}
+use mathlib.Core.List.{List, map}
 use Rattle.entries.specs.Entry.{codeAt}
 use Rattle.table.specs.Table.{bodies, tableOk, entryOf}
 use Rattle.opening.specs.declared.Opened.the-variants.{Open}
 use Rattle.opening.specs.Opening.{OpenPromise}
 use Rattle.isolation.specs.Order.{mine, strays, inOrder}
-use Rattle.isolation.specs.Machine.{Isolated}
-use Rattle.theorems.specs.Engine.{Call, Engine, answerCode, names, who, machine, tableAfter}
+use Rattle.isolation.specs.Machine.{Isolated, log}
+use Rattle.theorems.specs.Engine.{Call, Answer, Engine, Happens, answerCode, names, who, machine, tableAfter}
 use Rattle.theorems.specs.Codes.{oneOf, strayCodes, bodyCodes}
 
 -- of the engine E, for "any sequence of flows, notices and totals calls" from the table t₀ on
@@ -33,6 +33,11 @@ pub record Condition3 (E : Engine) (t₀ : List ℕ) : Type 0 where
   -- the table is valid after any calls, so that none is ever answered 1
   pub valid : (cs : List Call) → tableOk (tableAfter E t₀ cs) ≡ true
   pub never-invalid : (cs : List Call) (c : Call) → answerCode (E .answer c (tableAfter E t₀ cs)) ≡ 1 → ⊥
+
+-- An engine leaves nothing out: whatever happens by the promises is what each engine does
+abbrev pub AnyRun : Type 0
+AnyRun = (E : Engine) (t₀ u : List ℕ) (ls : List (Call × Answer)) → Happens t₀ ls u
+    → (log (machine E t₀) (map (λ l. l .0) ls) t₀ ≡ ls) × (tableAfter E t₀ (map (λ l. l .0) ls) ≡ u)
 
 -- from any valid table on
 abbrev pub FromValid : Type 0

@@ -55,6 +55,11 @@ pub record Engine : Type 0 where
   pub next : Call → List ℕ → List ℕ
   pub keeps : (c : Call) (t : List ℕ) → Step c t (answer c t) (next c t)
 
+-- WHAT MAY HAPPEN from a table on: a log of calls with their answers, and the table in the end, each step as its call promises
+pub data Happens : List ℕ → List (Call × Answer) → List ℕ → Type 0 where
+  nothing : (t : List ℕ) → Happens t [] t
+  step : {t t′ u : List ℕ} {c : Call} {a : Answer} {ls : List (Call × Answer)} → Step c t a t′ → Happens t′ ls u → Happens t ((c, a) ∷ ls) u
+
 -- an answer's code
 abbrev pub answerCode : Answer → ℕ
 answerCode (ofFlow a out) = flowCode a

@@ -1,5 +1,4 @@
 -- WHAT THE RULES GIVE for the witnesses on document 01's table of 848 bytes and on those that orders leave: all that is computed, in one place.
-use Prim.Native.Nat.{ℕ}
 use mathlib.Core.Path.{_≡_, refl, _∙_}
 use mathlib.Core.Bool.{true}
 use mathlib.Core.List.{List, [], _∷_}
@@ -7,9 +6,8 @@ use lib.ListN.{getD}
 use Rattle.codes.specs.declared.Operation.the-variants.{Variazione, Annullo}
 use Rattle.scan.specs.Bytes.{bytes, part, isLetter, isDigit, isAlnum, all, startsWith, hasAt, textIs}
 use Rattle.words.specs.Numbers.{put, be2, be4, be8}
-use Rattle.digits.specs.declared.Number.the-variants.{Value}
 use Rattle.ranges.specs.declared.Found.the-variants.{At}
-use Rattle.table.specs.Table.{bodies, bodyOf, entryOf, headOk, entryOk, layoutOk, bodiesOk, tableOk}
+use Rattle.table.specs.Table.{bodies, entryOf, headOk, entryOk, layoutOk, bodiesOk, tableOk}
 use Rattle.order.specs.declared.Order.{Order}
 use Rattle.rules.specs.declared.Judged.the-variants.{Accepted}
 use Rattle.rules.specs.declared.Situation.the-variants.{Waiting}

@@ -1,7 +1,7 @@
 -- WHAT CONDITION 3 RULES OUT, of engines that serve orders, each for a body, on the table's bytes: "no slot" for another body's full slots, a record
 -- written over a neighbour's, and a mark left where no body owns the byte. The rules' own engine passes where those fail.
 use Prim.Native.Nat.{ℕ, _+_, _*_}
-use mathlib.Core.Path.{_≡_, refl, sym, ap, _∙_}
+use mathlib.Core.Path.{_≡_, refl, ap}
 use mathlib.Core.Bool.{Bool, cond, _||_}
 use mathlib.Core.Option.{none, some}
 use mathlib.Core.List.{List, [], _∷_, map}
@@ -22,7 +22,7 @@ use Rattle.rules.specs.declared.Judged.the-variants.{Refused}
 use Rattle.lines.specs.Lines.{numberedFrom, sumOf, lineCode}
 use Rattle.rules.specs.Rules.{codeOf, amountsOf, anyExecuted, situationIn, situationOf, placed, stepped, judgeOrder, written}
 use Rattle.service.specs.Service.{orderComes, orderStored, orderLeaves}
-use Rattle.isolation.specs.Machine.{Machine, Isolated, Line, whose, run, log}
+use Rattle.isolation.specs.Machine.{Machine, Isolated, whose, run, log}
 use Rattle.isolation.specs.Order.{mine}
 use Rattle.witness.specs.Flows.{small, order}
 

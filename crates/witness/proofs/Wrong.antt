@@ -8,9 +8,7 @@ use lib.ListN.{length, getD, replicate}
 use Rattle.scan.specs.Bytes.{bytes, part}
 use Rattle.record.specs.Slot.{recordAt}
 use Rattle.orders.specs.Orders.{Header}
-use Rattle.opening.specs.declared.Opened.{Opened}
 use Rattle.opening.specs.Opening.{openCode}
-use Rattle.notices.specs.declared.NoticeAnswer.{NoticeAnswer}
 use Rattle.notices.specs.declared.TotalsAnswer.{TotalsAnswer}
 use Rattle.notices.specs.Notices.{noticeCodeOf}
 use Rattle.desk.specs.declared.FlowAnswer.{FlowAnswer}

@@ -1,7 +1,7 @@
 -- Flows for document 01's table (bodies 000471 and 471), as bytes; what they are to be read as; and the tables that orders leave.
 use Prim.Native.Nat.{ℕ}
 use Prim.Native.String.{String}
-use mathlib.Core.List.{List, [], _∷_, _++_}
+use mathlib.Core.List.{List, _∷_, _++_}
 use lib.ListN.{replicate}
 use Rattle.scan.specs.Bytes.{bytes}
 use Rattle.codes.specs.declared.Operation.{Operation}
