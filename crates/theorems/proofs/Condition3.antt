@@ -13,15 +13,16 @@ use Rattle.ranges.specs.declared.Found.the-variants.{At, Nothing}
 use Rattle.table.specs.Table.{bodies, tableOk, bodyOf}
 use Rattle.table.proofs.Bodies.{own-body, body-code as code-of-body}
 use Rattle.request.specs.Request.{requestOk, needed}
+use Rattle.opening.specs.declared.Opened.{Opened}
 use Rattle.opening.specs.declared.Opened.the-variants.{Open, WrongRequest, WrongLength}
-use Rattle.opening.specs.Opening.{openOf, OpenPromise}
+use Rattle.opening.specs.Opening.{opened, openOf, openCode, openTable, OpenReplies}
 use Rattle.opening.proofs.Valid.{opened-valid}
 use Rattle.flow.specs.declared.Verdict.{Verdict}
 use Rattle.flow.specs.declared.Verdict.the-variants.{MarkupBreaks, StructureBreaks, FieldBreaks, Stands}
 use Rattle.flow.specs.Flow.{verdictOf, headerOf}
 use Rattle.desk.specs.Desk.{maxFlow}
 use Rattle.isolation.specs.Machine.{Laws}
-use Rattle.isolation.proofs.OrderLaws.{mine-inOrder, strays-inOrder}
+use Rattle.isolation.proofs.OrderLaws.{mine-by-body, strays-by-body}
 use Rattle.isolation.proofs.Runs.{good-run}
 use Rattle.isolation.proofs.Isolated.{isolated}
 use Rattle.theorems.specs.Engine.{Call, flow, execute, reverse, totals, Answer, Engine, answerCode, namesIn, names, bodyNamed, position, who, machine, tableAfter}
@@ -118,8 +119,8 @@ found-at Nothing b e = absurd (let z : _≡_ {A = ℕ} 0 1 = cc in omega arith)
 pub condition3 : FromValid
 condition3 E t₀ r = record {
   isolated = isolated (machine E t₀) (Good t₀) (laws E t₀ r) t₀ (fresh t₀ r);
-  bodies-kept = λ cs b h. mine-inOrder (who t₀) b (bodies t₀) h cs;
-  strays-kept = λ cs. strays-inOrder (who t₀) (bodies t₀) cs;
+  bodies-kept = λ cs b h. mine-by-body (who t₀) b (bodies t₀) h cs;
+  strays-kept = λ cs. strays-by-body (who t₀) (bodies t₀) cs;
   own-code = λ c b h e. ap (position t₀) e ∙ ap bodyNamed (own-body t₀ r b h);
   one-code = λ c b code e w. sym (code-of-body t₀ r code b (found-at (bodyOf t₀ code) b (sym (ap (position t₀) e) ∙ w)));
   who-stays = λ cs c. ap (position (tableAfter E t₀ cs)) (named E t₀ r cs c) ∙ placed E t₀ r cs (names t₀ c);
@@ -129,7 +130,7 @@ condition3 E t₀ r = record {
   never-invalid = never-invalid E t₀ r;
 }
 
--- FROM OPENING ON: the same of any buffer that a call keeping opening's promise left with the answer 0
+-- FROM OPENING ON: a buffer that opening answered 0 for is the opened table of a right request
 right-request : (q : List ℕ) (n : ℕ) → openOf q n ≡ Open → requestOk q ≡ true
 unfolding openOf
 right-request q n = go (requestOk q) (eqb n (needed q)) refl
@@ -138,11 +139,20 @@ right-request q n = go (requestOk q) (eqb n (needed q)) refl
     go true v e z = e
     go false v e z = absurd (let y : _≡_ {A = ℕ} 0 1 = cc in omega arith)
 
-pub open-request : (q t t₀ : List ℕ) → OpenPromise q t Open t₀ → requestOk q ≡ true
-open-request q t t₀ p = right-request q (length t) (sym (p .0))
+pub record OpenedBy (q t₀ : List ℕ) : Type 0 where
+  pub right : requestOk q ≡ true
+  pub filled : t₀ ≡ opened q
 
-pub open-valid : (q t t₀ : List ℕ) → OpenPromise q t Open t₀ → tableOk t₀ ≡ true
-open-valid q t t₀ p = ap tableOk (p .1) ∙ opened-valid q (open-request q t t₀ p)
+pub answered-0 : (q t t₀ : List ℕ) → OpenReplies q t 0 t₀ → OpenedBy q t₀
+answered-0 q t t₀ p = go (p .0) (p .1 .0) (p .1 .1) (p .2)
+  where
+    go : (a : Opened) → a ≡ openOf q (length t) → t₀ ≡ openTable a q t → 0 ≡ openCode a → OpenedBy q t₀
+    go Open e d z = record { right = right-request q (length t) (sym e); filled = d }
+    go WrongRequest e d z = absurd (omega arith)
+    go WrongLength e d z = absurd (omega arith)
+
+pub open-valid : (q t₀ : List ℕ) → OpenedBy q t₀ → tableOk t₀ ≡ true
+open-valid q t₀ f = ap tableOk (f .filled) ∙ opened-valid q (f .right)
 
 pub condition3-opened : FromOpening
-condition3-opened E q t t₀ p = condition3 E t₀ (open-valid q t t₀ p)
+condition3-opened E q t t₀ p = condition3 E t₀ (open-valid q t₀ (answered-0 q t t₀ p))

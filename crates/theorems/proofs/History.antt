@@ -26,8 +26,7 @@ use Rattle.service.proofs.Kept.{allRecords, all-records}
 use Rattle.service.proofs.Moved.{recordsMoved, notice-records}
 use Rattle.notices.specs.Notices.{noticed, noticeBy, noticeTableBy}
 use Rattle.request.specs.Request.{requestOk}
-use Rattle.opening.specs.declared.Opened.the-variants.{Open}
-use Rattle.opening.specs.Opening.{opened, OpenPromise}
+use Rattle.opening.specs.Opening.{opened}
 use Rattle.opening.proofs.Valid.{opened-valid, opened-bodies, past}
 use Rattle.isolation.proofs.Runs.{good-run}
 use Rattle.isolation.proofs.History.{balance}
@@ -37,7 +36,7 @@ use Rattle.theorems.proofs.Steps.{answer, after, one-step}
 use Rattle.theorems.proofs.Good.{Good, fresh, base, size, inside, find-is, place-is, slots-is, ready, owned-alike}
 use Rattle.theorems.proofs.Named.{Names, stray, body, names, Reads, refuses, shuts, serves, reads}
 use Rattle.theorems.proofs.Condition2.{condition2, found-valid}
-use Rattle.theorems.proofs.Condition3.{laws, found-at, open-request, open-valid}
+use Rattle.theorems.proofs.Condition3.{laws, found-at, OpenedBy, answered-0, open-valid}
 use Rattle.theorems.proofs.Worth.{orders-worth, execute-worth, reverse-worth, cents-worth, one-most}
 
 -- THE TABLE AFTER THE CALLS
@@ -162,7 +161,7 @@ history E t₀ r b l cs = record {
         → worth p v (recordsOf b (tableAfter E t₀ cs)) + reversals (weight p v) (logOf E t₀ b cs) ≡ worth p v (recordsOf b t₀) + executions (weight p v) (logOf E t₀ b cs)
     worths p v = balances t₀ r (weight p v) (worth p v) (worth-weighs p v) E b l cs
 
--- FROM OPENING ON: t₀ is a buffer that a call keeping opening's promise left with the answer 0
+-- FROM OPENING ON
 empty : (q : List ℕ) → requestOk q ≡ true → (b : ℕ) → b < bodies (opened q) → recordsOf b (opened q) ≡ []
 empty q ok b l =
     let i = inside (opened q) (opened-valid q ok) b l .0 in
@@ -171,8 +170,8 @@ empty q ok b l =
     let m = slotsOf (opened q) (entryOf b) in
     empty-records (opened q) at m (get-zeros (opened q) at (at + slotSize * m) (λ j x y. past q ok j (omega arith)))
 
-none-yet : (q t t₀ : List ℕ) → OpenPromise q t Open t₀ → (b : ℕ) → b < bodies t₀ → recordsOf b t₀ ≡ []
-none-yet q t t₀ p b l = ap (recordsOf b) (p .1) ∙ empty q (open-request q t t₀ p) b (subst (λ (x : List ℕ). b < bodies x) (p .1) l)
+none-yet : (q t₀ : List ℕ) → OpenedBy q t₀ → (b : ℕ) → b < bodies t₀ → recordsOf b t₀ ≡ []
+none-yet q t₀ f b l = ap (recordsOf b) (f .filled) ∙ empty q (f .right) b (subst (λ (x : List ℕ). b < bodies x) (f .filled) l)
 
 -- a number that starts at 0 and ends at 0 or 1
 nought-or-one : (n start gains losses : ℕ) → n ≤ 1 → start ≡ 0 → n + losses ≡ start + gains → (gains ≡ losses) ⊎ (gains ≡ losses + 1)
@@ -195,10 +194,10 @@ history-opened E q t t₀ p b l cs = record {
 }
   where
     H : History E t₀ b cs
-    H = history E t₀ (open-valid q t t₀ p) b l cs
+    H = history E t₀ (open-valid q t₀ (answered-0 q t t₀ p)) b l cs
 
     none : recordsOf b t₀ ≡ []
-    none = none-yet q t t₀ p b l
+    none = none-yet q t₀ (answered-0 q t t₀ p) b l
 
     cash-opened : (kind : ℕ) → centsOf kind (recordsOf b (tableAfter E t₀ cs)) + reversals (cash kind) (logOf E t₀ b cs) ≡ executions (cash kind) (logOf E t₀ b cs)
     cash-opened kind =

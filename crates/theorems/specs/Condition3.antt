@@ -7,9 +7,8 @@ use mathlib.Core.Option.{none, some}
 use mathlib.Core.List.{List, map}
 use Rattle.entries.specs.Entry.{codeAt}
 use Rattle.table.specs.Table.{bodies, tableOk, entryOf}
-use Rattle.opening.specs.declared.Opened.the-variants.{Open}
-use Rattle.opening.specs.Opening.{OpenPromise}
-use Rattle.isolation.specs.Order.{mine, strays, inOrder}
+use Rattle.opening.specs.Opening.{OpenReplies}
+use Rattle.isolation.specs.Order.{mine, strays, bodyByBody}
 use Rattle.isolation.specs.Machine.{Isolated, log}
 use Rattle.theorems.specs.Engine.{Call, Answer, Engine, Happens, answerCode, names, who, machine, tableAfter}
 use Rattle.theorems.specs.Codes.{oneOf, strayCodes, bodyCodes}
@@ -17,12 +16,12 @@ use Rattle.theorems.specs.Codes.{oneOf, strayCodes, bodyCodes}
 -- of the engine E, for "any sequence of flows, notices and totals calls" from the table t₀ on
 pub record Condition3 (E : Engine) (t₀ : List ℕ) : Type 0 where
   -- "Every answer, every outcome byte and the final table are those of serving the bodies one after another in contents order, each with its own calls
-  -- in their own order. Each body's answers and records are also those it would get had the other bodies never called. A call that names no body of the
+  -- in their own order .. Each body's answers and records are also those it would get had the other bodies never called. A call that names no body of the
   -- table changes nothing, and its answer is the same at any moment": `answers`, `final`, `alone-answers`, `alone-records`, `stray-state`, `stray-answer`
   pub isolated : Isolated (machine E t₀) t₀
   -- that order loses, doubles and invents no call: each body's calls, and those that name no body, are the same, in the same order
-  pub bodies-kept : (cs : List Call) (b : ℕ) → b < bodies t₀ → mine (who t₀) b (inOrder (who t₀) (bodies t₀) cs) ≡ mine (who t₀) b cs
-  pub strays-kept : (cs : List Call) → strays (who t₀) (inOrder (who t₀) (bodies t₀) cs) ≡ strays (who t₀) cs
+  pub bodies-kept : (cs : List Call) (b : ℕ) → b < bodies t₀ → mine (who t₀) b (bodyByBody (who t₀) (bodies t₀) cs) ≡ mine (who t₀) b cs
+  pub strays-kept : (cs : List Call) → strays (who t₀) (bodyByBody (who t₀) (bodies t₀) cs) ≡ strays (who t₀) cs
   -- a body's own code names it, no other code does, and whom a call names is the same read from the table at any moment
   pub own-code : (c : Call) (b : ℕ) → b < bodies t₀ → names t₀ c ≡ some (codeAt t₀ (entryOf b)) → who t₀ c ≡ some b
   pub one-code : (c : Call) (b : ℕ) (code : List ℕ) → names t₀ c ≡ some code → who t₀ c ≡ some b → code ≡ codeAt t₀ (entryOf b)
@@ -45,4 +44,4 @@ FromValid = (E : Engine) (t₀ : List ℕ) → tableOk t₀ ≡ true → Conditi
 
 -- "Take a freshly opened table": any buffer that opening answered 0 for
 abbrev pub FromOpening : Type 0
-FromOpening = (E : Engine) (q t t₀ : List ℕ) → OpenPromise q t Open t₀ → Condition3 E t₀
+FromOpening = (E : Engine) (q t t₀ : List ℕ) → OpenReplies q t 0 t₀ → Condition3 E t₀

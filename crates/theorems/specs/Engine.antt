@@ -24,7 +24,7 @@ use Rattle.notices.specs.declared.TotalsAnswer.{TotalsAnswer}
 use Rattle.notices.specs.Notices.{NoticePromise, noticeCodeOf, TotalsPromise}
 use Rattle.desk.specs.declared.FlowAnswer.{FlowAnswer}
 use Rattle.desk.specs.Desk.{maxFlow, FlowPromise, flowCode}
-use Rattle.isolation.specs.Machine.{Machine, run}
+use Rattle.isolation.specs.Machine.{Machine, stateAfter}
 
 -- THE CALLS
 pub data Call : Type 0 where
@@ -138,4 +138,4 @@ machine E t₀ = record {
 
 -- the table after the calls cs
 abbrev pub tableAfter : Engine → List ℕ → List Call → List ℕ
-tableAfter E t₀ cs = run (machine E t₀) cs t₀
+tableAfter E t₀ cs = stateAfter (machine E t₀) cs t₀

@@ -15,8 +15,7 @@ use Rattle.notices.specs.declared.NoticeAnswer.{NoticeAnswer}
 use Rattle.notices.specs.declared.NoticeAnswer.the-variants.{InvalidTable, UnknownBody, Done, Declined}
 use Rattle.notices.specs.declared.TotalsAnswer.{TotalsAnswer}
 use Rattle.notices.specs.Notices.{TotalsPromise}
-use Rattle.opening.specs.declared.Opened.the-variants.{Open}
-use Rattle.opening.specs.Opening.{OpenPromise}
+use Rattle.opening.specs.Opening.{OpenReplies}
 use Rattle.isolation.specs.Order.{mine}
 use Rattle.isolation.specs.Machine.{whose, log}
 use Rattle.isolation.specs.Tally.{tally}
@@ -136,4 +135,4 @@ HistoryValid = (E : Engine) (t₀ : List ℕ) → tableOk t₀ ≡ true → (b :
 
 -- from any buffer that opening answered 0 for
 abbrev pub HistoryOpened : Type 0
-HistoryOpened = (E : Engine) (q t t₀ : List ℕ) → OpenPromise q t Open t₀ → (b : ℕ) → b < bodies t₀ → (cs : List Call) → Fresh E t₀ b cs
+HistoryOpened = (E : Engine) (q t t₀ : List ℕ) → OpenReplies q t 0 t₀ → (b : ℕ) → b < bodies t₀ → (cs : List Call) → Fresh E t₀ b cs

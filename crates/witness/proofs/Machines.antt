@@ -22,7 +22,7 @@ use Rattle.rules.specs.declared.Judged.the-variants.{Refused}
 use Rattle.lines.specs.Lines.{numberedFrom, sumOf, lineCode}
 use Rattle.rules.specs.Rules.{codeOf, amountsOf, anyExecuted, situationIn, situationOf, placed, stepped, judgeOrder, written}
 use Rattle.service.specs.Service.{orderComes, orderStored, orderLeaves}
-use Rattle.isolation.specs.Machine.{Machine, Isolated, whose, run, log}
+use Rattle.isolation.specs.Machine.{Machine, Isolated, whose, stateAfter, log}
 use Rattle.isolation.specs.Order.{mine}
 use Rattle.witness.specs.Flows.{small, order}
 
@@ -92,13 +92,13 @@ told ls = getD (map (λ l. l .1) ls) 0 99
 pub record Facts : Type 0 where
   pub crowded-all : told (mine (whose crowded) 1 (log crowded each small)) ≡ 15
   pub crowded-alone : told (log crowded (mine (crowded .who) 1 each) small) ≡ 0
-  pub spilling-all : getD (spilling .part 1 (run spilling twice small)) 0 99 ≡ 1
-  pub spilling-alone : getD (spilling .part 1 (run spilling (mine (spilling .who) 1 twice) small)) 0 99 ≡ 0
-  pub stamping-after : getD (stamping .rest (run stamping once small)) 15 99 ≡ 1
+  pub spilling-all : getD (spilling .part 1 (stateAfter spilling twice small)) 0 99 ≡ 1
+  pub spilling-alone : getD (spilling .part 1 (stateAfter spilling (mine (spilling .who) 1 twice) small)) 0 99 ≡ 0
+  pub stamping-after : getD (stamping .rest (stateAfter stamping once small)) 15 99 ≡ 1
   pub stamping-before : getD (stamping .rest small) 15 99 ≡ 0
   pub right-answers : mine (whose right) 1 (log right each small) ≡ log right (mine (right .who) 1 each) small
-  pub right-records : right .part 1 (run right twice small) ≡ right .part 1 (run right (mine (right .who) 1 twice) small)
-  pub right-rest : right .rest (run right once small) ≡ right .rest small
+  pub right-records : right .part 1 (stateAfter right twice small) ≡ right .part 1 (stateAfter right (mine (right .who) 1 twice) small)
+  pub right-rest : right .rest (stateAfter right once small) ≡ right .rest small
 
 pub facts : Facts
 unfolding be2 be4 be8 put recordAt flat8 recordBytes keyIs usedAt slotsAt findIn slotsOf placeOf asked slotsAsked needed headBytes entryBytes entriesBytes opened numberedFrom sumOf lineCode amountsOf anyExecuted situationIn situationOf placed stepped judgeOrder written orderComes orderStored
