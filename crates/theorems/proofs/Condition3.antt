@@ -25,7 +25,7 @@ use Rattle.isolation.specs.Machine.{Laws}
 use Rattle.isolation.proofs.OrderLaws.{mine-by-body, strays-by-body}
 use Rattle.isolation.proofs.Runs.{good-run}
 use Rattle.isolation.proofs.Isolated.{isolated}
-use Rattle.theorems.specs.Engine.{Call, flow, execute, reverse, totals, Answer, Engine, answerCode, namesIn, names, bodyNamed, position, who, machine, tableAfter}
+use Rattle.theorems.specs.Engine.{Call, flow, execute, reverse, totals, Answer, Engine, answerCode, namesIn, names, whichBody, position, who, machine, tableAfter}
 use Rattle.theorems.specs.Condition3.{FromValid, FromOpening}
 use Rattle.theorems.specs.Codes.{oneOf, strayCodes, bodyCodes}
 use Rattle.theorems.proofs.Steps.{answer, after, one-step}
@@ -108,10 +108,10 @@ module _ (E : Engine) (t₀ : List ℕ) (r : tableOk t₀ ≡ true) where
 
     placed : (x : Option (List ℕ)) → position now x ≡ position t₀ x
     placed none = refl
-    placed (some code) = ap bodyNamed (find-is t₀ r now good code)
+    placed (some code) = ap whichBody (find-is t₀ r now good code)
 
 -- a body by its code
-pub found-at : (x : Found) (b : ℕ) → bodyNamed x ≡ some b → x ≡ At b
+pub found-at : (x : Found) (b : ℕ) → whichBody x ≡ some b → x ≡ At b
 found-at (At a) b e = cc
 found-at Nothing b e = absurd (let z : _≡_ {A = ℕ} 0 1 = cc in omega arith)
 
@@ -121,7 +121,7 @@ condition3 E t₀ r = record {
   isolated = isolated (machine E t₀) (Good t₀) (laws E t₀ r) t₀ (fresh t₀ r);
   bodies-kept = λ cs b h. mine-by-body (who t₀) b (bodies t₀) h cs;
   strays-kept = λ cs. strays-by-body (who t₀) (bodies t₀) cs;
-  own-code = λ c b h e. ap (position t₀) e ∙ ap bodyNamed (own-body t₀ r b h);
+  own-code = λ c b h e. ap (position t₀) e ∙ ap whichBody (own-body t₀ r b h);
   one-code = λ c b code e w. sym (code-of-body t₀ r code b (found-at (bodyOf t₀ code) b (sym (ap (position t₀) e) ∙ w)));
   who-stays = λ cs c. ap (position (tableAfter E t₀ cs)) (named E t₀ r cs c) ∙ placed E t₀ r cs (names t₀ c);
   stray-code = stray-code E t₀ r;

@@ -27,7 +27,7 @@ use Rattle.notices.specs.Notices.{bodyAt, addressed}
 use Rattle.desk.specs.declared.FlowAnswer.{FlowAnswer}
 use Rattle.desk.specs.declared.FlowAnswer.the-variants.{TooLong, BrokenMarkup, BrokenStructure, BrokenField, OtherBank, UnknownBody, NoRoom}
 use Rattle.desk.specs.Desk.{Reading, refused, served, forBody, forFlow, maxFlow, flowReads, flowCode}
-use Rattle.theorems.specs.Engine.{flow, namesIn, bodyNamed, position, who}
+use Rattle.theorems.specs.Engine.{flow, namesIn, whichBody, position, who}
 use Rattle.theorems.specs.Codes.{oneOf, strayCodes}
 use Rattle.theorems.proofs.Good.{Good, base, size, abi-is, find-is, place-is, slots-is}
 
@@ -84,7 +84,7 @@ module _ (t₀ : List ℕ) (r : tableOk t₀ ≡ true) where
   pub names : (code : List ℕ) → Names t₀ code (position t₀ (some code))
   names code = go (bodyOf t₀ code) refl
     where
-      go : (x : Found) → bodyOf t₀ code ≡ x → Names t₀ code (bodyNamed x)
+      go : (x : Found) → bodyOf t₀ code ≡ x → Names t₀ code (whichBody x)
       go Nothing e = stray (λ t g. addressed-is t g code ∙ body-none t g code e)
       go (At b) e = let l = low code b e in body b l (λ t g. addressed-is t g code ∙ body-some t g code b e l)
 
@@ -133,7 +133,7 @@ module _ (t₀ : List ℕ) (r : tableOk t₀ ≡ true) where
                   let d = flow-stood f at stands in
                   serves b l (h .esercizio) os (writables os (orders-ok f at d)) (header-ok f at d .0 .esercizio) (reads true k)
 
-          by-body : (x : Found) → bodyOf t₀ (h .ente) ≡ x → Reads t₀ f out (bodyNamed x)
+          by-body : (x : Found) → bodyOf t₀ (h .ente) ≡ x → Reads t₀ f out (whichBody x)
           by-body Nothing e =
               refuses UnknownBody refl (λ t g. bank-reads true bank t g ∙ ap (forBody (length out) (h .esercizio) os) (body-none t g (h .ente) e))
           by-body (At b) e = by-room b e (leb (16 * length os) (length out)) refl

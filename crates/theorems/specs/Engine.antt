@@ -81,13 +81,13 @@ names t₀ (execute code k line) = some code
 names t₀ (reverse code k line) = some code
 names t₀ (totals code) = some code
 
-abbrev pub bodyNamed : Found → Option ℕ
-bodyNamed (At b) = some b
-bodyNamed Nothing = none
+abbrev pub whichBody : Found → Option ℕ
+whichBody (At b) = some b
+whichBody Nothing = none
 
 -- the place of a code among those of t₀, compared byte by byte
 abbrev pub position : List ℕ → Option (List ℕ) → Option ℕ
-position t₀ (some code) = bodyNamed (bodyOf t₀ code)
+position t₀ (some code) = whichBody (bodyOf t₀ code)
 position t₀ none = none
 
 abbrev pub who : List ℕ → Call → Option ℕ
