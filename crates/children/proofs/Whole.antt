@@ -17,7 +17,8 @@ use Rattle.tokens.specs.Tokens.{andThen, repeat, until, whiteAt, nameAt, endTag
 use Rattle.tokens.proofs.Laws.{then-past, name-past, end-past}
 use Rattle.markup.specs.Markup.{childBy, childrenBy, contentBy, elementAt, contentAt, rootAt, markupOf}
 use Rattle.markup.proofs.Laws.{Parts, parts}
-use Rattle.markup.specs.Noted.{Noted}
+use Rattle.markup.specs.declared.Told.the-variants.{Ends}
+use Rattle.markup.specs.Noted.{Noted, noteOf}
 use Rattle.markup.proofs.Noted.{element-more, noted-read}
 use Rattle.children.specs.declared.Child.{Child}
 use Rattle.children.specs.declared.Step.the-variants.{One, End}
@@ -65,8 +66,8 @@ known s i e q l h b = let k = element-parts s (i + 1) q h in let u = k .2 .name 
         rw (← v) (record { name = a .on; room = omega arith; within = o .within; child = rw (← x) (child-one s i l t (k .name) (eqb-true _ _ (k .opens)) p (k .holds) q (k .end)) })
 
 -- and so is one that is noted
-pub child-noted : (s past : List ℕ) (i n : ℕ) → byteAt s i ≡ 60 → Noted s past → n ≡ getD past (i + 1) 0 → (n ≡ 0 → ⊥) → Noted-at s i (n / 65536) (n % 65536)
-child-noted s past i n l h w f = let t = noted-read s past (i + 1) n h w f in known s i (n / 65536) (n % 65536) l (t .0) (t .1)
+pub child-noted : (s past : List ℕ) (i k q : ℕ) → byteAt s i ≡ 60 → Noted s past → Ends k q ≡ noteOf past (i + 1) → Noted-at s i (i + 1 + k) q
+child-noted s past i k q l h w = let t = noted-read s past (i + 1) k q h w in known s i (i + 1 + k) q l (t .0) (t .1)
 
 -- THE ROOT: the only child, and the flow ends with it
 root-by : (s : List ℕ) (r m q : ℕ) → m ≡ r → byteAt s m ≡ 60 → elementAt 12 s (m + 1) ≡ Past q → whiteAt s q ≡ length s → (c : Child) × (childAt s r ≡ One c) × (c .after ≡ length s)

@@ -1,4 +1,5 @@
 // The children of an element. A child is looked up in the markup pass's notes, and not read again.
+use markup::Told;
 use scan::Walk;
 ghost use mathlib.Core.Path.{_≡_};
 ghost use Prim.Native.Nat.{_+_, _-_, _≤_, _<_};
@@ -78,11 +79,10 @@ pub fn child_at(s: &[u8], i: usize, past: &[u32]) -> Step
     if scan::byte(s, i) != 60 {
         return Step::End;
     }
-    let n = markup::note_at(past, i + 1);
-    if n == 0 {
+    let Told::Ends(k, q) = markup::note_at(past, i + 1) else {
         return child_alone(s, i);
-    }
-    let c = child_to(s, i, n / 65536, n % 65536);
+    };
+    let c = child_to(s, i, i + 1 + k, q);
     Step::One(c)
 }
 

@@ -12,7 +12,6 @@ use Rattle.tokens.specs.Tokens.{whiteAt}
 use Rattle.words.specs.Numbers.{put}
 use Rattle.words.proofs.Laws.{put-nil, put-put}
 use Rattle.markup.specs.Noted.{Noted}
-use Rattle.record.specs.Slot.{slotSize}
 use Rattle.rows.specs.declared.Parent.the-variants.{FlussoOrdinativi}
 use Rattle.rows.specs.declared.Kept.{Kept}
 use Rattle.rows.specs.declared.Next.{Next}
@@ -21,12 +20,9 @@ use Rattle.rows.specs.Kept.{keptFrom, nextOf}
 use Rattle.order.specs.declared.Order.{Order}
 use Rattle.orders.specs.Orders.{inRow, orderOf, Header}
 use Rattle.orders.proofs.Laws.{row-at, orders-one, orders-end, Order-at, order-at, standing}
-use Rattle.ranges.specs.declared.Found.{Found}
-use Rattle.ranges.specs.declared.Found.the-variants.{At, Nothing}
-use Rattle.entries.specs.Entry.{entrySize, slotsOf, placeOf}
-use Rattle.table.specs.Table.{bodies, tableOk, abiOf, bodyOf, entryOf}
-use Rattle.table.proofs.Laws.{head, table}
-use Rattle.table.proofs.Bodies.{body-at}
+use Rattle.table.specs.Table.{tableOk, abiOf}
+use Rattle.address.specs.declared.Addressed.{Addressed}
+use Rattle.address.specs.Address.{bodyNamed}
 use Rattle.flow.specs.declared.Verdict.{Verdict}
 use Rattle.flow.specs.declared.Verdict.the-variants.{Stands}
 use Rattle.flow.specs.Flow.{verdictOf, headerOf, flowOrders}
@@ -35,40 +31,25 @@ use Rattle.rules.specs.declared.Judged.{Judged}
 use Rattle.rules.specs.Rules.{codeOf}
 use Rattle.service.specs.Service.{orderComes, orderLeaves, outcomeBytes, one, allLeave, allOutcomes, allAccepted}
 use Rattle.desk.specs.declared.FlowAnswer.{FlowAnswer}
-use Rattle.desk.specs.declared.FlowAnswer.the-variants.{InvalidTable, TooLong, OtherBank, UnknownBody, NoRoom, Taken}
-use Rattle.desk.specs.Desk.{maxFlow, forBank, forFlow, flowReads, Gives, FlowPromise}
+use Rattle.desk.specs.declared.FlowAnswer.the-variants.{InvalidTable, TooLong, OtherBank, NoRoom, Taken}
+use Rattle.desk.specs.Desk.{maxFlow, forBody, forBank, forFlow, flowReads, Gives, FlowPromise}
 use Rattle.serving.specs.Served.{ordersFrom, Rooted}
 use Rattle.desk.specs.Steps.{headerFrom, roomFor, bodyFor}
 
--- THE BODY of an entry: the entry stands in the table, and its slots do
-pub record Placed (t : List ℕ) (b : ℕ) : Type 0 where
-  pub few : b < 16
-  pub ends : entryOf b + entrySize ≤ length t
-  pub inside : placeOf t (entryOf b) + slotSize * slotsOf t (entryOf b) ≤ length t
-
-pub body-placed : (t : List ℕ) (b : ℕ) → tableOk t ≡ true → b < bodies t → Placed t b
-body-placed t b e l =
-    let h = head t (table t e .head-ok) in
-    let y = body-at t e b l in
-    record { few = omega arith; ends = omega arith; inside = y .inside }
-
 -- THE WAYS OUT, from the last check to the first
 module _ (t out : List ℕ) (h : Header) (os : List Order) where
-  module _ (b : ℕ) {count : ℕ} (e : count ≡ length os) where
-    pub room-none : length out < 16 * count → Gives t out (roomFor t (length out) h os b) NoRoom t out
+  module _ (base n : ℕ) {count : ℕ} (e : count ≡ length os) where
+    pub room-none : length out < 16 * count → Gives t out (roomFor (length out) h os base n) NoRoom t out
     room-none l = rw (lt-leb (16 * length os) (length out) (omega arith)) (refl, refl, refl)
 
-    pub room-served : {base n year accepted : ℕ} {t′ out′ : List ℕ} → 16 * count ≤ length out → base ≡ placeOf t (entryOf b) → n ≡ slotsOf t (entryOf b) → year ≡ h .esercizio
+    pub room-served : {year accepted : ℕ} {t′ out′ : List ℕ} → 16 * count ≤ length out → year ≡ h .esercizio
         → accepted ≡ allAccepted t base n year os → t′ ≡ allLeave t base n year os → out′ ≡ put out 0 (allOutcomes t base n year os)
-        → Gives t out (roomFor t (length out) h os b) (Taken count accepted) t′ out′
-    room-served l p s y a u o = rw (le-leb (16 * length os) (length out) (omega arith), ← p, ← s, ← y, e, a, u, o) (refl, refl, refl)
+        → Gives t out (roomFor (length out) h os base n) (Taken count accepted) t′ out′
+    room-served l y a u o = rw (le-leb (16 * length os) (length out) (omega arith), ← y, e, a, u, o) (refl, refl, refl)
 
-  module _ {code : List ℕ} {g : Found} (c : code ≡ h .ente) (e : g ≡ bodyOf t code) where
-    pub body-none : g ≡ Nothing → Gives t out (bodyFor t (length out) h os) UnknownBody t out
-    body-none n = rw (← c, ← e, n) (refl, refl, refl)
-
-    pub body-found : {b : ℕ} {r : FlowAnswer} {t′ out′ : List ℕ} → g ≡ At b → Gives t out (roomFor t (length out) h os b) r t′ out′ → Gives t out (bodyFor t (length out) h os) r t′ out′
-    body-found n k = rw (← c, ← e, n) k
+  pub body-read : {code : List ℕ} {a b : Addressed} {r : FlowAnswer} {t′ out′ : List ℕ} → code ≡ h .ente → a ≡ bodyNamed t code → a ≡ b
+      → Gives t out (forBody (length out) (h .esercizio) os b) r t′ out′ → Gives t out (bodyFor t (length out) h os) r t′ out′
+  body-read c e n k = rw (← c, ← e, n) k
 
   module _ {abi : List ℕ} {g : Bool} (c : abi ≡ h .abi) (e : g ≡ textIs (abiOf t) abi) where
     pub bank-other : g ≡ false → Gives t out (forBank t (length out) h os) OtherBank t out

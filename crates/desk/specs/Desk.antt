@@ -7,16 +7,16 @@ use lib.ListN.{length}
 use lib.Dec.{eqb, leb}
 use Rattle.scan.specs.Bytes.{textIs}
 use Rattle.words.specs.Numbers.{put}
-use Rattle.table.specs.Table.{tableOk, abiOf, bodyOf}
+use Rattle.table.specs.Table.{tableOk, abiOf}
 use Rattle.order.specs.declared.Order.{Order}
 use Rattle.orders.specs.Orders.{Header}
 use Rattle.flow.specs.declared.Verdict.{Verdict}
 use Rattle.flow.specs.declared.Verdict.the-variants.{MarkupBreaks, StructureBreaks, FieldBreaks, Stands}
 use Rattle.flow.specs.Flow.{verdictOf, headerOf, flowOrders}
 use Rattle.service.specs.Service.{allLeave, allOutcomes, allAccepted}
-use Rattle.notices.specs.declared.Addressed.{Addressed}
-use Rattle.notices.specs.declared.Addressed.the-variants.{Invalid, Unknown, Body}
-use Rattle.notices.specs.Notices.{bodyAt}
+use Rattle.address.specs.declared.Addressed.{Addressed}
+use Rattle.address.specs.declared.Addressed.the-variants.{Invalid, Unknown, Body}
+use Rattle.address.specs.Address.{bodyNamed}
 use Rattle.desk.specs.declared.FlowAnswer.{FlowAnswer}
 use Rattle.desk.specs.declared.FlowAnswer.the-variants.{InvalidTable, TooLong, BrokenMarkup, BrokenStructure, BrokenField, OtherBank, UnknownBody, NoRoom, Taken}
 
@@ -33,13 +33,13 @@ withRoom room base n year os = cond (leb (16 * length os) room) (served base n y
 
 -- "7 no body has this code"
 abbrev pub forBody : ℕ → ℕ → List Order → Addressed → Reading
-forBody room year os (Body base n) = withRoom room base n year os
+forBody room year os (Body e base n) = withRoom room base n year os
 forBody room year os Unknown = refused UnknownBody
 forBody room year os Invalid = refused InvalidTable
 
 -- "6 codice_ABI_BT isn't the table's"
 abbrev pub forBank : List ℕ → ℕ → Header → List Order → Reading
-forBank t room h os = cond (textIs (abiOf t) (h .abi)) (forBody room (h .esercizio) os (bodyAt t (bodyOf t (h .ente)))) (refused OtherBank)
+forBank t room h os = cond (textIs (abiOf t) (h .abi)) (forBody room (h .esercizio) os (bodyNamed t (h .ente))) (refused OtherBank)
 
 -- "3 the markup breaks; 4 the structure breaks; 5 a field breaks"
 abbrev pub forFlow : List ℕ → List ℕ → ℕ → Verdict → Reading

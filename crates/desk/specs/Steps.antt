@@ -5,18 +5,16 @@ use Rattle.rows.specs.declared.Parent.the-variants.{FlussoOrdinativi}
 use Rattle.rows.specs.Kept.{keptFrom}
 use Rattle.order.specs.declared.Order.{Order}
 use Rattle.orders.specs.Orders.{Header, headerIn}
-use Rattle.entries.specs.Entry.{slotsOf, placeOf}
-use Rattle.table.specs.Table.{bodyOf, entryOf}
-use Rattle.notices.specs.Notices.{bodyAt}
+use Rattle.address.specs.Address.{bodyNamed}
 use Rattle.desk.specs.Desk.{Reading, withRoom, forBody}
 
 -- the header of the root's children from a place on
 abbrev pub headerFrom : List ℕ → ℕ → Header
 headerFrom f from = headerIn f (keptFrom FlussoOrdinativi f from)
 
--- the reading for body b of the table, and for the body with the header's code
-abbrev pub roomFor : List ℕ → ℕ → Header → List Order → ℕ → Reading
-roomFor t room h os b = withRoom room (placeOf t (entryOf b)) (slotsOf t (entryOf b)) (h .esercizio) os
+-- the reading for a body of n slots from base on, and for the body with the header's code
+abbrev pub roomFor : ℕ → Header → List Order → ℕ → ℕ → Reading
+roomFor room h os base n = withRoom room base n (h .esercizio) os
 
 abbrev pub bodyFor : List ℕ → ℕ → Header → List Order → Reading
-bodyFor t room h os = forBody room (h .esercizio) os (bodyAt t (bodyOf t (h .ente)))
+bodyFor t room h os = forBody room (h .esercizio) os (bodyNamed t (h .ente))

@@ -1,15 +1,16 @@
 // A flow's call, on any bytes at all: the table is checked, then the flow's length, markup, structure and fields, then bank, body and room; then its
 // orders are served.
+use address::Addressed;
 use digits::Number;
 use flow::Verdict;
-use ranges::Found;
 use rows::Parent;
 ghost use mathlib.Core.Path.{_≡_};
 ghost use mathlib.Core.Bool.{true};
 ghost use Prim.Native.Nat.{ℕ, _+_, _*_, _≤_, _<_};
 ghost use lib.ListN.{length};
 ghost use Rattle.markup.specs.Noted.{Noted};
-ghost use Rattle.table.specs.Table.{bodies, tableOk};
+ghost use Rattle.record.specs.Slot.{slotSize};
+ghost use Rattle.table.specs.Table.{tableOk};
 ghost use Rattle.flow.specs.declared.Verdict.the-variants.{Stands};
 ghost use Rattle.flow.specs.Flow.{verdictOf, headerOf, flowOrders};
 ghost use Rattle.desk.specs.Desk.{forBank, maxFlow, Gives, FlowPromise};
@@ -45,21 +46,19 @@ fn with_room(
     t: &mut [u8],
     f: &[u8],
     from: usize,
-    b: usize,
+    base: usize,
+    n: usize,
     out: &mut [u8],
     past: &[u32],
 ) -> FlowAnswer
-    requires { ⌜ (tableOk (now t) ≡ true) × (b < bodies (now t)) × Rooted (now f) (now past) from × (length (now f) ≤ maxFlow) ⌝ }
-    ensures { λ r. ⌜ Gives (now (t .entry)) (now (out .entry)) (roomFor (now (t .entry)) (length (now (out .entry))) (headerFrom (now (f .entry)) from) (ordersFrom (now (f .entry)) from) b) r (now (t .exit)) (now (out .exit)) ⌝ }
+    requires { ⌜ (base + slotSize * n ≤ length (now t)) × Rooted (now f) (now past) from × (length (now f) ≤ maxFlow) ⌝ }
+    ensures { λ r. ⌜ Gives (now (t .entry)) (now (out .entry)) (roomFor (length (now (out .entry))) (headerFrom (now (f .entry)) from) (ordersFrom (now (f .entry)) from) base n) r (now (t .exit)) (now (out .exit)) ⌝ }
 {
     let count = orders::count_orders(f, from, past);
     if out.len() < 16 * count {
         return FlowAnswer::NoRoom;
     }
     let year = year_of(f, from, past);
-    let e = table::HEAD + entries::ENTRY * b;
-    let base = entries::place_of(t, e);
-    let n = entries::slots_of(t, e);
     FlowAnswer::Taken(
         count,
         serving::serve_all(t, f, from, base, n, year, out, past),
@@ -72,9 +71,10 @@ fn for_body(t: &mut [u8], f: &[u8], from: usize, out: &mut [u8], past: &[u32]) -
     ensures { λ r. ⌜ Gives (now (t .entry)) (now (out .entry)) (bodyFor (now (t .entry)) (length (now (out .entry))) (headerFrom (now (f .entry)) from) (ordersFrom (now (f .entry)) from)) r (now (t .exit)) (now (out .exit)) ⌝ }
 {
     let ente = orders::field_text(f, from, Parent::FlussoOrdinativi, 3, past);
-    match table::find_body(t, ente) {
-        Found::At(b) => with_room(t, f, from, b, out, past),
-        Found::Nothing => FlowAnswer::UnknownBody,
+    match address::body_named(t, ente) {
+        Addressed::Body(_, base, n) => with_room(t, f, from, base, n, out, past),
+        Addressed::Unknown => FlowAnswer::UnknownBody,
+        Addressed::Invalid => FlowAnswer::InvalidTable,
     }
 }
 
@@ -116,9 +116,9 @@ pub fn take_flow(t: &mut [u8], f: &[u8], out: &mut [u8]) -> FlowAnswer
         return FlowAnswer::TooLong;
     }
     if f.len() < 4096 {
-        let mut few = [0u32; 4096];
+        let mut few = [0u32; 1024];
         return take_noted(t, f, out, &mut few);
     }
-    let mut past = [0u32; 32769];
+    let mut past = [0u32; 8193];
     take_noted(t, f, out, &mut past)
 }

@@ -18,12 +18,12 @@ use Rattle.rows.specs.Table.{nameIs}
 use Rattle.children.proofs.Laws.{child-lies}
 use Rattle.children.proofs.Whole.{root-child}
 use Rattle.structure.specs.Structure.{fitsAt}
-use Rattle.readings.specs.declared.Bad.{Bad}
-use Rattle.readings.specs.declared.Bad.the-variants.{Place, Nowhere}
-use Rattle.readings.specs.Readings.{fieldsAt, firstBad}
-use Rattle.standing.specs.Standing.{standsAt}
-use Rattle.standing.proofs.Laws.{stands-parts}
-use Rattle.flow.specs.declared.Verdict.the-variants.{MarkupBreaks, StructureBreaks, Stands}
+use Rattle.standing.specs.declared.Standing.{Standing}
+use Rattle.standing.specs.declared.Standing.the-variants as standing
+use Rattle.standing.specs.Readings.{Bad, Place, Nowhere, fieldsAt, firstBad}
+use Rattle.standing.specs.Standing.{standingAt, standingBy}
+use Rattle.flow.specs.declared.Verdict.{Verdict}
+use Rattle.flow.specs.declared.Verdict.the-variants.{MarkupBreaks, StructureBreaks, FieldBreaks, Stands}
 use Rattle.flow.specs.Flow.{byFields, byRoot, byMarkup, verdictOf}
 
 -- the root's name is the flow's
@@ -40,6 +40,17 @@ badOf s at = firstBad (fieldsAt 4 FlussoOrdinativi s at)
 -- the root stands in the flow
 pub root-within : (s : List ℕ) (r : ℕ) → markupOf s ≡ Past r → r ≤ length s
 root-within s r e = let k = root-child s r e in let l = child-lies s r (k .0) (k .1) .1 in omega arith
+
+-- what the root's content comes to, as the flow's verdict
+abbrev pub byStanding : ℕ → Standing → Verdict
+byStanding at standing.StructureBreaks = StructureBreaks
+byStanding at (standing.FieldBreaks p) = FieldBreaks p
+byStanding at standing.Stands = Stands at
+
+by-fields : (at : ℕ) (f : Bool) (b : Bad) → cond f (byFields at b) StructureBreaks ≡ byStanding at (standingBy f b)
+by-fields at true (Place p) = refl
+by-fields at true Nowhere = refl
+by-fields at false b = refl
 
 -- THE WAYS OUT
 pub flow-broken : (s : List ℕ) (p : ℕ) → markupOf s ≡ Broken p → verdictOf s ≡ MarkupBreaks p
@@ -58,15 +69,9 @@ module _ (s : List ℕ) (r : ℕ) where
     pub root-other : isFlow s c ≡ false → byRoot s (childAt s r) ≡ StructureBreaks
     root-other n = rw (e, n)
 
-    module _ (n : isFlow s c ≡ true) where
-      pub root-unfit : fitsFlow s (c .gt + 1) ≡ false → byRoot s (childAt s r) ≡ StructureBreaks
-      root-unfit f = rw (e, n, f)
-
-      pub root-read : (b : Bad) → fitsFlow s (c .gt + 1) ≡ true → badOf s (c .gt + 1) ≡ b → byRoot s (childAt s r) ≡ byFields (c .gt + 1) b
-      root-read b f h = rw (e, n, f, h)
-
-      pub root-stands : standsAt 4 FlussoOrdinativi s (c .gt + 1) ≡ true → byRoot s (childAt s r) ≡ Stands (c .gt + 1)
-      root-stands h = let b = stands-parts 4 FlussoOrdinativi s (c .gt + 1) h in root-read Nowhere (b .0) (b .1)
+    pub root-judged : (w : Standing) → isFlow s c ≡ true → standingAt 4 FlussoOrdinativi s (c .gt + 1) ≡ w → byRoot s (childAt s r) ≡ byStanding (c .gt + 1) w
+    unfolding standingAt
+    root-judged w n f = rw (e, n, ← f) (by-fields (c .gt + 1) (fitsFlow s (c .gt + 1)) (badOf s (c .gt + 1)))
 
 -- A FLOW THAT STANDS
 pub record Stood (s : List ℕ) (at : ℕ) : Type 0 where

@@ -39,10 +39,8 @@ use Rattle.rows.specs.Kept.{keptFrom, nextOf}
 use Rattle.rows.proofs.Laws.{next-at, next-done}
 use Rattle.structure.specs.Structure.{Range, ranges, all, keptHolds, fitsAt}
 use Rattle.structure.proofs.Laws.{HeldIn, fits-parts, all-next, order-last}
-use Rattle.readings.specs.declared.Bad.{Bad}
-use Rattle.readings.specs.declared.Bad.the-variants.{Place, Nowhere}
-use Rattle.readings.specs.Readings.{textOf, fieldsIn, fieldsBy, fieldsAt, badOr, firstBad}
-use Rattle.readings.proofs.Laws.{orBad, bad-append}
+use Rattle.standing.specs.Readings.{Bad, Place, Nowhere, textOf, fieldsIn, fieldsBy, fieldsAt, badOr, firstBad}
+use Rattle.standing.proofs.Readings.{orBad, bad-append}
 use Rattle.order.specs.declared.Line.{Line}
 use Rattle.order.specs.declared.Order.{Order}
 use Rattle.orders.specs.Shape.{orderRows, lineRows, Shaped, Filled}

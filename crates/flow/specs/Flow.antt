@@ -15,9 +15,7 @@ use Rattle.children.specs.Child.{childAt}
 use Rattle.rows.specs.Table.{nameIs}
 use Rattle.rows.specs.Kept.{keptFrom}
 use Rattle.structure.specs.Structure.{fitsAt, levels}
-use Rattle.readings.specs.declared.Bad.{Bad}
-use Rattle.readings.specs.declared.Bad.the-variants.{Place, Nowhere}
-use Rattle.readings.specs.Readings.{fieldsAt, firstBad}
+use Rattle.standing.specs.Readings.{Bad, Place, Nowhere, fieldsAt, firstBad}
 use Rattle.order.specs.declared.Order.{Order}
 use Rattle.orders.specs.Orders.{Header, headerIn, ordersIn}
 use Rattle.flow.specs.declared.Verdict.{Verdict}
@@ -43,19 +41,6 @@ byMarkup s (Broken p) = MarkupBreaks p
 -- markup over the whole flow, then structure, then fields
 unfoldable pub verdictOf : List ℕ → Verdict
 verdictOf s = byMarkup s (markupOf s)
-
--- document 01's code, and its place: "place is 0 but for code 5"
-abbrev pub codeOf : Verdict → ℕ
-codeOf (MarkupBreaks p) = 3
-codeOf StructureBreaks = 4
-codeOf (FieldBreaks p) = 5
-codeOf (Stands at) = 0
-
-abbrev pub placeOf : Verdict → ℕ
-placeOf (MarkupBreaks p) = 0
-placeOf StructureBreaks = 0
-placeOf (FieldBreaks p) = p
-placeOf (Stands at) = 0
 
 -- OF A FLOW THAT STANDS, its root's content beginning at `at`
 

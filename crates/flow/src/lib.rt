@@ -1,8 +1,8 @@
 // A whole flow: markup, then structure, then fields, each over all of it.
 use children::Step;
-use readings::Bad;
 use rows::Parent;
 use scan::Walk;
+use standing::Standing;
 ghost use mathlib.Core.Path.{_≡_};
 ghost use Prim.Native.Nat.{_≤_};
 ghost use lib.ListN.{length};
@@ -32,16 +32,10 @@ fn verdict_at(s: &[u8], root: usize, past: &[u32]) -> Verdict
         return Verdict::StructureBreaks;
     }
     let at = e + 1;
-    // One walk where nothing breaks; what breaks is looked for only where something does.
-    if standing::stands(s, at, Parent::FlussoOrdinativi, 4, past) {
-        return Verdict::Stands(at);
-    }
-    if !structure::fits(s, at, Parent::FlussoOrdinativi, 4, past) {
-        return Verdict::StructureBreaks;
-    }
-    match readings::first_bad(s, at, Parent::FlussoOrdinativi, 4, past) {
-        Bad::Place(p) => Verdict::FieldBreaks(p),
-        Bad::Nowhere => Verdict::Stands(at),
+    match standing::judge(s, at, Parent::FlussoOrdinativi, 4, past) {
+        Standing::StructureBreaks => Verdict::StructureBreaks,
+        Standing::FieldBreaks(p) => Verdict::FieldBreaks(p),
+        Standing::Stands => Verdict::Stands(at),
     }
 }
 

@@ -150,7 +150,7 @@ module _ (s : List ℕ) where
   without-rest : (k x t : List ℕ) → Without k (x ++ t) → Without k t
   without-rest k x t w a b z = w (x ++ a) b (rw z (simp append-assoc))
 
-  text-is : {t : List ℕ} (p : ℕ) → Pieces t → Without (bytes "]]>") t → hasAt t s p ≡ true → byteAt s (p + length t) ≡ 60 → textAt s p ≡ Past (p + length t)
+  pub text-is : {t : List ℕ} (p : ℕ) → Pieces t → Without (bytes "]]>") t → hasAt t s p ≡ true → byteAt s (p + length t) ≡ 60 → textAt s p ≡ Past (p + length t)
   text-is p none w e y = let z : p + 0 ≡ p = add-zero p in rw z (text-stop s p (rw z at y))
   text-is p (more {p = x} {t = t} pc ps) w e y =
       let h = has-split s x t p (p + length x) refl e in
@@ -184,7 +184,7 @@ module _ (s : List ℕ) where
       let d = white-char (byteAt s p) w in
       (piece-char s p a c ∙ one-is s p (d .0) (record { short = omega arith; xml = d .1 }), b)
 
-  white-text : (n p : ℕ) → length s - p ≤ n → textAt s p ≡ textAt s (whiteAt s p)
+  pub white-text : (n p : ℕ) → length s - p ≤ n → textAt s p ≡ textAt s (whiteAt s p)
   unfolding isWhite
   white-text zero p h = ap (textAt s) (sym (run-end isWhite s p (omega arith)))
   white-text (suc n) p h = go (leb (length s) p) refl (isWhite (byteAt s p)) refl (white-text n (p + 1))
@@ -197,7 +197,7 @@ module _ (s : List ℕ) where
           text-step s p (p + 1) (w .1) (w .0) ∙ ih (omega arith) ∙ ap (textAt s) (sym (run-more isWhite s p (omega (arith, leb-false (length s) p f)) g))
 
   -- </ is a < and a /
-  open-of : (p : ℕ) → hasAt (bytes "</") s p ≡ true → (byteAt s p ≡ 60) × (byteAt s (p + 1) ≡ 47)
+  pub open-of : (p : ℕ) → hasAt (bytes "</") s p ≡ true → (byteAt s p ≡ 60) × (byteAt s (p + 1) ≡ 47)
   open-of p e = (has-byte s 60 (bytes "/") p e, has-byte s 47 [] (p + 1) (has-split s (bytes "<") (bytes "/") p (p + 1) refl e .1))
 
   -- text, up to an end tag, is content
@@ -213,10 +213,10 @@ module _ (s : List ℕ) where
       go false h = content-text d s p (eqb-false _ _ h) ∙ t
 
   -- white space ends where another byte stands
-  white-is : {w : List ℕ} (p : ℕ) → White w → hasAt w s p ≡ true → isWhite (byteAt s (p + length w)) ≡ false → whiteAt s p ≡ p + length w
+  pub white-is : {w : List ℕ} (p : ℕ) → White w → hasAt w s p ≡ true → isWhite (byteAt s (p + length w)) ≡ false → whiteAt s p ≡ p + length w
   white-is p (white {t = w} a) e y = run-end-is s isWhite w p a e y
 
-  name-is : {n : List ℕ} (p : ℕ) → Name n → hasAt n s p ≡ true → byteAt s (p + length n) ≡ 62 → (nameAt s p ≡ Past (p + length n)) × (isLetter (byteAt s p) ≡ true)
+  pub name-is : {n : List ℕ} (p : ℕ) → Name n → hasAt n s p ≡ true → byteAt s (p + length n) ≡ 62 → (nameAt s p ≡ Past (p + length n)) × (isLetter (byteAt s p) ≡ true)
   unfolding isNameByte isLetter isDigit all
   name-is p (name {b = b} {t = t} l a k) e y =
       let z = has-byte s b t p e in
@@ -226,19 +226,19 @@ module _ (s : List ℕ) where
       let r = run-end-is s isNameByte (b ∷ t) p m e (rw y) in
       (name-some s p q (p + length (b ∷ t)) (sym r) (omega arith), q)
 
-  end-is : (a e p : ℕ) (n : List ℕ) → e ≡ a + length n → hasAt n s a ≡ true → hasAt (bytes "</") s p ≡ true → hasAt n s (p + 2) ≡ true → byteAt s (p + 2 + length n) ≡ 62 → endTagAt s a e p ≡ Past (p + 2 + length n + 1)
+  pub end-is : (a e p : ℕ) (n : List ℕ) → e ≡ a + length n → hasAt n s a ≡ true → hasAt (bytes "</") s p ≡ true → hasAt n s (p + 2) ≡ true → byteAt s (p + 2 + length n) ≡ 62 → endTagAt s a e p ≡ Past (p + 2 + length n + 1)
   end-is a e p n z h o k y =
       let w : part s a e ≡ n = rw z (has-part s n a h) in
       let l : e - a ≡ length n = omega arith in
       end-some s a e p o (rw w k) (rw l y) ∙ rw l
 
 -- what is to be shown of an element of d levels that stands at p: it is read, and begins with < and a letter
-record Read (s : List ℕ) (d p : ℕ) (e : List ℕ) : Type 0 where
-  reads : elementAt d s (p + 1) ≡ Past (p + length e)
-  opens : byteAt s p ≡ 60
-  named : isLetter (byteAt s (p + 1)) ≡ true
+pub record Read (s : List ℕ) (d p : ℕ) (e : List ℕ) : Type 0 where
+  pub reads : elementAt d s (p + 1) ≡ Past (p + length e)
+  pub opens : byteAt s p ≡ 60
+  pub named : isLetter (byteAt s (p + 1)) ≡ true
 
-abbrev Reads : List ℕ → ℕ → Type 0
+abbrev pub Reads : List ℕ → ℕ → Type 0
 Reads s d = (p : ℕ) (e : List ℕ) → Element d e → hasAt e s p ≡ true → Read s d p e
 
 -- a letter is no /
@@ -246,7 +246,7 @@ no-slash : (b : ℕ) → isLetter b ≡ true → b ≡ 47 → ⊥
 unfolding isLetter
 no-slash b l z = no (sym (rw z at l))
 
-no-white : (b : ℕ) → b ≡ 60 → isWhite b ≡ false
+pub no-white : (b : ℕ) → b ≡ 60 → isWhite b ≡ false
 unfolding isWhite
 no-white b z = rw z
 
@@ -263,7 +263,7 @@ module _ (s : List ℕ) (d : ℕ) (ih : Reads s d) where
       let v : whiteAt s (p + length e) ≡ q = white-is s (p + length e) wh (a .1) (no-white _ (rw f y)) ∙ f in
       (children-step d s p o (r .opens) (p + length e) (r .reads) ∙ ap (childrenBy (elementAt d s) s) v, r)
 
-  elements-is : (p : ℕ) (k : List ℕ) → Elements d k → hasAt k s p ≡ true → hasAt (bytes "</") s (p + length k) ≡ true
+  pub elements-is : (p : ℕ) (k : List ℕ) → Elements d k → hasAt k s p ≡ true → hasAt (bytes "</") s (p + length k) ≡ true
       → (childrenBy (elementAt d s) s p ≡ Past (p + length k)) × (byteAt s p ≡ 60) × (isLetter (byteAt s (p + 1)) ≡ true)
   elements-is p k (last {e = e} {w = w} el wh) h o =
       let q = p + length (e ++ w) in
@@ -278,7 +278,7 @@ module _ (s : List ℕ) (d : ℕ) (ih : Reads s d) where
       let r = child-is p q e w el wh (a .0) refl (m .1) in
       (r .0 ∙ m .0 ∙ ap Past z, r .1 .opens, r .1 .named)
 
-  content-is : (p : ℕ) (c : List ℕ) → Content d c → hasAt c s p ≡ true → hasAt (bytes "</") s (p + length c) ≡ true → contentAt d s p ≡ Past (p + length c)
+  pub content-is : (p : ℕ) (c : List ℕ) → Content d c → hasAt c s p ≡ true → hasAt (bytes "</") s (p + length c) ≡ true → contentAt d s p ≡ Past (p + length c)
   content-is p c (only (text ps wo)) h o = text-content s d p (p + length c) (text-is s p ps wo h (open-of s (p + length c) o .0)) o
   content-is p c (elements {w = w} {k = k} wh ks) h o =
       let a = has-split s w k p (p + length w) refl h in
@@ -320,12 +320,12 @@ no-level x = let l = levels x in let z : 0 ≡ suc (l .0) = l .1 in absurd (omeg
 one-more : (s : List ℕ) (d : ℕ) → Reads s d → Reads s (suc d)
 one-more s d ih p e (element {n = n} {c = c} na co) h = parts-is s d ih p n c na co h
 
-element-is : (s : List ℕ) (d : ℕ) → Reads s d
+pub element-is : (s : List ℕ) (d : ℕ) → Reads s d
 element-is s zero p e x h = no-level x
 element-is s (suc d) p e x h = one-more s d (element-is s d) p e x h
 
 -- THE WHOLE FLOW
-starts-self : (t : List ℕ) → startsWith t t ≡ true
+pub starts-self : (t : List ℕ) → startsWith t t ≡ true
 unfolding startsWith
 starts-self [] = refl
 starts-self (b ∷ t) = rw (eq-eqb b b refl, starts-self t)

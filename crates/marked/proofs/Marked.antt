@@ -17,7 +17,7 @@ use Rattle.children.specs.Child.{childAt, childrenBy as childrenChildrenBy, chi
 use Rattle.rows.specs.Kept.{keep, keptFrom}
 use Rattle.rows.specs.Table.{nameIs}
 use Rattle.structure.specs.Structure.{all as structureAll, rowsOf, inOrder, textOnly, fitBy, fitsAt}
-use Rattle.readings.specs.Readings.{fieldsBy, fieldsAt, firstBad}
+use Rattle.standing.specs.Readings.{fieldsBy, fieldsAt, firstBad}
 use Rattle.orders.specs.Orders.{inRow, textIn as ordersTextIn, inside, lineOf, linesOf, eight, linesIn, orderOf, ordersOf}
 use Rattle.flow.specs.Flow.{verdictOf}
 use Rattle.record.specs.Slot.{recordAt, restZero, flat8, recordBytes, keyIs}
@@ -31,7 +31,8 @@ use Rattle.opening.specs.Opening.{headBytes as headAsked, entryBytes, entriesBy
 use Rattle.lines.specs.Lines.{numberedFrom, sumOf, lineCode}
 use Rattle.rules.specs.Rules.{amountsOf, anyExecuted, situationIn, situationOf, placed, stepped, judgeOrder, written, lineMoves, noticeIn, noticeAt, judgeNotice}
 use Rattle.service.specs.Service.{orderComes, orderStored, outcomeBytes, allLeave, allOutcomes, noticeComes}
-use Rattle.notices.specs.Notices.{addressed, noticeBy}
+use Rattle.address.specs.Address.{addressed}
+use Rattle.notices.specs.Notices.{noticeBy}
 use Rattle.desk.specs.Desk.{flowReads}
 use Rattle.marked.specs.Marked.{allHold, marked}
 

@@ -1,21 +1,23 @@
 -- Laws of the notes, and that a reader of more levels reads no less.
-use mathlib.Core.Path.{_≡_, refl, _∙_}
+use mathlib.Core.Path.{_≡_, refl, sym, _∙_}
 use mathlib.Core.List.{List}
 use mathlib.Core.Bool.{Bool, true, false, cond, not, _&&_}
 use Prim.Native.Nat.{ℕ, zero, suc, _+_, _-_, _*_, _/_, _%_, _≤_, _<_}
 use native.Mathlib.Omega.{arith}
-use lib.ListN.{length, length-set, getD, set, replicate, getD-replicate, length-replicate, List·getD-eq-default}
+use lib.ListN.{length, getD, set, replicate, getD-replicate, length-replicate, List·getD-eq-default}
 use lib.Seq.{getD-set-same, getD-set-other, set-out}
 use lib.Dec.{eqb, leb}
-use borrow.Author.Tests.{eqb-true, eqb-false, le-leb, lt-leb, leb-true, leb-false}
+use borrow.Author.Tests.{eqb-true, eqb-false, eq-eqb, ne-eqb, le-leb, lt-leb, leb-true, leb-false}
 use Rattle.scan.specs.declared.Walk.{Walk}
 use Rattle.scan.specs.declared.Walk.the-variants.{Past, Broken}
-use Rattle.scan.specs.Bytes.{bytes, byteAt, hasAt}
-use Rattle.scan.proofs.Laws.{never, cond-past}
+use Rattle.scan.specs.Bytes.{bytes, byteAt, hasAt, isLetter, isNameByte, runEnd}
+use Rattle.scan.proofs.Laws.{never, both, cond-past}
 use Rattle.tokens.specs.Tokens.{andThen, repeat, until, nameAt, whiteAt, textAt}
-use Rattle.tokens.proofs.Laws.{then-past}
+use Rattle.tokens.proofs.Laws.{then-past, name-past}
 use Rattle.markup.specs.Markup.{elementBy, childBy, childrenBy, contentBy, elementAt}
-use Rattle.markup.specs.Noted.{TrueAt, Noted, noteIn}
+use Rattle.markup.specs.declared.Told.{Told}
+use Rattle.markup.specs.declared.Told.the-variants.{Ends, Nothing}
+use Rattle.markup.specs.Noted.{noteFor, saidOf, noteOf, Noted, noteIn}
 use Rattle.markup.proofs.Laws.{parts}
 
 -- g reads at least what f reads
@@ -64,56 +66,110 @@ element-many (suc n) d (suc m) s h p q e = element-more m s p q (element-many n 
 pub element-twelve : (d : ℕ) (s : List ℕ) (p q : ℕ) → d ≤ 12 → elementAt d s p ≡ Past q → elementAt 12 s p ≡ Past q
 element-twelve d s p q h e = element-many (12 - d) d 12 s (omega arith) p q e
 
+-- a name has at most 48 bytes
+pub name-short : (s : List ℕ) (at e : ℕ) → nameAt s at ≡ Past e → e ≤ at + 48
+unfolding nameAt
+name-short s at e h =
+    let c = cond-past (isLetter (byteAt s at) && leb (runEnd isNameByte s at - at) 48) (Past (runEnd isNameByte s at)) at h in
+    let l = both (isLetter (byteAt s at)) (leb (runEnd isNameByte s at - at) 48) (c .0) .1 in
+    let f = c .1 in
+    let r : runEnd isNameByte s at ≡ e = cc in
+    omega (arith, leb-true (runEnd isNameByte s at - at) 48 l)
+
+-- a number that is not meant for the place says nothing of it
+unmeant : (at n : ℕ) → (n / 4194304 ≡ at % 4 + 1 → ⊥) → saidOf at n ≡ Nothing
+unmeant at n h = rw (ne-eqb (n / 4194304) (at % 4 + 1) h)
+
+-- what is noted is said
+module _ (at k q : ℕ) (h : k ≤ 48) (f : q ≤ 65535) where
+  meant : noteFor at k q / 4194304 ≡ at % 4 + 1
+  meant = omega arith
+
+  said : saidOf at (noteFor at k q) ≡ Ends k q
+  said =
+      let a : noteFor at k q / 65536 % 64 ≡ k = omega arith in
+      let b : noteFor at k q % 65536 ≡ q = omega arith in
+      rw (eq-eqb (noteFor at k q / 4194304) (at % 4 + 1) meant) (λ i. Ends (a i) (b i))
+
+  said-other : (p : ℕ) → (p % 4 ≡ at % 4 → ⊥) → saidOf p (noteFor at k q) ≡ Nothing
+  said-other p n = unmeant p (noteFor at k q) (λ e. n (omega (arith, meant)))
+
+-- a place has one note
+one-note : {k l q r : ℕ} → Ends k q ≡ Ends l r → (k ≡ l) × (q ≡ r)
+one-note e = (cc, cc)
+
+-- nothing is no note
+nothing : {A : Type 0} {k q : ℕ} (n : Told) → n ≡ Nothing → n ≡ Ends k q → A
+nothing n e f = let z : _≡_ {A = ℕ} 0 1 = cc in absurd (omega arith)
+
 -- with nothing noted all notes are true
 pub noted-none : (s : List ℕ) (n : ℕ) → Noted s (replicate n 0)
-unfolding Noted
-noted-none s n p h = absurd (h (go (leb (suc p) n) refl))
+unfolding Noted noteOf
+noted-none s n p k q h = nothing (noteOf (replicate n 0) p) (rw (zeros (leb (suc (p / 4)) n) refl) (unmeant p 0 (λ z. omega arith))) h
   where
-    go : (b : Bool) → leb (suc p) n ≡ b → _≡_ {A = ℕ} (getD (replicate n 0) p 0) 0
-    go true e = getD-replicate n p 0 0 (leb-true (suc p) n e)
-    go false e = List·getD-eq-default (replicate n 0) 0 (omega (arith, leb-false (suc p) n e, length-replicate {A = ℕ} n 0))
-
--- the halves of a note
-low : (e q : ℕ) → q ≤ 65535 → (q + 65536 * e) % 65536 ≡ q
-low e q h = omega arith
-
-high : (e q : ℕ) → q ≤ 65535 → (q + 65536 * e) / 65536 ≡ e
-high e q h = omega arith
+    zeros : (b : Bool) → leb (suc (p / 4)) n ≡ b → _≡_ {A = ℕ} (getD (replicate n 0) (p / 4) 0) 0
+    zeros true e = getD-replicate n (p / 4) 0 0 (leb-true (suc (p / 4)) n e)
+    zeros false e = List·getD-eq-default (replicate n 0) 0 (omega (arith, leb-false (suc (p / 4)) n e, length-replicate {A = ℕ} n 0))
 
 -- a true note may be set
-noted-set : (s past : List ℕ) (p n : ℕ) → Noted s past → TrueAt s p n → Noted s (set past p n)
-unfolding Noted
-noted-set s past p n h t r f = go (eqb r p) refl (leb (suc r) (length past)) refl
-  where
-    go : (b : Bool) → eqb r p ≡ b → (c : Bool) → leb (suc r) (length past) ≡ c → TrueAt s r (getD (set past p n) r 0)
-    go true k true m =
-        let z = eqb-true r p k in
-        let w : p < length past = omega (arith, leb-true (suc r) (length past) m) in
-        rw (z, getD-set-same past p n 0 w) t
-    go b k false m = absurd (f (List·getD-eq-default (set past p n) 0 (omega (arith, leb-false (suc r) (length past) m, length-set past p n))))
-    go false k true m =
-        let z = getD-set-other past p r n 0 (eqb-false r p k) in
-        rw z (h r (λ y. f (z ∙ y)))
+module _ (s past : List ℕ) (at e q : ℕ) (h : Noted s past) (n : nameAt s at ≡ Past e) (m : elementAt 12 s at ≡ Past q) (f : q ≤ 65535) where
+  abbrev number : ℕ
+  number = noteFor at (e - at) q
+
+  abbrev after : List ℕ
+  after = set past (at / 4) number
+
+  long : e - at ≤ 48
+  long = omega (arith, name-short s at e n)
+
+  -- of the place itself, of another of its four, of a place elsewhere, of a place past the notes
+  set-own : (k r : ℕ) → at / 4 < length past → noteOf after at ≡ Ends k r → (elementAt 12 s at ≡ Past r) × (nameAt s at ≡ Past (at + k))
+  unfolding noteOf
+  set-own k r w d =
+      let z = getD-set-same past (at / 4) number 0 w in
+      let o = one-note (sym (said at (e - at) q long f) ∙ (rw z at d)) in
+      let x : at + k ≡ e = omega (arith, o .0, name-past s at e n .on) in
+      (rw (← o .1) m, rw x n)
+
+  set-beside : (p k r : ℕ) → at / 4 < length past → p / 4 ≡ at / 4 → (p % 4 ≡ at % 4 → ⊥) → noteOf after p ≡ Ends k r → (elementAt 12 s p ≡ Past r) × (nameAt s p ≡ Past (p + k))
+  unfolding noteOf
+  set-beside p k r w z o d =
+      let y = getD-set-same past (at / 4) number 0 w in
+      nothing (noteOf after p) (rw (z, y) (said-other at (e - at) q long f p o)) d
+
+  set-elsewhere : (p k r : ℕ) → (p / 4 ≡ at / 4 → ⊥) → noteOf after p ≡ Ends k r → (elementAt 12 s p ≡ Past r) × (nameAt s p ≡ Past (p + k))
+  unfolding Noted noteOf
+  set-elsewhere p k r z d = h p k r (rw (getD-set-other past (at / 4) (p / 4) number 0 z) at d)
+
+  noted-set : Noted s after
+  unfolding Noted
+  noted-set p k r d = go (leb (suc (at / 4)) (length past)) refl (eqb (p / 4) (at / 4)) refl (eqb (p % 4) (at % 4)) refl
+    where
+      go : (b : Bool) → leb (suc (at / 4)) (length past) ≡ b → (c : Bool) → eqb (p / 4) (at / 4) ≡ c → (g : Bool) → eqb (p % 4) (at % 4) ≡ g → (elementAt 12 s p ≡ Past r) × (nameAt s p ≡ Past (p + k))
+      go true eb true ec true eg =
+          let x : p ≡ at = omega (arith, eqb-true (p / 4) (at / 4) ec, eqb-true (p % 4) (at % 4) eg) in
+          rw x (set-own k r (leb-true (suc (at / 4)) (length past) eb) (rw x at d))
+      go true eb true ec false eg = set-beside p k r (leb-true (suc (at / 4)) (length past) eb) (eqb-true _ _ ec) (eqb-false _ _ eg) d
+      go true eb false ec g eg = set-elsewhere p k r (eqb-false _ _ ec) d
+      go false eb c ec g eg = h p k r (rw (set-out past (at / 4) number (omega (arith, leb-false (suc (at / 4)) (length past) eb))) at d)
 
 -- what is read may be noted
 pub noted-more : (s past : List ℕ) (d p e q : ℕ) → Noted s past → d ≤ 12 → nameAt s p ≡ Past e → elementAt d s p ≡ Past q → Noted s (noteIn past p e q)
 unfolding noteIn
 noted-more s past d p e q h l n m = go (leb q 65535) refl
   where
-    go : (b : Bool) → leb q 65535 ≡ b → Noted s (cond b (set past p (q + 65536 * e)) past)
-    go true k =
-        let f = leb-true q 65535 k in
-        noted-set s past p (q + 65536 * e) h (rw (low e q f) (element-twelve d s p q l m), rw (high e q f) n)
+    go : (b : Bool) → leb q 65535 ≡ b → Noted s (cond b (set past (p / 4) (noteFor p (e - p) q)) past)
+    go true k = noted-set s past p e q h n (element-twelve d s p q l m) (leb-true q 65535 k)
     go false k = h
 
 -- what is noted was read
-pub noted-read : (s past : List ℕ) (p n : ℕ) → Noted s past → n ≡ getD past p 0 → (n ≡ 0 → ⊥) → TrueAt s p n
+pub noted-read : (s past : List ℕ) (p k q : ℕ) → Noted s past → Ends k q ≡ noteOf past p → (elementAt 12 s p ≡ Past q) × (nameAt s p ≡ Past (p + k))
 unfolding Noted
-noted-read s past p n h w f = rw w (h p (λ y. f (w ∙ y)))
+noted-read s past p k q h w = h p k q (sym w)
 
--- noteIn, a way out of the code at a time
+-- noteIn and noteOf, a way out of the code at a time
 module _ (past : List ℕ) (at e q : ℕ) where
-  pub note-fits : q ≤ 65535 → noteIn past at e q ≡ set past at (q + 65536 * e)
+  pub note-fits : q ≤ 65535 → noteIn past at e q ≡ set past (at / 4) (noteFor at (e - at) q)
   unfolding noteIn
   note-fits h = rw (le-leb q 65535 h)
 
@@ -121,10 +177,23 @@ module _ (past : List ℕ) (at e q : ℕ) where
   unfolding noteIn
   note-large h = rw (lt-leb q 65535 h)
 
-  pub note-out : length past ≤ at → noteIn past at e q ≡ past
+  pub note-out : length past ≤ at / 4 → noteIn past at e q ≡ past
   unfolding noteIn
   note-out h = go (leb q 65535)
     where
-      go : (b : Bool) → cond b (set past at (q + 65536 * e)) past ≡ past
-      go true = set-out past at (q + 65536 * e) h
+      go : (b : Bool) → cond b (set past (at / 4) (noteFor at (e - at) q)) past ≡ past
+      go true = set-out past (at / 4) (noteFor at (e - at) q) h
       go false = refl
+
+module _ (past : List ℕ) (at : ℕ) where
+  pub note-past : length past ≤ at / 4 → noteOf past at ≡ Nothing
+  unfolding noteOf
+  note-past h = rw (List·getD-eq-default past 0 h) (unmeant at 0 (λ e. omega arith))
+
+  pub note-meant : getD past (at / 4) 0 / 4194304 ≡ at % 4 + 1 → noteOf past at ≡ Ends (getD past (at / 4) 0 / 65536 % 64) (getD past (at / 4) 0 % 65536)
+  unfolding noteOf
+  note-meant h = rw (eq-eqb _ _ h)
+
+  pub note-unmeant : (getD past (at / 4) 0 / 4194304 ≡ at % 4 + 1 → ⊥) → noteOf past at ≡ Nothing
+  unfolding noteOf
+  note-unmeant h = unmeant at (getD past (at / 4) 0) h

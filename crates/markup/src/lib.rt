@@ -3,30 +3,42 @@
 use scan::Walk;
 ghost use mathlib.Core.Path.{_≡_};
 ghost use Prim.Native.Nat.{ℕ, _+_, _-_, _≤_, _<_};
-ghost use lib.ListN.{length, getD};
+ghost use lib.ListN.{length};
 ghost use Rattle.markup.specs.Markup.{elementAt, contentAt, markupOf};
-ghost use Rattle.markup.specs.Noted.{Noted, noteIn};
+ghost use Rattle.markup.specs.Noted.{Noted, noteOf, noteIn};
 
-// Notes an element's end q and its name's end e at a place, where there is room for it and q fits 16 bits.
+// What is noted of a place: its name's length and the element's end.
+pub enum Told {
+    Ends(usize, usize),
+    Nothing,
+}
+
+// Notes an element's end q and its name's end e of a place, where there is room for it and q fits 16 bits.
 fn note(past: &mut [u32], at: usize, e: usize, q: usize)
-    requires { ⌜ e ≤ q ⌝ }
+    requires { ⌜ (at ≤ e) × (e ≤ at + 48) ⌝ }
     ensures { λ _. ⌜ now (past .exit) ≡ noteIn (now (past .entry)) at e q ⌝ }
 {
-    if at < past.len() {
+    let i = at / 4;
+    if i < past.len() {
         if q <= 65535 {
-            past[at] = (q + 65536 * e) as u32;
+            past[i] = (q + 65536 * (e - at + 64 * (at % 4 + 1))) as u32;
         }
     }
 }
 
-// What is noted at a place, as one number; 0 where nothing is.
-pub fn note_at(past: &[u32], at: usize) -> usize
-    ensures { λ r. ⌜ r ≡ getD (now (past .entry)) at 0 ⌝ }
+// What is noted of a place.
+pub fn note_at(past: &[u32], at: usize) -> Told
+    ensures { λ r. ⌜ r ≡ noteOf (now (past .entry)) at ⌝ }
 {
-    if at < past.len() {
-        past[at] as usize
+    let i = at / 4;
+    if past.len() <= i {
+        return Told::Nothing;
+    }
+    let n = past[i] as usize;
+    if n / 4194304 == at % 4 + 1 {
+        Told::Ends(n / 65536 % 64, n % 65536)
     } else {
-        0
+        Told::Nothing
     }
 }
 

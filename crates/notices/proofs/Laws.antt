@@ -1,84 +1,27 @@
--- Laws of addressing, notices and totals, a way out of the code at a time.
+-- Laws of notices and totals, a way out of the code at a time.
 use mathlib.Core.Path.{_≡_, refl, sym, ap, _∙_}
 use mathlib.Core.List.{List}
 use mathlib.Core.Bool.{Bool, true, false, cond}
 use Prim.Native.Nat.{ℕ, zero, suc, _+_, _-_, _*_, _^_, _≤_, _<_}
 use native.Mathlib.Omega.{arith}
-use lib.ListN.{length}
 use lib.IntN.{ℤ, pos, negsuc, subℕ, _-ℤ_}
 use lib.Signed.{mag}
 use lib.Dec.{ltb}
 use mir.Syntax.{w64}
 use mir.Val.{SFits, toZ, ofZ}
 use mir.Facts.{toZ-pos, toZ-ofZ}
-use Rattle.ranges.specs.declared.Found.{Found}
-use Rattle.ranges.specs.declared.Found.the-variants.{At, Nothing}
 use Rattle.record.specs.declared.Key.{Key}
-use Rattle.record.specs.Slot.{slotSize}
 use Rattle.slots.specs.Slots.{recordsAt, usedAt}
-use Rattle.body.specs.Body.{centsOf, bodyOk}
-use Rattle.entries.specs.Entry.{entrySize, slotsOf, placeOf}
-use Rattle.table.specs.Table.{maxLength, tableOk, bodyOf, entryOf}
-use Rattle.table.proofs.Laws.{head, table, body-same}
-use Rattle.table.proofs.Bodies.{body-at, found-body}
+use Rattle.body.specs.Body.{centsOf}
 use Rattle.rules.specs.declared.Noticed.{Noticed}
 use Rattle.service.specs.Service.{noticeComes, noticeLeaves}
-use Rattle.notices.specs.declared.Addressed.{Addressed}
-use Rattle.notices.specs.declared.Addressed.the-variants.{Invalid, Unknown, Body}
+use Rattle.address.specs.declared.Addressed.{Addressed}
+use Rattle.address.specs.declared.Addressed.the-variants.{Invalid, Unknown, Body}
 use Rattle.notices.specs.declared.NoticeAnswer.{NoticeAnswer}
 use Rattle.notices.specs.declared.NoticeAnswer.the-variants.{InvalidTable, UnknownBody}
 use Rattle.notices.specs.declared.TotalsAnswer.{TotalsAnswer}
-use Rattle.notices.specs.Notices.{bodyAt, addressed, noticed, noticeBy, noticeTableBy, noticeAnswer, noticeTable, bodyTotals, totalsBy, totalsOf}
-
--- THE BODY THAT A CODE NAMES: its slots lie within the table and are valid
-pub record Slots (t : List ℕ) (base n : ℕ) : Type 0 where
-  pub inside : base + slotSize * n ≤ length t
-  pub few : n ≤ 512
-  pub valid : bodyOk t base n ≡ true
-
--- the entry of a body that was found lies within the table
-pub record Row (t : List ℕ) (b : ℕ) : Type 0 where
-  pub ends : entryOf b + entrySize ≤ length t
-  pub fits : length t ≤ maxLength
-
-module _ (t code : List ℕ) where
-  pub to-invalid : tableOk t ≡ false → addressed t code ≡ Invalid
-  unfolding addressed
-  to-invalid h = rw h
-
-  module _ (ok : tableOk t ≡ true) where
-    opened : addressed t code ≡ bodyAt t (bodyOf t code)
-    unfolding addressed
-    opened = rw ok
-
-    pub to-unknown : bodyOf t code ≡ Nothing → addressed t code ≡ Unknown
-    to-unknown e = opened ∙ ap (bodyAt t) e
-
-    pub to-body : {b p n : ℕ} → bodyOf t code ≡ At b → p ≡ placeOf t (entryOf b) → n ≡ slotsOf t (entryOf b) → Body p n ≡ addressed t code
-    to-body e f g = (λ i. Body (f i) (g i)) ∙ sym (opened ∙ ap (bodyAt t) e)
-
-    pub row : (b : ℕ) → bodyOf t code ≡ At b → Row t b
-    row b e =
-        let h = head t (table t ok .head-ok) in
-        let w = body-at t ok b (found-body t ok code b e) .entry-in in
-        record { ends = omega (arith, h .room); fits = h .fits }
-
-  pub slots : {base n : ℕ} → addressed t code ≡ Body base n → Slots t base n
-  slots {base} {n} e = whether (tableOk t) refl
-    where
-      named : tableOk t ≡ true → (f : Found) → bodyOf t code ≡ f → bodyAt t f ≡ Body base n → Slots t base n
-      named ok Nothing b q = let z : _≡_ {A = ℕ} 0 1 = cc in absurd (omega arith)
-      named ok (At b) g q =
-          let w = body-at t ok b (found-body t ok code b g) in
-          let p : placeOf t (entryOf b) ≡ base = cc in
-          let s : slotsOf t (entryOf b) ≡ n = cc in
-          let i = w .inside in
-          let m = w .own-form .most-slots in
-          record { inside = omega arith; few = omega arith; valid = sym (body-same t p s) ∙ w .valid }
-
-      whether : (x : Bool) → tableOk t ≡ x → Slots t base n
-      whether true o = named o (bodyOf t code) refl (sym (opened o) ∙ e)
-      whether false o = let d = to-invalid o in let z : _≡_ {A = ℕ} 0 1 = cc in absurd (omega arith)
+use Rattle.address.specs.Address.{addressed}
+use Rattle.notices.specs.Notices.{noticed, noticeBy, noticeTableBy, noticeAnswer, noticeTable, bodyTotals, totalsBy, totalsOf}
 
 -- A NOTICE
 module _ (t code : List ℕ) (x : Bool) (k : Key) (line : ℕ) where
@@ -90,11 +33,11 @@ module _ (t code : List ℕ) (x : Bool) (k : Key) (line : ℕ) where
   unfolding noticeBy noticeTableBy
   no-body e = (sym (ap (noticeBy t x k line) e), sym (ap (noticeTableBy t x k line) e))
 
-  pub served : {base n : ℕ} {m : Noticed} {r : NoticeAnswer} {u : List ℕ} → addressed t code ≡ Body base n
+  pub served : {e base n : ℕ} {m : Noticed} {r : NoticeAnswer} {u : List ℕ} → addressed t code ≡ Body e base n
       → m ≡ noticeComes t base n x k line → u ≡ noticeLeaves t base n x k line → r ≡ noticed m
       → (r ≡ noticeAnswer t x code k line) × (u ≡ noticeTable t x code k line)
   unfolding noticeBy noticeTableBy
-  served e f g h = (h ∙ ap noticed f ∙ sym (ap (noticeBy t x k line) e), g ∙ sym (ap (noticeTableBy t x k line) e))
+  served q f g h = (h ∙ ap noticed f ∙ sym (ap (noticeBy t x k line) q), g ∙ sym (ap (noticeTableBy t x k line) q))
 
 -- TOTALS
 module _ (t code : List ℕ) where

@@ -1,34 +1,21 @@
--- Notices and totals (document 01, "Answers"): which body a call names, what it answers, and every byte it leaves.
+-- Notices and totals (document 01, "Answers"): what a call answers, and every byte it leaves.
 use Prim.Native.Nat.{ℕ, zero, suc, _+_}
 use lib.IntN.{ℤ, pos, _-ℤ_}
 use mathlib.Core.Path.{_≡_}
-use mathlib.Core.Bool.{Bool, true, false, cond}
+use mathlib.Core.Bool.{Bool, true, false}
 use mathlib.Core.List.{List}
-use Rattle.ranges.specs.declared.Found.{Found}
-use Rattle.ranges.specs.declared.Found.the-variants.{At, Nothing}
 use Rattle.record.specs.declared.Key.{Key}
 use Rattle.slots.specs.Slots.{recordsAt, usedAt}
 use Rattle.body.specs.Body.{centsOf}
-use Rattle.entries.specs.Entry.{slotsOf, placeOf}
-use Rattle.table.specs.Table.{tableOk, bodyOf, entryOf}
+use Rattle.address.specs.declared.Addressed.{Addressed}
+use Rattle.address.specs.declared.Addressed.the-variants.{Invalid, Unknown, Body}
+use Rattle.address.specs.Address.{addressed}
 use Rattle.rules.specs.declared.Noticed.{Noticed}
 use Rattle.rules.specs.declared.Noticed.the-variants.{Moved, Unmoved}
 use Rattle.service.specs.Service.{noticeComes, noticeLeaves}
-use Rattle.notices.specs.declared.Addressed.{Addressed}
-use Rattle.notices.specs.declared.Addressed.the-variants.{Invalid, Unknown, Body}
 use Rattle.notices.specs.declared.NoticeAnswer.{NoticeAnswer}
 use Rattle.notices.specs.declared.NoticeAnswer.the-variants.{InvalidTable, UnknownBody, Done, Declined}
 use Rattle.notices.specs.declared.TotalsAnswer.{TotalsAnswer}
-
--- WHICH BODY A CALL NAMES: "1 the table isn't valid", "7 no body has this code"
-
--- a body of the table: where its slots begin, and how many they are
-abbrev pub bodyAt : List ℕ → Found → Addressed
-bodyAt t (At b) = Body (placeOf t (entryOf b)) (slotsOf t (entryOf b))
-bodyAt t Nothing = Unknown
-
-unfoldable pub addressed : List ℕ → List ℕ → Addressed
-addressed t code = cond (tableOk t) (bodyAt t (bodyOf t code)) Invalid
 
 -- A NOTICE: "A notice names body code, kind, esercizio, number, line"
 
@@ -39,12 +26,12 @@ noticed (Unmoved c) = Declined c
 unfoldable pub noticeBy : List ℕ → Bool → Key → ℕ → Addressed → NoticeAnswer
 noticeBy t executing k line Invalid = InvalidTable
 noticeBy t executing k line Unknown = UnknownBody
-noticeBy t executing k line (Body base n) = noticed (noticeComes t base n executing k line)
+noticeBy t executing k line (Body e base n) = noticed (noticeComes t base n executing k line)
 
 unfoldable pub noticeTableBy : List ℕ → Bool → Key → ℕ → Addressed → List ℕ
 noticeTableBy t executing k line Invalid = t
 noticeTableBy t executing k line Unknown = t
-noticeTableBy t executing k line (Body base n) = noticeLeaves t base n executing k line
+noticeTableBy t executing k line (Body e base n) = noticeLeaves t base n executing k line
 
 -- what a notice of execution (true) or reversal (false) answers, and the table afterwards
 abbrev pub noticeAnswer : List ℕ → Bool → List ℕ → Key → ℕ → NoticeAnswer
@@ -93,7 +80,7 @@ bodyTotals t base n = record {
 abbrev pub totalsBy : List ℕ → Addressed → TotalsAnswer
 totalsBy t Invalid = zeroTotals 1
 totalsBy t Unknown = zeroTotals 7
-totalsBy t (Body base n) = bodyTotals t base n
+totalsBy t (Body e base n) = bodyTotals t base n
 
 unfoldable pub totalsOf : List ℕ → List ℕ → TotalsAnswer
 totalsOf t code = totalsBy t (addressed t code)

@@ -1,5 +1,5 @@
 // The bank's notices of execution and reversal, and a body's totals, on any bytes at all.
-use ranges::Found;
+use address::Addressed;
 use record::Key;
 use rules::Noticed;
 ghost use mathlib.Core.Path.{_≡_};
@@ -9,14 +9,7 @@ ghost use lib.IntN.{pos, _-ℤ_};
 ghost use lib.ListN.{length};
 ghost use Rattle.record.specs.Slot.{slotSize};
 ghost use Rattle.body.specs.Body.{bodyOk};
-ghost use Rattle.notices.specs.Notices.{addressed, noticed, NoticePromise, zeroTotals, bodyTotals, TotalsPromise};
-
-// The body that a code names: where its slots begin and how many they are.
-pub enum Addressed {
-    Invalid,
-    Unknown,
-    Body(usize, usize),
-}
+ghost use Rattle.notices.specs.Notices.{noticed, NoticePromise, zeroTotals, bodyTotals, TotalsPromise};
 
 // What a notice's call answers.
 pub enum NoticeAnswer {
@@ -35,22 +28,6 @@ pub struct TotalsAnswer {
     pub balance: i64,
 }
 
-// The body of a table that a code names.
-pub fn addressed_by(t: &[u8], code: &[u8]) -> Addressed
-    ensures { λ r. ⌜ r ≡ addressed (now (t .entry)) (now (code .entry)) ⌝ }
-{
-    if !table::table_ok(t) {
-        return Addressed::Invalid;
-    }
-    match table::find_body(t, code) {
-        Found::At(b) => {
-            let e = table::HEAD + entries::ENTRY * b;
-            Addressed::Body(entries::place_of(t, e), entries::slots_of(t, e))
-        }
-        Found::Nothing => Addressed::Unknown,
-    }
-}
-
 fn answer_of(n: Noticed) -> NoticeAnswer
     ensures { λ r. ⌜ r ≡ noticed n ⌝ }
 {
@@ -63,10 +40,10 @@ fn answer_of(n: Noticed) -> NoticeAnswer
 fn notice(t: &mut [u8], code: &[u8], executing: bool, key: Key, line: u64) -> NoticeAnswer
     ensures { λ r. ⌜ NoticePromise (now (t .entry)) executing (now (code .entry)) key line r (now (t .exit)) ⌝ }
 {
-    match addressed_by(t, code) {
+    match address::addressed_by(t, code) {
         Addressed::Invalid => NoticeAnswer::InvalidTable,
         Addressed::Unknown => NoticeAnswer::UnknownBody,
-        Addressed::Body(base, n) => answer_of(service::serve_notice(
+        Addressed::Body(_, base, n) => answer_of(service::serve_notice(
             t,
             base,
             n,
@@ -167,9 +144,9 @@ fn body_totals(t: &[u8], base: usize, n: usize) -> TotalsAnswer
 pub fn totals(t: &[u8], code: &[u8]) -> TotalsAnswer
     ensures { λ r. ⌜ TotalsPromise (now (t .entry)) (now (code .entry)) r ⌝ }
 {
-    match addressed_by(t, code) {
+    match address::addressed_by(t, code) {
         Addressed::Invalid => no_totals(1),
         Addressed::Unknown => no_totals(7),
-        Addressed::Body(base, n) => body_totals(t, base, n),
+        Addressed::Body(_, base, n) => body_totals(t, base, n),
     }
 }

@@ -1,32 +1,42 @@
--- When a flow's content stands: it has the structure of its table, and none of its fields breaks.
-use Prim.Native.Nat.{ℕ}
+-- What content comes to, structure and fields together: its structure breaks, else a field does, else it stands (document 01, codes 4 and 5).
+use Prim.Native.Nat.{ℕ, _+_}
 use mathlib.Core.List.{List}
-use mathlib.Core.Bool.{Bool, true, false, _&&_}
+use mathlib.Core.Bool.{Bool, true, false, cond}
 use Rattle.scan.specs.Bytes.{part}
+use Rattle.children.specs.declared.Child.{Child}
 use Rattle.fields.specs.declared.Form.{Form}
-use Rattle.fields.specs.declared.Judged.{Judged}
-use Rattle.fields.specs.declared.Judged.the-variants.{Stands, Breaks}
 use Rattle.fields.specs.Fields.{fieldStands}
 use Rattle.rows.specs.declared.Parent.{Parent}
 use Rattle.structure.specs.Structure.{textOnly, fitsAt}
-use Rattle.readings.specs.declared.Bad.{Bad}
-use Rattle.readings.specs.declared.Bad.the-variants.{Place, Nowhere}
-use Rattle.readings.specs.Readings.{fieldsAt, firstBad}
+use Rattle.standing.specs.declared.Standing.{Standing}
+use Rattle.standing.specs.declared.Standing.the-variants.{StructureBreaks, FieldBreaks, Stands}
+use Rattle.standing.specs.Readings.{Bad, Place, Nowhere, badOr, fieldsAt, firstBad}
 
--- no field breaks
-abbrev pub isNowhere : Bad → Bool
-isNowhere (Place p) = false
-isNowhere Nowhere = true
+-- "Checked in that order": a structure that breaks is said before any field
+abbrev pub byFields : Bad → Standing
+byFields (Place p) = FieldBreaks p
+byFields Nowhere = Stands
 
--- content that begins at `at` has the structure of the parent, of at most d levels, and none of its fields breaks
-unfoldable pub standsAt : ℕ → Parent → List ℕ → ℕ → Bool
-standsAt d p s at = fitsAt d p s at && isNowhere (firstBad (fieldsAt d p s at))
+abbrev pub standingBy : Bool → Bad → Standing
+standingBy fits bad = cond fits (byFields bad) StructureBreaks
 
--- A FIELD by itself, a name for the contract of the code's inner function
-abbrev pub hasForm : Judged → Bool
-hasForm Stands = true
-hasForm Breaks = false
+-- content that begins at `at`, of at most d levels
+unfoldable pub standingAt : ℕ → Parent → List ℕ → ℕ → Standing
+standingAt d p s at = standingBy (fitsAt d p s at) (firstBad (fieldsAt d p s at))
 
--- content from one place up to another is text only, and has the form
-unfoldable pub textStands : List ℕ → Form → ℕ → ℕ → Bool
-textStands s f from to = textOnly s from && hasForm (fieldStands f (part s from to))
+-- NAMES FOR THE CONTRACTS of the walk's inner functions
+
+-- a field by itself: it holds text only, and has its form
+unfoldable pub fieldStanding : List ℕ → Form → Child → Standing
+fieldStanding s f c = standingBy (textOnly s (c .gt + 1)) (badOr (c .lt) Nowhere (fieldStands f (part s (c .gt + 1) (c .to))))
+
+abbrev pub structured : Standing → Bool
+structured StructureBreaks = false
+structured (FieldBreaks p) = true
+structured Stands = true
+
+-- one part after the other: the structure of either is said first, then the first field
+abbrev pub after : Standing → Standing → Standing
+after StructureBreaks y = StructureBreaks
+after (FieldBreaks p) y = cond (structured y) (FieldBreaks p) StructureBreaks
+after Stands y = y

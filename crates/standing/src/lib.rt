@@ -1,4 +1,5 @@
-// Whether a flow's content stands, in one walk: structure and fields together. Where it does not, `structure` and `readings` say what breaks.
+// What a flow's content comes to, in one walk: its structure breaks, or a field does, or it stands.
+use children::Child;
 use fields::Form;
 use fields::Judged;
 use rows::Holds;
@@ -8,59 +9,96 @@ ghost use mathlib.Core.Path.{_≡_};
 ghost use Prim.Native.Nat.{_+_, _≤_, _<_};
 ghost use lib.ListN.{length};
 ghost use Rattle.markup.specs.Noted.{Noted};
-ghost use Rattle.standing.specs.Standing.{textStands, standsAt};
+ghost use Rattle.standing.specs.Standing.{fieldStanding, standingAt, after, structured};
 
-// Whether a field's content, from one place up to another, holds no element and has the field's form.
-fn text_stands(s: &[u8], from: usize, to: usize, f: Form, past: &[u32]) -> bool
-    requires { ⌜ (from ≤ to) × (to ≤ length (now s)) × Noted (now s) (now past) ⌝ }
-    ensures { λ r. ⌜ r ≡ textStands (now (s .entry)) f from to ⌝ }
+// What content comes to; a field that breaks is named by its `<`.
+pub enum Standing {
+    StructureBreaks,
+    FieldBreaks(usize),
+    Stands,
+}
+
+// Whether the structure stands.
+fn has_structure(w: Standing) -> bool
+    ensures { λ r. ⌜ r ≡ structured w ⌝ }
 {
-    if !structure::text_only(s, from, past) {
-        return false;
-    }
-    match fields::field_stands(f, &s[from..to]) {
-        Judged::Stands => true,
-        Judged::Breaks => false,
+    match w {
+        Standing::StructureBreaks => false,
+        Standing::FieldBreaks(_) => true,
+        Standing::Stands => true,
     }
 }
 
-// Whether the content at a place stands, of at most d levels: `structure::fits` with each field judged where it is met.
-pub fn stands(s: &[u8], at: usize, parent: Parent, d: usize, past: &[u32]) -> bool
+// One part after the other: the structure of either is said first, then the first field.
+fn then(first: Standing, next: Standing) -> Standing
+    ensures { λ r. ⌜ r ≡ after first next ⌝ }
+{
+    match first {
+        Standing::StructureBreaks => Standing::StructureBreaks,
+        Standing::FieldBreaks(p) => {
+            if has_structure(next) {
+                Standing::FieldBreaks(p)
+            } else {
+                Standing::StructureBreaks
+            }
+        }
+        Standing::Stands => next,
+    }
+}
+
+// A field: it holds no element, and has its form.
+fn field_standing(s: &[u8], c: Child, f: Form, past: &[u32]) -> Standing
+    requires { ⌜ (c .gt + 1 ≤ c .to) × (c .to ≤ length (now s)) × Noted (now s) (now past) ⌝ }
+    ensures { λ r. ⌜ r ≡ fieldStanding (now (s .entry)) f c ⌝ }
+{
+    let from = c.gt + 1;
+    let to = c.to;
+    if !structure::text_only(s, from, past) {
+        return Standing::StructureBreaks;
+    }
+    match fields::field_stands(f, &s[from..to]) {
+        Judged::Stands => Standing::Stands,
+        Judged::Breaks => Standing::FieldBreaks(c.lt),
+    }
+}
+
+// The content at a place, of at most d levels: of the children walked, n stand in `row` and none after it. A field that breaks is kept while the
+// structure of the others is looked at, so that all is walked once.
+pub fn judge(s: &[u8], at: usize, parent: Parent, d: usize, past: &[u32]) -> Standing
     requires { ⌜ (at ≤ length (now s)) × Noted (now s) (now past) ⌝ }
-    ensures { λ r. ⌜ r ≡ standsAt d parent (now (s .entry)) at ⌝ }
+    ensures { λ r. ⌜ r ≡ standingAt d parent (now (s .entry)) at ⌝ }
 {
     if d == 0 {
-        return false;
+        return Standing::StructureBreaks;
     }
     let mut i = scan::white_end(s, at);
     let mut row: usize = 0;
     let mut n: usize = 0;
-    loop {
+    let mut so_far = Standing::Stands;
+    while has_structure(so_far) {
         let Next::Named(k) = rows::next_named(s, i, parent, past) else {
-            return structure::filled(parent, row, n, structure::rows(parent));
+            if structure::filled(parent, row, n, structure::rows(parent)) {
+                return so_far;
+            }
+            return Standing::StructureBreaks;
         };
         let c = k.child;
         let h = k.holds;
         let next = k.row;
-        let from = c.gt + 1;
         if !structure::filled(parent, row, n, next) {
-            return false;
+            return Standing::StructureBreaks;
         }
         n = structure::counted(row, n, next);
         row = next;
+        i = c.after;
         match h {
             Holds::Text(f) => {
-                if !text_stands(s, from, c.to, f, past) {
-                    return false;
-                }
-                i = c.after;
+                so_far = then(so_far, field_standing(s, c, f, past));
             }
             Holds::Rows(q) => {
-                if !stands(s, from, q, d - 1, past) {
-                    return false;
-                }
-                i = c.after;
+                so_far = then(so_far, judge(s, c.gt + 1, q, d - 1, past));
             }
         }
     }
+    Standing::StructureBreaks
 }

@@ -138,7 +138,7 @@ unfolding countedOf
 counted-same row n = rw (eq-eqb row row refl)
 
 -- the count stays within the bytes walked
-counted-within : (row n to m j : ℕ) → m ≡ countedOf row n to → n < j → m ≤ j
+pub counted-within : (row n to m j : ℕ) → m ≡ countedOf row n to → n < j → m ≤ j
 unfolding countedOf
 counted-within row n to m j e h = rw e (go (eqb to row))
   where
@@ -179,58 +179,24 @@ order-end rs row n h = rw (le-leb row (length rs) (omega arith)) (end-by (length
 unfoldable pub goesOn : List Range → (Kept → Bool) → ℕ → ℕ → List Kept → Bool
 goesOn rs f row n ks = inOrderFrom (drop row rs) row n (rowsOf ks) && all f ks
 
+-- a child's part, and the others' in the order of the rows
+between : (a b c : Bool) → (a && (b && c)) ≡ (b && (a && c))
+between true b c = refl
+between false b c = sym (and-false b)
+
 module _ (rs : List Range) (f : Kept → Bool) (row n : ℕ) (ks : List Kept) where
-  goes-end : ks ≡ [] → row < length rs → goesOn rs f row n ks ≡ filledFrom rs row n (length rs)
+  pub goes-end : ks ≡ [] → row < length rs → goesOn rs f row n ks ≡ filledFrom rs row n (length rs)
   unfolding goesOn rowsOf all
   goes-end e h = rw (e, order-end rs row n h) (and-true (filledFrom rs row n (length rs)))
 
   module _ (k : Kept) (t : List Kept) (e : ks ≡ k ∷ t) where
-    goes-short : filledFrom rs row n (k .row) ≡ false → goesOn rs f row n ks ≡ false
+    pub goes-short : filledFrom rs row n (k .row) ≡ false → goesOn rs f row n ks ≡ false
     unfolding goesOn rowsOf
     goes-short g = rw (e, order-step rs row n (k .row) (rowsOf t), g)
 
-    goes-other : f k ≡ false → goesOn rs f row n ks ≡ false
-    unfolding goesOn all
-    goes-other x = rw (e, x) (and-false (inOrderFrom (drop row rs) row n (rowsOf (k ∷ t))))
-
-    goes-on : filledFrom rs row n (k .row) ≡ true → (m : ℕ) → m ≡ countedOf row n (k .row) → f k ≡ true → goesOn rs f row n ks ≡ goesOn rs f (k .row) m t
+    pub goes-on : filledFrom rs row n (k .row) ≡ true → goesOn rs f row n ks ≡ (f k && goesOn rs f (k .row) (countedOf row n (k .row)) t)
     unfolding goesOn rowsOf all
-    goes-on g m c x = rw (e, order-step rs row n (k .row) (rowsOf t), g, x, c)
-
--- more is asked of each child
-pub goes-and : (rs : List Range) (f g : Kept → Bool) (row n : ℕ) (ks : List Kept) (b : Bool) → (all f ks && b) ≡ all g ks → (goesOn rs f row n ks && b) ≡ goesOn rs g row n ks
-unfolding goesOn
-goes-and rs f g row n ks b e = and-assoc (inOrderFrom (drop row rs) row n (rowsOf ks)) (all f ks) b ∙ rw e
-
--- where the walk stands: b is to be said of all the children, f of each, and n of the row are walked up to i
-abbrev pub Goes : Bool → (Kept → Bool) → Parent → List ℕ → ℕ → ℕ → ℕ → Type 0
-Goes b f p s i row n = (i ≤ length s) × (n ≤ i) × (row < length (ranges (table p))) × (b ≡ goesOn (ranges (table p)) f row n (keptFrom p s i))
-
--- the child found there, a way out of the code at a time
-pub record Found (b : Bool) (f : Kept → Bool) (p : Parent) (s : List ℕ) (i row n : ℕ) (k : Kept) : Type 0 where
-  pub lies : Lies s i (k .child)
-  pub short : filledFrom (ranges (table p)) row n (k .row) ≡ false → false ≡ b
-  pub other : f k ≡ false → false ≡ b
-  pub on : filledFrom (ranges (table p)) row n (k .row) ≡ true → (m : ℕ) → m ≡ countedOf row n (k .row) → f k ≡ true → Goes b f p s (k .child .after) (k .row) m
-
-module _ (b : Bool) (f : Kept → Bool) (p : Parent) (s : List ℕ) (i row n : ℕ) (g : Goes b f p s i row n) where
-  pub found : (k : Kept) → nextOf (keptFrom p s i) ≡ Named k → Found b f p s i row n k
-  found k e =
-      let rs = ranges (table p) in
-      let ks = keptFrom p s i in
-      let u = keptFrom p s (k .child .after) in
-      let a = next-at p s i k e in
-      let r = a .rest in
-      let l = a .lies in
-      record {
-        lies = l;
-        short = λ x. sym (g .3 ∙ goes-short rs f row n ks k u r x);
-        other = λ x. sym (g .3 ∙ goes-other rs f row n ks k u r x);
-        on = λ w m c x. (l .within, counted-within row n (k .row) m (k .child .after) c (omega (arith, g .1)), kept-row p s i k u r, g .3 ∙ goes-on rs f row n ks k u r w m c x);
-      }
-
-  pub found-none : nextOf (keptFrom p s i) ≡ Done → filledFrom (ranges (table p)) row n (length (ranges (table p))) ≡ b
-  found-none e = sym (g .3 ∙ goes-end (ranges (table p)) f row n (keptFrom p s i) (next-done p s i e) (g .2))
+    goes-on g = rw (e, order-step rs row n (k .row) (rowsOf t), g) (between (inOrderFrom (drop (k .row) rs) (k .row) (countedOf row n (k .row)) (rowsOf t)) (f k) (all f t))
 
 -- ONE LEVEL
 -- what the level below says of a parent's content

@@ -1,14 +1,12 @@
-// The structure of a flow: at each level one walk over the named children, their order and number and what each holds.
+// The structure of a flow, as its walk asks it: which number of elements a row takes, and that a field holds no element.
 use children::Step;
-use rows::Holds;
-use rows::Next;
 use rows::Parent;
 ghost use mathlib.Core.Path.{_≡_};
 ghost use Prim.Native.Nat.{_+_, _≤_, _<_};
 ghost use lib.ListN.{length};
 ghost use Rattle.markup.specs.Noted.{Noted};
 ghost use Rattle.rows.specs.Table.{table};
-ghost use Rattle.structure.specs.Structure.{ranges, allows, textOnly, fitsAt};
+ghost use Rattle.structure.specs.Structure.{ranges, allows, textOnly};
 ghost use Rattle.structure.specs.Walk.{upTo, filledFrom, countedOf};
 
 // Whether n elements may stand in a row, where one stands in each row before the last and 1 to `most` in that.
@@ -91,46 +89,5 @@ pub fn text_only(s: &[u8], at: usize, past: &[u32]) -> bool
     match children::child_at(s, scan::white_end(s, at), past) {
         Step::One(_) => false,
         Step::End => true,
-    }
-}
-
-// Whether the content at a place has the structure of the parent, of at most d levels. Of the children walked, n stand in `row` and none after it.
-pub fn fits(s: &[u8], at: usize, parent: Parent, d: usize, past: &[u32]) -> bool
-    requires { ⌜ (at ≤ length (now s)) × Noted (now s) (now past) ⌝ }
-    ensures { λ r. ⌜ r ≡ fitsAt d parent (now (s .entry)) at ⌝ }
-{
-    if d == 0 {
-        return false;
-    }
-    let mut i = scan::white_end(s, at);
-    let mut row: usize = 0;
-    let mut n: usize = 0;
-    loop {
-        let Next::Named(k) = rows::next_named(s, i, parent, past) else {
-            return filled(parent, row, n, rows(parent));
-        };
-        let c = k.child;
-        let h = k.holds;
-        let to = k.row;
-        let from = c.gt + 1;
-        if !filled(parent, row, n, to) {
-            return false;
-        }
-        n = counted(row, n, to);
-        row = to;
-        match h {
-            Holds::Text(_) => {
-                if !text_only(s, from, past) {
-                    return false;
-                }
-                i = c.after;
-            }
-            Holds::Rows(q) => {
-                if !fits(s, from, q, d - 1, past) {
-                    return false;
-                }
-                i = c.after;
-            }
-        }
     }
 }

@@ -10,7 +10,7 @@ use borrow.Author.Tests.{eqb-true}
 use lib.ListN.{length, drop}
 use Rattle.scan.specs.Bytes.{textIs}
 use Rattle.words.specs.Numbers.{put}
-use Rattle.table.specs.Table.{tableOk, abiOf, bodyOf}
+use Rattle.table.specs.Table.{tableOk, abiOf}
 use Rattle.slots.specs.Slots.{recordsAt}
 use Rattle.order.specs.declared.Order.{Order}
 use Rattle.orders.specs.Orders.{Header}
@@ -21,9 +21,9 @@ use Rattle.rules.specs.declared.Judged.{Judged}
 use Rattle.rules.specs.declared.Judged.the-variants.{Accepted, Refused}
 use Rattle.rules.specs.Rules.{codeOf, judgeOrder}
 use Rattle.service.specs.Service.{orderComes, orderLeaves, outcomeBytes, allOutcomes, allAccepted, one}
-use Rattle.notices.specs.declared.Addressed.{Addressed}
-use Rattle.notices.specs.declared.Addressed.the-variants.{Invalid, Unknown, Body}
-use Rattle.notices.specs.Notices.{bodyAt}
+use Rattle.address.specs.declared.Addressed.{Addressed}
+use Rattle.address.specs.declared.Addressed.the-variants.{Invalid, Unknown, Body}
+use Rattle.address.specs.Address.{bodyNamed}
 use Rattle.desk.specs.declared.FlowAnswer.{FlowAnswer}
 use Rattle.desk.specs.declared.FlowAnswer.the-variants.{InvalidTable, TooLong, OtherBank, NoRoom}
 use Rattle.desk.specs.Desk.{Reading, refused, served, forBody, forBank, forFlow, maxFlow, flowReads, flowAnswer, FlowPromise, flowReply, flowCode}
@@ -39,7 +39,7 @@ Coding (served base n year os) = Unit
 body-coding : (room year : ℕ) (os : List Order) (b : Addressed) → Coding (forBody room year os b)
 body-coding room year os Invalid = λ e. omega arith
 body-coding room year os Unknown = λ e. omega arith
-body-coding room year os (Body base n) = go (leb (16 * length os) room)
+body-coding room year os (Body e base n) = go (leb (16 * length os) room)
   where
     go : (u : Bool) → Coding (cond u (served base n year os) (refused NoRoom))
     go true = tt
@@ -48,8 +48,8 @@ body-coding room year os (Body base n) = go (leb (16 * length os) room)
 bank-coding : (t : List ℕ) (room : ℕ) (h : Header) (os : List Order) → Coding (forBank t room h os)
 bank-coding t room h os = go (textIs (abiOf t) (h .abi))
   where
-    go : (u : Bool) → Coding (cond u (forBody room (h .esercizio) os (bodyAt t (bodyOf t (h .ente)))) (refused OtherBank))
-    go true = body-coding room (h .esercizio) os (bodyAt t (bodyOf t (h .ente)))
+    go : (u : Bool) → Coding (cond u (forBody room (h .esercizio) os (bodyNamed t (h .ente))) (refused OtherBank))
+    go true = body-coding room (h .esercizio) os (bodyNamed t (h .ente))
     go false = λ e. omega arith
 
 verdict-coding : (t f : List ℕ) (room : ℕ) (v : Verdict) → Coding (forFlow t f room v)

@@ -25,11 +25,12 @@ use Rattle.rules.specs.declared.Noticed.{Noticed}
 use Rattle.rules.specs.declared.Noticed.the-variants.{Moved, Unmoved}
 use Rattle.rules.specs.Rules.{situationOf, stepOf, nth, sameOrder, placed, unless, stepped, sostituzione, keyFor, judgeOrder, codeOf, lineMoves, moveOr, noticeIn, noticeAt, judgeNotice, noticeCode}
 use Rattle.service.specs.Service.{noticeComes}
-use Rattle.notices.specs.declared.Addressed.{Addressed}
-use Rattle.notices.specs.declared.Addressed.the-variants.{Invalid, Unknown, Body}
+use Rattle.address.specs.declared.Addressed.{Addressed}
+use Rattle.address.specs.declared.Addressed.the-variants.{Invalid, Unknown, Body}
 use Rattle.notices.specs.declared.NoticeAnswer.{NoticeAnswer}
 use Rattle.notices.specs.declared.TotalsAnswer.{TotalsAnswer}
-use Rattle.notices.specs.Notices.{noticed, addressed, noticeBy, noticeCodeOf, bodyTotals, totalsBy, totalsOf}
+use Rattle.address.specs.Address.{addressed}
+use Rattle.notices.specs.Notices.{noticed, noticeBy, noticeCodeOf, bodyTotals, totalsBy, totalsOf}
 use Rattle.opening.specs.declared.Opened.{Opened}
 use Rattle.opening.specs.declared.Opened.the-variants.{Open, WrongRequest, WrongLength}
 use Rattle.opening.specs.Opening.{openCode}
@@ -183,7 +184,7 @@ notice-codes : (t : List ℕ) (executing : Bool) (k : Key) (line : ℕ) (b : Add
 unfolding noticeBy
 notice-codes t executing k line Invalid = refl
 notice-codes t executing k line Unknown = refl
-notice-codes t executing k line (Body base n) =
+notice-codes t executing k line (Body e base n) =
     let c = noticeCodeOf (noticed (noticeComes t base n executing k line)) in
     or-true (eqb c 1) (or-true (eqb c 7) (body-notice-codes t base n executing k line))
 
@@ -202,7 +203,7 @@ totals-codes : (t code : List ℕ) (b : Addressed) → oneOf (callCodes (totals 
 unfolding bodyTotals
 totals-codes t code Invalid = refl
 totals-codes t code Unknown = refl
-totals-codes t code (Body base n) = refl
+totals-codes t code (Body e base n) = refl
 
 pub call-codes : (c : Call) (t : List ℕ) (a : Answer) (t′ : List ℕ) → Step c t a t′ → oneOf (callCodes c) (answerCode a) ≡ true
 unfolding totalsOf

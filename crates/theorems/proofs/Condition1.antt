@@ -11,9 +11,10 @@ use Rattle.rules.specs.declared.Noticed.{Noticed}
 use Rattle.rules.specs.declared.Noticed.the-variants.{Moved, Unmoved}
 use Rattle.rules.specs.Rules.{codeOf}
 use Rattle.service.specs.Service.{orderComes, orderStored, noticeComes, noticeStored}
-use Rattle.notices.specs.declared.Addressed.{Addressed}
-use Rattle.notices.specs.declared.Addressed.the-variants.{Invalid, Unknown, Body}
-use Rattle.notices.specs.Notices.{addressed, noticed, noticeBy, noticeTableBy, noticeCodeOf}
+use Rattle.address.specs.declared.Addressed.{Addressed}
+use Rattle.address.specs.declared.Addressed.the-variants.{Invalid, Unknown, Body}
+use Rattle.address.specs.Address.{addressed}
+use Rattle.notices.specs.Notices.{noticed, noticeBy, noticeTableBy, noticeCodeOf}
 use Rattle.opening.specs.declared.Opened.{Opened}
 use Rattle.opening.specs.declared.Opened.the-variants.{Open, WrongRequest, WrongLength}
 use Rattle.opening.specs.Opening.{openCode, openTable}
@@ -38,7 +39,7 @@ addressed-keeps : (t : List ℕ) (executing : Bool) (k : Key) (line : ℕ) (a : 
 unfolding noticeBy noticeTableBy
 addressed-keeps t executing k line Invalid f = refl
 addressed-keeps t executing k line Unknown f = refl
-addressed-keeps t executing k line (Body base n) f = moved t base executing line (noticeComes t base n executing k line) f
+addressed-keeps t executing k line (Body e base n) f = moved t base executing line (noticeComes t base n executing k line) f
 
 opening-keeps : (q t : List ℕ) (a : Opened) → (openCode a ≡ 0 → ⊥) → openTable a q t ≡ t
 opening-keeps q t Open f = absurd (f refl)

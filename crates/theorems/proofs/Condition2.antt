@@ -23,9 +23,10 @@ use Rattle.rules.specs.Rules.{noRecord, nth, noticeAt, judgeNotice}
 use Rattle.service.specs.Service.{noticeComes}
 use Rattle.service.proofs.Laws.{search-held}
 use Rattle.notices.specs.declared.NoticeAnswer.{NoticeAnswer}
-use Rattle.notices.specs.declared.Addressed.the-variants.{Body}
+use Rattle.address.specs.declared.Addressed.the-variants.{Body}
 use Rattle.notices.specs.declared.TotalsAnswer.{TotalsAnswer}
-use Rattle.notices.specs.Notices.{addressed, noticed, noticeBy, noticeCodeOf, NoticePromise, bodyTotals, totalsOf, TotalsPromise}
+use Rattle.address.specs.Address.{addressed}
+use Rattle.notices.specs.Notices.{noticed, noticeBy, noticeCodeOf, NoticePromise, bodyTotals, totalsOf, TotalsPromise}
 use Rattle.theorems.specs.Engine.{recordsOf}
 use Rattle.theorems.specs.Condition2.{Condition2}
 use Rattle.theorems.proofs.Accepted.{orders-in-turn, accepted-counts}
@@ -44,7 +45,7 @@ module _ (t : List ℕ) (ok : tableOk t ≡ true) (code : List ℕ) (b : ℕ) (e
   abbrev size : ℕ
   size = slotsOf t (entryOf b)
 
-  is-body : addressed t code ≡ Body base size
+  is-body : addressed t code ≡ Body (entryOf b) base size
   unfolding addressed
   is-body = rw (ok, e)
 

@@ -10,7 +10,7 @@ use lib.Dec.{leb}
 use Rattle.scan.specs.Bytes.{textIs}
 use Rattle.ranges.specs.declared.Found.{Found}
 use Rattle.ranges.specs.declared.Found.the-variants.{At, Nothing}
-use Rattle.table.specs.Table.{bodies, abiOf, tableOk, bodyOf}
+use Rattle.table.specs.Table.{bodies, abiOf, tableOk, bodyOf, entryOf}
 use Rattle.table.proofs.Bodies.{found-body}
 use Rattle.order.specs.declared.Line.{Line}
 use Rattle.order.specs.declared.Order.{Order}
@@ -22,8 +22,8 @@ use Rattle.flow.proofs.Laws.{flow-stood}
 use Rattle.flow.proofs.Values.{OrderOk, Each, orders-ok, header-ok}
 use Rattle.rules.proofs.Kept.{Writable}
 use Rattle.service.proofs.Kept.{Writables, none, more}
-use Rattle.notices.specs.declared.Addressed.the-variants.{Unknown, Body}
-use Rattle.notices.specs.Notices.{bodyAt, addressed}
+use Rattle.address.specs.declared.Addressed.the-variants.{Unknown, Body}
+use Rattle.address.specs.Address.{bodyAt, bodyNamed, addressed}
 use Rattle.desk.specs.declared.FlowAnswer.{FlowAnswer}
 use Rattle.desk.specs.declared.FlowAnswer.the-variants.{TooLong, BrokenMarkup, BrokenStructure, BrokenField, OtherBank, UnknownBody, NoRoom}
 use Rattle.desk.specs.Desk.{Reading, refused, served, forBody, forFlow, maxFlow, flowReads, flowCode}
@@ -34,7 +34,7 @@ use Rattle.theorems.proofs.Good.{Good, base, size, abi-is, find-is, pla
 -- a body's code, on every good table
 pub data Names (t₀ code : List ℕ) : Option ℕ → Type 0 where
   stray : ((t : List ℕ) → Good t₀ t → addressed t code ≡ Unknown) → Names t₀ code none
-  body : (b : ℕ) → b < bodies t₀ → ((t : List ℕ) → Good t₀ t → addressed t code ≡ Body (base t₀ b) (size t₀ b)) → Names t₀ code (some b)
+  body : (b : ℕ) → b < bodies t₀ → ((t : List ℕ) → Good t₀ t → addressed t code ≡ Body (entryOf b) (base t₀ b) (size t₀ b)) → Names t₀ code (some b)
 
 -- what a flow reads, on every good table
 abbrev pub Always : List ℕ → List ℕ → List ℕ → Reading → Type 0
@@ -68,13 +68,13 @@ writables (o ∷ os) h = more (writable o (h .0)) (writables os (h .1))
 module _ (t₀ : List ℕ) (r : tableOk t₀ ≡ true) where
   -- A CODE
   module _ (t : List ℕ) (g : Good t₀ t) (code : List ℕ) where
-    body-none : bodyOf t₀ code ≡ Nothing → bodyAt t (bodyOf t code) ≡ Unknown
+    body-none : bodyOf t₀ code ≡ Nothing → bodyNamed t code ≡ Unknown
     body-none e = ap (bodyAt t) (find-is t₀ r t g code ∙ e)
 
-    body-some : (b : ℕ) → bodyOf t₀ code ≡ At b → b < bodies t₀ → bodyAt t (bodyOf t code) ≡ Body (base t₀ b) (size t₀ b)
-    body-some b e h = ap (bodyAt t) (find-is t₀ r t g code ∙ e) ∙ (λ i. Body (place-is t₀ r t g b h i) (slots-is t₀ r t g b h i))
+    body-some : (b : ℕ) → bodyOf t₀ code ≡ At b → b < bodies t₀ → bodyNamed t code ≡ Body (entryOf b) (base t₀ b) (size t₀ b)
+    body-some b e h = ap (bodyAt t) (find-is t₀ r t g code ∙ e) ∙ (λ i. Body (entryOf b) (place-is t₀ r t g b h i) (slots-is t₀ r t g b h i))
 
-    addressed-is : addressed t code ≡ bodyAt t (bodyOf t code)
+    addressed-is : addressed t code ≡ bodyNamed t code
     unfolding addressed
     addressed-is = rw (g .ok)
 
@@ -108,10 +108,10 @@ module _ (t₀ : List ℕ) (r : tableOk t₀ ≡ true) where
         os = flowOrders f at
 
         bank-reads : (u : Bool) → textIs (abiOf t₀) (h .abi) ≡ u → (t : List ℕ) → Good t₀ t
-            → flowReads t f (length out) ≡ cond u (forBody (length out) (h .esercizio) os (bodyAt t (bodyOf t (h .ente)))) (refused OtherBank)
+            → flowReads t f (length out) ≡ cond u (forBody (length out) (h .esercizio) os (bodyNamed t (h .ente))) (refused OtherBank)
         bank-reads u e t g =
             verdict-reads (Stands at) stands t g
-            ∙ ap (λ (y : Bool). cond y (forBody (length out) (h .esercizio) os (bodyAt t (bodyOf t (h .ente)))) (refused OtherBank))
+            ∙ ap (λ (y : Bool). cond y (forBody (length out) (h .esercizio) os (bodyNamed t (h .ente))) (refused OtherBank))
             (ap (λ (a : List ℕ). textIs a (h .abi)) (abi-is t₀ r t g) ∙ e)
 
         module _ (bank : textIs (abiOf t₀) (h .abi) ≡ true) where

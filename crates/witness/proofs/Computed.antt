@@ -30,7 +30,7 @@ use Rattle.children.specs.Child.{childAt, childrenBy as childrenChildrenBy, chi
 use Rattle.rows.specs.Kept.{keep, keptFrom}
 use Rattle.rows.specs.Table.{nameIs}
 use Rattle.structure.specs.Structure.{all as structureAll, rowsOf, inOrder, textOnly, fitBy, fitsAt}
-use Rattle.readings.specs.Readings.{fieldsBy, fieldsAt, firstBad}
+use Rattle.standing.specs.Readings.{fieldsBy, fieldsAt, firstBad}
 
 -- a flow that stands, with its header and its orders
 pub record ReadAs (f : List ℕ) (h : Header) (os : List Order) : Type 0 where

@@ -13,7 +13,8 @@ use Rattle.rules.specs.declared.Judged.the-variants.{Accepted}
 use Rattle.rules.specs.declared.Situation.the-variants.{Waiting}
 use Rattle.service.specs.Service.{orderComes, orderStored, orderLeaves, outcomeBytes, allLeave, allOutcomes, allAccepted, noticeComes}
 use Rattle.notices.specs.declared.NoticeAnswer.the-variants.{Done, Declined}
-use Rattle.notices.specs.Notices.{addressed, noticeBy, noticeAnswer, bodyTotals, totalsOf}
+use Rattle.address.specs.Address.{addressed}
+use Rattle.notices.specs.Notices.{noticeBy, noticeAnswer, bodyTotals, totalsOf}
 use Rattle.record.specs.declared.Key.{Key}
 use Rattle.desk.specs.declared.FlowAnswer.the-variants.{Taken, BrokenField}
 use Rattle.desk.specs.Desk.{refused, served, forBank, flowReads, flowAnswer, flowTable, flowOutcomes}

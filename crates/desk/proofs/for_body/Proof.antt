@@ -1,28 +1,36 @@
-use mathlib.Core.Path.{sym, _∙_}
-use Rattle.table.proofs.Bodies.{found-body}
+use mathlib.Core.Path.{refl, sym, _∙_}
 use Rattle.serving.specs.Served.{ordersFrom}
+use Rattle.address.proofs.Laws.{named-slots}
 use Rattle.desk.specs.Steps.{headerFrom}
-use Rattle.desk.proofs.Laws.{body-none, body-found}
+use Rattle.desk.proofs.Laws.{body-read}
 use borrow.Author.Needs.{needs}
 use Rattle.desk.proofs.for_body.Statement.{statement}
 use Rattle.desk.proofs.for_body.Tie as tie
+use Rattle.desk.proofs.for_body.Reads as reads
+use Rattle.desk.proofs.for_body.Lts as lts
+use Rattle.address.proofs.body_named.Reads as body-named-reads
+use Rattle.desk.proofs.with_room.Reads as with-room-reads
+use Rattle.orders.proofs.field_text.Reads as field-text-reads
 
 field-text-requires : tie.Need-field-text-requires
-field-text-requires c κs = (c .before .before .before .before .pre .1 .within, c .before .before .before .before .pre .1 .noted)
+field-text-requires c κs = search needs
 
-find-body-requires : tie.Need-find-body-requires
-find-body-requires c κs = c .before .before .before .before .before .before .pre .0
+body-named-requires : tie.Need-body-named-requires
+body-named-requires c κs = search needs
 
-enum-known-b : tie.Need-enum-known-b
-enum-known-b c = search needs
+enum-known-base : tie.Need-enum-known-base
+enum-known-base c = search needs
 
 with-room-requires : tie.Need-with-room-requires
 with-room-requires c κs =
-    let a = c .before .before .before .before .before .before .before .before .before .before .before .before .args in
-    (c .before .before .before .before .before .before .before .before .before .before .before .before .pre .0, found-body (a .t .now) (c .before .before .before .before .before .before .before .before .before .before .before .before .pre .0) _ (c .before .before .before .b .given .0 .0) (sym (c .before .before .before .before .before .find-body .ensures) ∙ c .before .before .before .b .given .1), c .before .before .before .before .before .before .before .before .before .before .before .before .pre .1, c .before .before .before .before .before .before .before .before .before .before .before .before .pre .2)
+    let s = named-slots (c .before .before .before .before .before .before .before .before .before .before .before .before .args .t .now) _ (c .before .before .before .before .before .before .before .before .before .before .before .before .pre .0) (sym (c .before .before .before .before .before .body-named .ensures) ∙ c .before .before .before .base .given .1) in
+    (s .inside, c .before .before .before .before .before .before .before .before .before .before .before .before .pre .1, c .before .before .before .before .before .before .before .before .before .before .before .before .pre .2)
 
 enum-told : tie.Need-enum-told
 enum-told c = search needs
+
+enum-told-2 : tie.Need-enum-told-2
+enum-told-2 c = search needs
 
 same-length : tie.Need-same-length
 same-length c = search needs
@@ -33,7 +41,7 @@ same-length-2 c = search needs
 returns : tie.Need-returns
 returns c =
     let a = c .before .before .before .before .before .before .before .before .before .before .before .before .before .before .before .before .before .args in
-    body-found (a .t .now) (a .out .now) (headerFrom (a .f .now) (a .from)) (ordersFrom (a .f .now) (a .from)) (c .before .before .before .before .before .before .before .before .before .before .before .before .field-text .ensures) (c .before .before .before .before .before .before .before .before .before .before .find-body .ensures) (c .before .before .before .before .before .before .before .before .b .given .1) (c .before .before .before .before .with-room .ensures)
+    body-read (a .t .now) (a .out .now) (headerFrom (a .f .now) (a .from)) (ordersFrom (a .f .now) (a .from)) (c .before .before .before .before .before .before .before .before .before .before .before .before .field-text .ensures) (c .before .before .before .before .before .before .before .before .before .before .body-named .ensures) (c .before .before .before .before .before .before .before .before .base .given .1) (c .before .before .before .before .with-room .ensures)
 
 same-length-3 : tie.Need-same-length-3
 same-length-3 c = search needs
@@ -41,19 +49,30 @@ same-length-3 c = search needs
 returns-2 : tie.Need-returns-2
 returns-2 c =
     let a = c .before .before .before .before .before .before .before .before .before .args in
-    body-none (a .t .now) (a .out .now) (headerFrom (a .f .now) (a .from)) (ordersFrom (a .f .now) (a .from)) (c .before .before .before .before .field-text .ensures) (c .before .before .find-body .ensures) (c .enum-told .given .1)
+    body-read (a .t .now) (a .out .now) (headerFrom (a .f .now) (a .from)) (ordersFrom (a .f .now) (a .from)) (c .before .before .before .before .field-text .ensures) (c .before .before .body-named .ensures) (c .enum-told .given .1) (refl, refl, refl)
+
+same-length-4 : tie.Need-same-length-4
+same-length-4 c = search needs
+
+returns-3 : tie.Need-returns-3
+returns-3 c =
+    let a = c .before .before .before .before .before .before .before .before .before .args in
+    body-read (a .t .now) (a .out .now) (headerFrom (a .f .now) (a .from)) (ordersFrom (a .f .now) (a .from)) (c .before .before .before .before .field-text .ensures) (c .before .before .body-named .ensures) (c .enum-told2 .given .1) (refl, refl, refl)
 
 pub for-body-spec : {M : Type 1} → statement M
 for-body-spec =
     tie.close
     (tie.spec
     field-text-requires
-    find-body-requires
-    enum-known-b
+    body-named-requires
+    enum-known-base
     with-room-requires
     enum-told
+    enum-told-2
     same-length
     same-length-2
     returns
     same-length-3
-    returns-2)
+    returns-2
+    same-length-4
+    returns-3)

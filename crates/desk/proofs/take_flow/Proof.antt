@@ -33,7 +33,7 @@ slice-aggregate-take-noted : tie.Need-slice-aggregate-take-noted
 slice-aggregate-take-noted c = search needs
 
 take-noted-requires : tie.Need-take-noted-requires
-take-noted-requires c κs = (sym (c .before .before .before .before .before .before .table-ok .ensures) ∙ not-false _ (c .before .before .before .before .before .if1 .left), c .before .before .before .before .if2 .left, noted-none (c .before .before .before .before .before .before .before .before .before .before .before .args .f .now) 4096)
+take-noted-requires c κs = (sym (c .before .before .before .before .before .before .table-ok .ensures) ∙ not-false _ (c .before .before .before .before .before .if1 .left), c .before .before .before .before .if2 .left, noted-none (c .before .before .before .before .before .before .before .before .before .before .before .args .f .now) 1024)
 
 same-length-3 : tie.Need-same-length-3
 same-length-3 c = search needs
@@ -48,7 +48,7 @@ slice-aggregate-take-noted-2 : tie.Need-slice-aggregate-take-noted-2
 slice-aggregate-take-noted-2 c = search needs
 
 take-noted-requires-2 : tie.Need-take-noted-requires-2
-take-noted-requires-2 c κs = (sym (c .before .before .before .before .before .before .table-ok .ensures) ∙ not-false _ (c .before .before .before .before .before .if1 .left), c .before .before .before .before .if2 .left, noted-none (c .before .before .before .before .before .before .before .before .before .before .before .args .f .now) 32769)
+take-noted-requires-2 c κs = (sym (c .before .before .before .before .before .before .table-ok .ensures) ∙ not-false _ (c .before .before .before .before .before .if1 .left), c .before .before .before .before .if2 .left, noted-none (c .before .before .before .before .before .before .before .before .before .before .before .args .f .now) 8193)
 
 same-length-5 : tie.Need-same-length-5
 same-length-5 c = search needs

@@ -1,16 +1,18 @@
 use mathlib.Core.Path.{_≡_, sym, _∙_}
-use mathlib.Core.Bool.{true}
-use Prim.Native.Nat.{_+_}
 use native.Mathlib.Omega.{arith}
 use borrow.Author.Tests.{not-true, not-false}
 use Rattle.children.specs.declared.Step.the-variants.{One}
 use Rattle.children.specs.Child.{childAt}
 use Rattle.children.proofs.Laws.{child-lies}
-use Rattle.readings.specs.declared.Bad.the-variants.{Place, Nowhere}
-use Rattle.flow.proofs.Laws.{isFlow, fitsFlow, root-none, root-other, root-unfit, root-read, root-stands}
+use Rattle.flow.proofs.Laws.{root-none, root-other, root-judged}
 use borrow.Author.Needs.{needs}
 use Rattle.flow.proofs.verdict_at.Statement.{statement}
 use Rattle.flow.proofs.verdict_at.Tie as tie
+use Rattle.flow.proofs.verdict_at.Reads as reads
+use Rattle.flow.proofs.verdict_at.Lts as lts
+use Rattle.children.proofs.child_at.Reads as child-at-reads
+use Rattle.rows.proofs.is.Reads as is-reads
+use Rattle.standing.proofs.judge.Reads as judge-reads
 
 child-at-requires : tie.Need-child-at-requires
 child-at-requires c κs = search needs
@@ -22,10 +24,7 @@ enum-told : tie.Need-enum-told
 enum-told c = search needs
 
 returns : tie.Need-returns
-returns c =
-    let s = c .before .before .before .before .before .args .s .now in
-    let r = c .before .before .before .before .before .args .root in
-    sym (root-none s r (sym (c .before .before .child-at .ensures) ∙ c .enum-told .given .1))
+returns c = sym (root-none (c .before .before .before .before .before .args .s .now) (c .before .before .before .before .before .args .root) (sym (c .before .before .child-at .ensures) ∙ c .enum-told .given .1))
 
 add-a : tie.Need-add-a
 add-a c =
@@ -65,8 +64,8 @@ add-at c =
     let l = child-lies s r d e .1 in
     omega arith
 
-stands-requires : tie.Need-stands-requires
-stands-requires c κs =
+judge-requires : tie.Need-judge-requires
+judge-requires c κs =
     let s = c .before .before .before .before .before .before .before .before .before .before .args .s .now in
     let r = c .before .before .before .before .before .before .before .before .before .before .args .root in
     let d = c .before .before .before .before .before .c .given .0 .0 in
@@ -74,23 +73,22 @@ stands-requires c κs =
     let l = child-lies s r d e .1 in
     (omega arith, c .before .before .before .before .before .before .before .before .before .before .pre .1)
 
+enum-told-2 : tie.Need-enum-told-2
+enum-told-2 c = search needs
+
+enum-known-p : tie.Need-enum-known-p
+enum-known-p c = search needs
+
+enum-told-3 : tie.Need-enum-told-3
+enum-told-3 c = search needs
+
 returns-3 : tie.Need-returns-3
 returns-3 c =
-    let s = c .before .before .before .before .before .before .before .before .before .before .before .before .args .s .now in
-    let r = c .before .before .before .before .before .before .before .before .before .before .before .before .args .root in
-    let d = c .before .before .before .before .before .before .before .c .given .0 .0 in
-    let e : childAt s r ≡ One d = sym (c .before .before .before .before .before .before .before .before .before .child-at .ensures) ∙ c .before .before .before .before .before .before .before .c .given .1 in
-    let n : isFlow s d ≡ true = sym (c .before .before .before .is .ensures) ∙ not-false _ (c .before .before .if1 .left) in
-    sym (root-stands s r d e n (sym (c .before .stands .ensures) ∙ c .if2 .taken))
-
-fits-requires : tie.Need-fits-requires
-fits-requires c κs =
-    let s = c .before .before .before .before .before .before .before .before .before .before .before .before .args .s .now in
-    let r = c .before .before .before .before .before .before .before .before .before .before .before .before .args .root in
-    let d = c .before .before .before .before .before .before .before .c .given .0 .0 in
-    let e : childAt s r ≡ One d = sym (c .before .before .before .before .before .before .before .before .before .child-at .ensures) ∙ c .before .before .before .before .before .before .before .c .given .1 in
-    let l = child-lies s r d e .1 in
-    (omega arith, c .before .before .before .before .before .before .before .before .before .before .before .before .pre .1)
+    let s = c .before .before .before .before .before .before .before .before .before .before .before .before .before .args .s .now in
+    let r = c .before .before .before .before .before .before .before .before .before .before .before .before .before .args .root in
+    let d = c .before .before .before .before .before .before .before .before .c .given .0 .0 in
+    let e : childAt s r ≡ One d = sym (c .before .before .before .before .before .before .before .before .before .before .child-at .ensures) ∙ c .before .before .before .before .before .before .before .before .c .given .1 in
+    sym (root-judged s r d e _ (sym (c .before .before .before .before .is .ensures) ∙ not-false _ (c .before .before .before .if1 .left)) (sym (c .before .before .judge .ensures) ∙ c .enum-told2 .given .1))
 
 returns-4 : tie.Need-returns-4
 returns-4 c =
@@ -98,44 +96,15 @@ returns-4 c =
     let r = c .before .before .before .before .before .before .before .before .before .before .before .before .before .before .args .root in
     let d = c .before .before .before .before .before .before .before .before .before .c .given .0 .0 in
     let e : childAt s r ≡ One d = sym (c .before .before .before .before .before .before .before .before .before .before .before .child-at .ensures) ∙ c .before .before .before .before .before .before .before .before .before .c .given .1 in
-    let n : isFlow s d ≡ true = sym (c .before .before .before .before .before .is .ensures) ∙ not-false _ (c .before .before .before .before .if1 .left) in
-    sym (root-unfit s r d e n (sym (c .before .fits2 .ensures) ∙ not-true _ (c .if3 .taken)))
-
-first-bad-requires : tie.Need-first-bad-requires
-first-bad-requires c κs =
-    let s = c .before .before .before .before .before .before .before .before .before .before .before .before .before .before .args .s .now in
-    let r = c .before .before .before .before .before .before .before .before .before .before .before .before .before .before .args .root in
-    let d = c .before .before .before .before .before .before .before .before .before .c .given .0 .0 in
-    let e : childAt s r ≡ One d = sym (c .before .before .before .before .before .before .before .before .before .before .before .child-at .ensures) ∙ c .before .before .before .before .before .before .before .before .before .c .given .1 in
-    let l = child-lies s r d e .1 in
-    (omega arith, c .before .before .before .before .before .before .before .before .before .before .before .before .before .before .pre .1)
-
-enum-known-p : tie.Need-enum-known-p
-enum-known-p c = search needs
-
-enum-told-2 : tie.Need-enum-told-2
-enum-told-2 c = search needs
+    sym (root-judged s r d e _ (sym (c .before .before .before .before .before .is .ensures) ∙ not-false _ (c .before .before .before .before .if1 .left)) (sym (c .before .before .before .judge .ensures) ∙ c .before .p .given .1))
 
 returns-5 : tie.Need-returns-5
 returns-5 c =
-    let s = c .before .before .before .before .before .before .before .before .before .before .before .before .before .before .before .before .before .before .args .s .now in
-    let r = c .before .before .before .before .before .before .before .before .before .before .before .before .before .before .before .before .before .before .args .root in
-    let d = c .before .before .before .before .before .before .before .before .before .before .before .before .before .c .given .0 .0 in
-    let e : childAt s r ≡ One d = sym (c .before .before .before .before .before .before .before .before .before .before .before .before .before .before .before .child-at .ensures) ∙ c .before .before .before .before .before .before .before .before .before .before .before .before .before .c .given .1 in
-    let n : isFlow s d ≡ true = sym (c .before .before .before .before .before .before .before .before .before .is .ensures) ∙ not-false _ (c .before .before .before .before .before .before .before .before .if1 .left) in
-    let f : fitsFlow s (d .gt + 1) ≡ true = sym (c .before .before .before .before .before .fits2 .ensures) ∙ not-false _ (c .before .before .before .before .if3 .left) in
-    let p = c .before .p .given .0 .0 in
-    sym (root-read s r d e n (Place p) f (sym (c .before .before .before .first-bad .ensures) ∙ c .before .p .given .1))
-
-returns-6 : tie.Need-returns-6
-returns-6 c =
-    let s = c .before .before .before .before .before .before .before .before .before .before .before .before .before .before .before .before .before .args .s .now in
-    let r = c .before .before .before .before .before .before .before .before .before .before .before .before .before .before .before .before .before .args .root in
-    let d = c .before .before .before .before .before .before .before .before .before .before .before .before .c .given .0 .0 in
-    let e : childAt s r ≡ One d = sym (c .before .before .before .before .before .before .before .before .before .before .before .before .before .before .child-at .ensures) ∙ c .before .before .before .before .before .before .before .before .before .before .before .before .c .given .1 in
-    let n : isFlow s d ≡ true = sym (c .before .before .before .before .before .before .before .before .is .ensures) ∙ not-false _ (c .before .before .before .before .before .before .before .if1 .left) in
-    let f : fitsFlow s (d .gt + 1) ≡ true = sym (c .before .before .before .before .fits2 .ensures) ∙ not-false _ (c .before .before .before .if3 .left) in
-    sym (root-read s r d e n Nowhere f (sym (c .before .before .first-bad .ensures) ∙ c .enum-told2 .given .1))
+    let s = c .before .before .before .before .before .before .before .before .before .before .before .before .before .args .s .now in
+    let r = c .before .before .before .before .before .before .before .before .before .before .before .before .before .args .root in
+    let d = c .before .before .before .before .before .before .before .before .c .given .0 .0 in
+    let e : childAt s r ≡ One d = sym (c .before .before .before .before .before .before .before .before .before .before .child-at .ensures) ∙ c .before .before .before .before .before .before .before .before .c .given .1 in
+    sym (root-judged s r d e _ (sym (c .before .before .before .before .is .ensures) ∙ not-false _ (c .before .before .before .if1 .left)) (sym (c .before .before .judge .ensures) ∙ c .enum-told3 .given .1))
 
 pub verdict-at-spec : {M : Type 1} → statement M
 verdict-at-spec =
@@ -150,12 +119,10 @@ verdict-at-spec =
     is-requires
     returns-2
     add-at
-    stands-requires
-    returns-3
-    fits-requires
-    returns-4
-    first-bad-requires
-    enum-known-p
+    judge-requires
     enum-told-2
-    returns-5
-    returns-6)
+    enum-known-p
+    enum-told-3
+    returns-3
+    returns-4
+    returns-5)

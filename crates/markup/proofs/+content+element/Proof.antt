@@ -12,7 +12,7 @@ use Rattle.tokens.specs.Tokens.{nameAt, whiteAt}
 use Rattle.tokens.proofs.Laws.{name-past, end-past}
 use Rattle.markup.specs.Markup.{childrenBy, elementAt, contentAt}
 use Rattle.markup.specs.Noted.{Noted}
-use Rattle.markup.proofs.Noted.{noted-more}
+use Rattle.markup.proofs.Noted.{name-short, noted-more}
 use Rattle.markup.proofs.Laws.{element-past, content-at-past, element-deep, element-no-name, element-no-end, element-inside, element-ends, content-text, content-empty, content-children, children-stop, children-step, children-other, children-broken}
 use borrow.Fn.Kinds.{In}
 use borrow.Fn.PlainCycle.{Measures, is, falls, and}
@@ -352,14 +352,9 @@ element-note-requires : (t : ℕ) → element-lts.Need-note-requires (element-ca
 element-note-requires t c κs =
     let s = c .before .before .before .before .before .before .before .before .before .before .before .before .before .before .before .before .before .before .before .before .before .args .s .now in
     let at = c .before .before .before .before .before .before .before .before .before .before .before .before .before .before .before .before .before .before .before .before .before .args .at in
-    let d = c .before .before .before .before .before .before .before .before .before .before .before .before .before .before .before .before .before .before .before .before .before .args .depth in
     let e = c .before .before .before .before .before .before .before .before .before .before .before .before .before .before .before .name .given .0 .0 in
-    let p = c .before .before .before .before .before .before .inside .given .0 .0 in
-    let k : contentAt (d - 1) s (e + 1) ≡ Past p = sym (c .before .before .before .before .before .before .before .before .before .before .content .ensures .0) ∙ c .before .before .before .before .before .before .inside .given .1 in
-    let q = c .before .before .end .given .0 .0 in
-    let f = content-at-past (d - 1) s (e + 1) p k in
-    let h = end-past s at e p q (sym (c .before .before .before .before .end-tag .ensures) ∙ c .before .before .end .given .1) in
-    omega arith
+    let n : nameAt s at ≡ Past e = sym (c .before .before .before .before .before .before .before .before .before .before .before .before .before .before .before .before .before .name-end .ensures) ∙ c .before .before .before .before .before .before .before .before .before .before .before .before .before .before .before .name .given .1 in
+    (omega (arith, name-past s at e n .on), name-short s at e n)
 
 element-same-length-3 : (t : ℕ) → element-lts.Need-same-length-3 (element-calls t) (element-at t) element.Post
 element-same-length-3 t c = omega (arith, c .before .before .before .before .before .before .before .before .before .before .before .before .past .given, c .before .past2 .given)

@@ -4,17 +4,29 @@ use borrow.Author.Needs.{needs}
 use Rattle.markup.proofs.note.Statement.{statement}
 use Rattle.markup.proofs.note.Tie as tie
 
-mul-past : tie.Need-mul-past
-mul-past c = search needs
+sub-past : tie.Need-sub-past
+sub-past c = search needs
 
 add-past : tie.Need-add-past
 add-past c = search needs
 
-cast-past : tie.Need-cast-past
-cast-past c = search needs
+mul-past : tie.Need-mul-past
+mul-past c = search needs
+
+add-past-2 : tie.Need-add-past-2
+add-past-2 c = search needs
 
 mul-past-2 : tie.Need-mul-past-2
 mul-past-2 c = search needs
+
+add-past-3 : tie.Need-add-past-3
+add-past-3 c = search needs
+
+cast-past : tie.Need-cast-past
+cast-past c = search needs
+
+mul-past-3 : tie.Need-mul-past-3
+mul-past-3 c = search needs
 
 slice-write-past : tie.Need-slice-write-past
 slice-write-past c = search needs
@@ -35,10 +47,14 @@ pub note-spec : {M : Type 1} → statement M
 note-spec =
     tie.close
     (tie.spec
-    mul-past
+    sub-past
     add-past
-    cast-past
+    mul-past
+    add-past-2
     mul-past-2
+    add-past-3
+    cast-past
+    mul-past-3
     slice-write-past
     same-length
     returns

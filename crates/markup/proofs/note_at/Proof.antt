@@ -1,25 +1,32 @@
 use mathlib.Core.Path.{sym}
+use Prim.Native.Nat.{_/_}
 use native.Mathlib.Omega.{arith}
-use lib.ListN.{List·getD-eq-default}
+use Rattle.markup.proofs.Noted.{note-past, note-meant, note-unmeant}
 use borrow.Author.Needs.{needs}
 use Rattle.markup.proofs.note_at.Statement.{statement}
 use Rattle.markup.proofs.note_at.Tie as tie
 
-mul-result : tie.Need-mul-result
-mul-result c = search needs
-
-shared-slice-read-result : tie.Need-shared-slice-read-result
-shared-slice-read-result c = search needs
-
-cast-result : tie.Need-cast-result
-cast-result c = omega (arith, c .shared-slice-known .given (c .before .before .args .at))
-
 returns : tie.Need-returns
-returns c = search needs
+returns c = sym (note-past _ _ (c .if1 .taken))
+
+mul-n : tie.Need-mul-n
+mul-n c = search needs
+
+shared-slice-read-n : tie.Need-shared-slice-read-n
+shared-slice-read-n c = search needs
+
+cast-n : tie.Need-cast-n
+cast-n c = omega (arith, c .shared-slice-known .given (c .before .before .args .at / 4))
+
+add-if2 : tie.Need-add-if2
+add-if2 c = search needs
 
 returns-2 : tie.Need-returns-2
-returns-2 c = sym (List·getD-eq-default (c .before .args .past .now) 0 (c .if1 .left))
+returns-2 c = sym (note-meant _ _ (c .if2 .taken))
+
+returns-3 : tie.Need-returns-3
+returns-3 c = sym (note-unmeant _ _ (c .if2 .left))
 
 pub note-at-spec : {M : Type 1} → statement M
 note-at-spec =
-    tie.close (tie.spec mul-result shared-slice-read-result cast-result returns returns-2)
+    tie.close (tie.spec returns mul-n shared-slice-read-n cast-n add-if2 returns-2 returns-3)

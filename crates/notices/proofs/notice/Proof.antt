@@ -1,5 +1,6 @@
 use mathlib.Core.Path.{sym, _∙_}
-use Rattle.notices.proofs.Laws.{slots, no-table, no-body, served}
+use Rattle.address.proofs.Laws.{slots}
+use Rattle.notices.proofs.Laws.{no-table, no-body, served}
 use borrow.Author.Needs.{needs}
 use Rattle.notices.proofs.notice.Statement.{statement}
 use Rattle.notices.proofs.notice.Tie as tie

@@ -1,5 +1,6 @@
 use mathlib.Core.Path.{sym, _∙_}
-use Rattle.notices.proofs.Laws.{slots, totals-at}
+use Rattle.address.proofs.Laws.{slots}
+use Rattle.notices.proofs.Laws.{totals-at}
 use borrow.Author.Needs.{needs}
 use Rattle.notices.proofs.totals.Statement.{statement}
 use Rattle.notices.proofs.totals.Tie as tie
