@@ -1,71 +1,26 @@
 -- THE OUTCOME BYTES: each order's code there is a numbered one, and `accepted` is how many of them are 0 ("accepted (how many of them got outcome code
 -- 0)"): a reader needs the outcome buffer alone to check it.
-use Prim.Native.Nat.{ℕ, _+_, _*_}
+use Prim.Native.Nat.{ℕ, _+_}
 use mathlib.Core.Path.{_≡_, refl, sym, ap, _∙_}
 use mathlib.Core.Bool.{Bool, true, false, cond, _&&_}
 use mathlib.Core.List.{List, [], _∷_, _++_}
 use native.Mathlib.Omega.{arith}
-use lib.Dec.{eqb, leb}
+use lib.Dec.{eqb}
 use borrow.Author.Tests.{eqb-true}
 use lib.ListN.{length, drop}
-use Rattle.scan.specs.Bytes.{textIs}
 use Rattle.words.specs.Numbers.{put}
-use Rattle.table.specs.Table.{tableOk, abiOf}
 use Rattle.slots.specs.Slots.{recordsAt}
 use Rattle.order.specs.declared.Order.{Order}
-use Rattle.orders.specs.Orders.{Header}
-use Rattle.flow.specs.declared.Verdict.{Verdict}
-use Rattle.flow.specs.declared.Verdict.the-variants.{MarkupBreaks, StructureBreaks, FieldBreaks, Stands}
-use Rattle.flow.specs.Flow.{verdictOf, headerOf, flowOrders}
 use Rattle.rules.specs.declared.Judged.{Judged}
 use Rattle.rules.specs.declared.Judged.the-variants.{Accepted, Refused}
 use Rattle.rules.specs.Rules.{codeOf, judgeOrder}
 use Rattle.service.specs.Service.{orderComes, orderLeaves, outcomeBytes, allOutcomes, allAccepted, one}
-use Rattle.address.specs.declared.Addressed.{Addressed}
-use Rattle.address.specs.declared.Addressed.the-variants.{Invalid, Unknown, Body}
-use Rattle.address.specs.Address.{bodyNamed}
 use Rattle.desk.specs.declared.FlowAnswer.{FlowAnswer}
-use Rattle.desk.specs.declared.FlowAnswer.the-variants.{InvalidTable, TooLong, OtherBank, NoRoom}
-use Rattle.desk.specs.Desk.{Reading, refused, served, forBody, forBank, forFlow, maxFlow, flowReads, flowAnswer, FlowPromise, flowReply, flowCode}
+use Rattle.desk.specs.Desk.{Reading, refused, served, flowReads, flowAnswer, FlowPromise, flowReply, flowCode}
 use Rattle.theorems.specs.Codes.{oneOf, each, orderRefusals, orderCodes, outcomeCodes, zeroCodes}
 use Rattle.theorems.specs.Condition2.{inTurn}
+use Rattle.theorems.proofs.Given.{Coding, read}
 use Rattle.theorems.proofs.Codes.{Coded, order-coded, judged-codes}
-
--- A REFUSED READING has a code other than 0
-abbrev Coding : Reading → Type 0
-Coding (refused a) = flowReply a .code ≡ 0 → ⊥
-Coding (served base n year os) = Unit
-
-body-coding : (room year : ℕ) (os : List Order) (b : Addressed) → Coding (forBody room year os b)
-body-coding room year os Invalid = λ e. omega arith
-body-coding room year os Unknown = λ e. omega arith
-body-coding room year os (Body e base n) = go (leb (16 * length os) room)
-  where
-    go : (u : Bool) → Coding (cond u (served base n year os) (refused NoRoom))
-    go true = tt
-    go false = λ e. omega arith
-
-bank-coding : (t : List ℕ) (room : ℕ) (h : Header) (os : List Order) → Coding (forBank t room h os)
-bank-coding t room h os = go (textIs (abiOf t) (h .abi))
-  where
-    go : (u : Bool) → Coding (cond u (forBody room (h .esercizio) os (bodyNamed t (h .ente))) (refused OtherBank))
-    go true = body-coding room (h .esercizio) os (bodyNamed t (h .ente))
-    go false = λ e. omega arith
-
-verdict-coding : (t f : List ℕ) (room : ℕ) (v : Verdict) → Coding (forFlow t f room v)
-verdict-coding t f room (MarkupBreaks p) = λ e. omega arith
-verdict-coding t f room StructureBreaks = λ e. omega arith
-verdict-coding t f room (FieldBreaks p) = λ e. omega arith
-verdict-coding t f room (Stands at) = bank-coding t room (headerOf f at) (flowOrders f at)
-
-pub coding : (t f : List ℕ) (room : ℕ) → Coding (flowReads t f room)
-unfolding flowReads
-coding t f room = go (tableOk t) (leb (length f) maxFlow)
-  where
-    go : (u v : Bool) → Coding (cond u (cond v (forFlow t f room (verdictOf f)) (refused TooLong)) (refused InvalidTable))
-    go false v = λ e. omega arith
-    go true false = λ e. omega arith
-    go true true = verdict-coding t f room (verdictOf f)
 
 -- THE COUNT
 never : _≡_ {A = Bool} false true → ⊥
@@ -117,7 +72,7 @@ module _ (t f out : List ℕ) (a : FlowAnswer) (t′ out′ : List ℕ) (p : Flo
 
   -- a flow taken was served
   taken : {P : Type 0} → flowCode a ≡ 0 → ((base n year : ℕ) (os : List Order) → flowReads t f (length out) ≡ served base n year os → P) → P
-  taken {P} z k = go (flowReads t f (length out)) refl (coding t f (length out)) (p .0)
+  taken {P} z k = go (flowReads t f (length out)) refl (read t f (length out) .coding) (p .0)
     where
       go : (g : Reading) → flowReads t f (length out) ≡ g → Coding g → a ≡ flowAnswer t (flowReads t f (length out)) → P
       go (refused b) e h q = absurd (h (sym (ap flowCode (q ∙ ap (flowAnswer t) e)) ∙ z))

@@ -29,6 +29,7 @@ use Rattle.address.specs.Address.{addressed}
 use Rattle.notices.specs.Notices.{noticed, noticeBy, noticeCodeOf, NoticePromise, bodyTotals, totalsOf, TotalsPromise}
 use Rattle.theorems.specs.Engine.{recordsOf}
 use Rattle.theorems.specs.Condition2.{Condition2}
+use Rattle.theorems.proofs.Given.{given-when}
 use Rattle.theorems.proofs.Accepted.{orders-in-turn, accepted-counts}
 
 -- a record that a search found is valid
@@ -90,6 +91,7 @@ module _ (t : List ℕ) (ok : tableOk t ≡ true) (code : List ℕ) (b : ℕ) (e
 pub condition2 : Condition2
 unfolding bodyTotals
 condition2 = record {
+  refusals = given-when;
   orders = orders-in-turn;
   accepted = accepted-counts;
   notices = noticed-is;

@@ -1,3 +1,4 @@
+pub mod Given
 pub mod Codes
 pub mod Accepted
 pub mod Condition2

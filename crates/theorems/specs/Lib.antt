@@ -1,5 +1,6 @@
 pub mod Engine
 pub mod Codes
+pub mod Given
 pub mod NoSecond
 pub mod Condition1
 pub mod Condition2
