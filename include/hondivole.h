@@ -4,8 +4,9 @@
  * Hondivole: the order tables of a treasury house's order desk.
  *
  * Five functions open an order table, take a body's flow of payment and collection orders, take the bank's notices of execution and
- * reversal, and report a body's totals. Each answers with a code: 0, or the number of a refusal in the list below. Each checks its
- * own inputs: tables, flows, requests, codes and numbers may be any bytes and any values. Each writes all its results on every path.
+ * reversal, and report a body's totals. Each answers with a code: 0, or the number of a refusal in the list below. A sixth shows the field
+ * that a flow was refused for. Each checks its own inputs: tables, flows, requests, codes and numbers may be any bytes and any values.
+ * Each writes all its results on every path. What stands below them, written in C and not proved, says codes in words and lays out a request.
  * None reads or writes anything but the buffers and results it is lent, and none keeps anything from one call to the next, so that
  * calls on different tables may be made at the same time.
  *
@@ -24,6 +25,13 @@
 
 #include <stddef.h>
 #include <stdint.h>
+
+/* The library's version, and the identity of the kit that proves it, which is also in the file KIT. */
+#define HONDIVOLE_VERSION_MAJOR 0
+#define HONDIVOLE_VERSION_MINOR 1
+#define HONDIVOLE_VERSION_PATCH 0
+#define HONDIVOLE_VERSION "0.1.0"
+#define HONDIVOLE_KIT "rattle-kit-5b logic 064da1ca440f63e7"
 
 #ifdef __cplusplus
 extern "C" {
@@ -64,15 +72,31 @@ enum {
 /* The bytes of the opened table for so many bodies and, over all of them, so many slots. */
 #define HONDIVOLE_TABLE_BYTES(bodies, slots) (16u + 32u * (bodies) + 96u * (slots))
 
+/* The bytes of the request to open a table for so many bodies. */
+#define HONDIVOLE_REQUEST_BYTES(bodies) (5u + 20u * (bodies))
+
+/* A flow is at most so long. */
+#define HONDIVOLE_MOST_FLOW_BYTES 32768u
+
 /* The outcome bytes that are enough for any flow: 64 orders of 16 bytes. */
 #define HONDIVOLE_MOST_OUTCOME_BYTES 1024u
 
 /*
+ * How many bytes of stack a call takes on x86-64, its arguments among them, whatever it is lent: the thread that makes it needs so many
+ * beside its own. tests/stack makes each call on a stack of exactly so many bytes.
+ */
+#define HONDIVOLE_OPEN_STACK 1024u
+#define HONDIVOLE_FLOW_STACK 49152u
+#define HONDIVOLE_NOTICE_STACK 8192u
+#define HONDIVOLE_TOTALS_STACK 8192u
+#define HONDIVOLE_FIELD_AT_STACK 8192u
+
+/*
  * Opens a table. The request is five ABI digits and then 20 bytes per body: the code's length, the code in 16 bytes with zeros after it,
- * a zero, and the number of slots (1 to 512) in two bytes, the higher first. 1 to 16 bodies, codes of 1 to 16 letters and digits, all
- * distinct. The table buffer has exactly the needed length, see HONDIVOLE_TABLE_BYTES, at most 65,536. It answers 0 and fills the whole
- * buffer, every slot empty, whatever the buffer held; or 9 when the request is wrong, or 10 when the buffer's length is. It never
- * changes a byte with 9 or 10.
+ * a zero, and the number of slots (1 to 512) in two bytes, the higher first: hondivole_request lays it out. 1 to 16 bodies, codes of 1 to
+ * 16 letters and digits, all distinct. The table buffer has exactly the needed length, see HONDIVOLE_TABLE_BYTES, at most 65,536. It
+ * answers 0 and fills the whole buffer, every slot empty, whatever the buffer held; or 9 when the request is wrong, or 10 when the buffer's
+ * length is. It never changes a byte with 9 or 10.
  */
 uint64_t hondivole_open(const uint8_t *request, size_t request_len, uint8_t *table, size_t table_len);
 
@@ -112,6 +136,102 @@ uint64_t hondivole_reverse(uint8_t *table, size_t table_len, const uint8_t *body
  */
 uint64_t hondivole_totals(const uint8_t *table, size_t table_len, const uint8_t *body, size_t body_len, uint64_t *used, uint64_t *paid,
                           uint64_t *collected, int64_t *balance);
+
+/*
+ * Shows the field that a flow was refused for with code 5: where the name and the text stand, in the flow, of the element whose `<` stands
+ * at the place. *name and *text are places counted from 0, *name_len and *text_len are lengths in bytes; all four are 0 where no element
+ * stands at the place. A text is shown as it stands in the flow, its references not replaced.
+ */
+void hondivole_field_at(const uint8_t *flow, size_t flow_len, uint64_t place, uint64_t *name, uint64_t *name_len, uint64_t *text,
+                        uint64_t *text_len);
+
+/* The version and the kit in one line. */
+static inline const char *hondivole_version(void)
+{
+    return "hondivole " HONDIVOLE_VERSION " (" HONDIVOLE_KIT ")";
+}
+
+/* A sentence for each code, and for a number that is none. */
+static inline const char *hondivole_code_text(uint64_t code)
+{
+    switch (code) {
+    case HONDIVOLE_DONE: return "nothing is refused";
+    case HONDIVOLE_TABLE_NOT_VALID: return "the table isn't valid";
+    case HONDIVOLE_FLOW_TOO_LONG: return "the flow is longer than 32,768 bytes";
+    case HONDIVOLE_MARKUP_BREAKS: return "the flow's markup breaks";
+    case HONDIVOLE_STRUCTURE_BREAKS: return "the flow's structure breaks";
+    case HONDIVOLE_FIELD_BREAKS: return "a field of the flow breaks";
+    case HONDIVOLE_OTHER_BANK: return "the flow's codice_ABI_BT isn't the table's";
+    case HONDIVOLE_NO_SUCH_BODY: return "no body of the table has this code";
+    case HONDIVOLE_OUTCOMES_TOO_SHORT: return "the outcome buffer has under 16 bytes per order";
+    case HONDIVOLE_REQUEST_WRONG: return "a table can't be opened with these ABI digits, codes and slots";
+    case HONDIVOLE_BUFFER_LENGTH_WRONG: return "the buffer hasn't the length that the table needs";
+    case HONDIVOLE_SUBSTITUTION: return "SOSTITUZIONE isn't taken";
+    case HONDIVOLE_LINES_MISNUMBERED: return "the order's lines aren't numbered 1, 2, 3 and so on";
+    case HONDIVOLE_LINES_DONT_SUM: return "the order's line amounts don't sum to its total";
+    case HONDIVOLE_ORDER_EXISTS: return "the body already has an order of this kind, esercizio and number";
+    case HONDIVOLE_NO_EMPTY_SLOT: return "the body has no empty slot";
+    case HONDIVOLE_NO_SUCH_ORDER: return "the body has no order of this kind, esercizio and number";
+    case HONDIVOLE_ORDER_ANNULLED: return "the order is annulled";
+    case HONDIVOLE_LINE_EXECUTED: return "a line of the order is executed";
+    case HONDIVOLE_RECORD_DIFFERS: return "the order's total or lines differ from the record";
+    case HONDIVOLE_NO_SUCH_LINE: return "the order has no such line";
+    case HONDIVOLE_ALREADY_EXECUTED: return "the line is already executed";
+    case HONDIVOLE_NOT_EXECUTED: return "the line isn't executed";
+    default: return "no code of the order desk";
+    }
+}
+
+/* A body that a table is opened for. */
+struct hondivole_body {
+    const char *code; /* its code, 1 to 16 letters and digits */
+    uint16_t slots;   /* how many orders it can hold, 1 to 512 */
+};
+
+/* The bytes of the table for these bodies. */
+static inline size_t hondivole_table_bytes(const struct hondivole_body *bodies, size_t count)
+{
+    size_t slots = 0;
+    for (size_t i = 0; i < count; i++)
+        slots += bodies[i].slots;
+    return 16 + 32 * count + 96 * slots;
+}
+
+/*
+ * Lays out the request to open a table: five ABI digits and these bodies. It answers how many bytes it wrote, HONDIVOLE_REQUEST_BYTES of
+ * the count; or 0 where that is more than the room, the ABI hasn't five characters, or a code has more than 16. hondivole_open judges the
+ * rest, and refuses a request of 0 bytes with 9.
+ */
+static inline size_t hondivole_request(const char *abi, const struct hondivole_body *bodies, size_t count, uint8_t *request, size_t room)
+{
+    size_t at = 0;
+    if (room < 5 || count > (room - 5) / 20)
+        return 0;
+    while (at < 5 && abi[at] != 0) {
+        request[at] = (uint8_t)abi[at];
+        at++;
+    }
+    if (at != 5 || abi[5] != 0)
+        return 0;
+    for (size_t i = 0; i < count; i++) {
+        const char *code = bodies[i].code;
+        uint8_t *entry = request + at;
+        uint8_t length = 0;
+        while (length < 16 && code[length] != 0) {
+            entry[1 + length] = (uint8_t)code[length];
+            length++;
+        }
+        if (length == 16 && code[16] != 0)
+            return 0;
+        entry[0] = length;
+        for (int zero = 1 + length; zero < 18; zero++)
+            entry[zero] = 0;
+        entry[18] = (uint8_t)(bodies[i].slots >> 8);
+        entry[19] = (uint8_t)(bodies[i].slots & 255);
+        at += 20;
+    }
+    return at;
+}
 
 #ifdef __cplusplus
 }

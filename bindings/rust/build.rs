@@ -11,7 +11,7 @@ fn main() {
     println!("cargo::rerun-if-changed={}", library.display());
     if !library.is_file() {
         println!(
-            "cargo::error=the static library {} isn't there: run `rt staticlib hondivole` at the top of the repository, or set \
+            "cargo::error=the static library {} isn't there: run `./library` at the top of the repository, or set \
              HONDIVOLE_LIB_DIR to the folder that holds libhondivole.a",
             library.display()
         );

@@ -4,7 +4,7 @@
  * A day at the desk: opens a table for bodies 000471 and 471, takes a flow of 000471, executes a line, reverses it, executes another,
  * and prints the totals of both bodies.
  *
- * At the top of the repository, after `rt staticlib hondivole`:
+ * At the top of the repository, after `./library`:
  *
  *     cc -std=c11 -Wall -Wextra -Iinclude examples/c/desk.c target/staticlib/libhondivole.a -o target/desk && target/desk
  */
@@ -18,10 +18,7 @@
 /* Two bodies with four slots each. */
 static uint8_t table[HONDIVOLE_TABLE_BYTES(2, 8)];
 
-static const char request[] =
-    "01234"
-    "\x06" "000471" "\0\0\0\0\0\0\0\0\0\0" "\0" "\0\x04"
-    "\x03" "471" "\0\0\0\0\0\0\0\0\0\0\0\0\0" "\0" "\0\x04";
+static const struct hondivole_body bodies[] = {{"000471", 4}, {"471", 4}};
 
 static const char flow[] =
     "<flusso_ordinativi>"
@@ -80,15 +77,16 @@ static void print_totals(const char *body)
 int main(void)
 {
     static const uint8_t body[] = {'0', '0', '0', '4', '7', '1'};
-    uint8_t outcomes[HONDIVOLE_MOST_OUTCOME_BYTES];
+    uint8_t request[HONDIVOLE_REQUEST_BYTES(2)], outcomes[HONDIVOLE_MOST_OUTCOME_BYTES];
     uint64_t place, orders, accepted, cents;
 
-    /* A string literal ends with a zero that is no part of the request or the flow. */
-    uint64_t code = hondivole_open((const uint8_t *)request, sizeof request - 1, table, sizeof table);
+    size_t length = hondivole_request("01234", bodies, 2, request, sizeof request);
+    uint64_t code = hondivole_open(request, length, table, sizeof table);
     printf("open: code %" PRIu64 "\n", code);
     if (code != HONDIVOLE_DONE)
         return 1;
 
+    /* A string literal ends with a zero that is no part of the flow. */
     code = hondivole_flow(table, sizeof table, (const uint8_t *)flow, sizeof flow - 1, outcomes, sizeof outcomes, &place, &orders,
                           &accepted);
     printf("flow: code %" PRIu64 ", place %" PRIu64 ", orders %" PRIu64 ", accepted %" PRIu64 "\n", code, place, orders, accepted);

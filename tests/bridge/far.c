@@ -157,3 +157,14 @@ uint64_t hondivole_totals(const uint8_t *table, size_t table_len, const uint8_t 
     *balance = (int64_t)answer.results[3];
     return answer.code;
 }
+
+void hondivole_field_at(const uint8_t *flow, size_t flow_len, uint64_t place, uint64_t *name, uint64_t *name_len, uint64_t *text,
+                        uint64_t *text_len)
+{
+    struct call call = {.function = FIELD_AT, .lengths = {0, flow_len, 0}, .numbers = {place}};
+    struct answer answer = forward(&call, none, flow, none, 0, none);
+    *name = answer.results[0];
+    *name_len = answer.results[1];
+    *text = answer.results[2];
+    *text_len = answer.results[3];
+}

@@ -157,6 +157,9 @@ static uint64_t make(const struct call *call)
         return hondivole_reverse(table, table_len, input, input_len, n[0], n[1], n[2], n[3], results[0]);
     case TOTALS:
         return hondivole_totals(table, table_len, input, input_len, results[0], results[1], results[2], (int64_t *)results[3]);
+    case FIELD_AT:
+        hondivole_field_at(input, input_len, n[0], results[0], results[1], results[2], results[3]);
+        return 0;
     default:
         stop("a call came of no known function", "", "");
     }

@@ -14,7 +14,7 @@
 /* The longest buffer that is carried. The differential test's flows come to some 126,000 bytes, its tables to some 99,000. */
 #define LENT_MOST 1048576u
 
-enum function { OPEN, FLOW, EXECUTE, REVERSE, TOTALS, FUNCTIONS };
+enum function { OPEN, FLOW, EXECUTE, REVERSE, TOTALS, FIELD_AT, FUNCTIONS };
 
 /* A call's buffers: the input is the request, the flow or the body's code; only a flow has outcomes. */
 enum buffer { TABLE, INPUT, OUTCOMES, BUFFERS };
@@ -22,7 +22,7 @@ enum buffer { TABLE, INPUT, OUTCOMES, BUFFERS };
 struct call {
     uint64_t function;
     uint64_t lengths[BUFFERS];
-    uint64_t numbers[4]; /* a notice's kind, esercizio, number and line */
+    uint64_t numbers[4]; /* a notice's kind, esercizio, number and line; a field's place */
 };
 
 struct answer {
@@ -31,6 +31,6 @@ struct answer {
 };
 
 static const char *const function_names[FUNCTIONS] = {"hondivole_open", "hondivole_flow", "hondivole_execute", "hondivole_reverse",
-                                                      "hondivole_totals"};
+                                                      "hondivole_totals", "hondivole_field_at"};
 
 #endif

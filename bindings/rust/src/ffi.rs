@@ -1,6 +1,6 @@
-//! The five C functions as `include/hondivole.h` declares them.
+//! The six C functions as `include/hondivole.h` declares them.
 //!
-//! Each answers with a code (0, or the number of a [`Refusal`](crate::Refusal)) and writes all its results on every path.
+//! All but the last answer with a code (0, or the number of a [`Refusal`](crate::Refusal)); each writes all its results on every path.
 //!
 //! ```
 //! use hondivole::ffi::hondivole_open;
@@ -89,4 +89,20 @@ unsafe extern "C" {
         collected: *mut u64,
         balance: *mut i64,
     ) -> u64;
+
+    /// Where the name and the text of the element at a place stand: see [`field_at`](crate::field_at).
+    ///
+    /// # Safety
+    ///
+    /// `flow` is good for its length, the last four pointers for one number each; the numbers can be written, and no two of all these
+    /// overlap.
+    pub fn hondivole_field_at(
+        flow: *const u8,
+        flow_len: usize,
+        place: u64,
+        name: *mut u64,
+        name_len: *mut u64,
+        text: *mut u64,
+        text_len: *mut u64,
+    );
 }

@@ -102,6 +102,20 @@ impl Refusal {
         }
     }
 
+    /// The refusal that has this code; `None` for 0 and for a number that is no code. The place is told with code 5 only.
+    ///
+    /// ```
+    /// use hondivole::Refusal;
+    ///
+    /// assert_eq!(Refusal::from_code(7, 0), Some(Refusal::NoSuchBody));
+    /// assert_eq!(Refusal::from_code(5, 375), Some(Refusal::FieldBreaks { place: 375 }));
+    /// assert_eq!(Refusal::from_code(0, 0), None);
+    /// assert_eq!(Refusal::from_code(23, 0), None);
+    /// ```
+    pub fn from_code(code: u64, place: u64) -> Option<Refusal> {
+        Refusal::of_code(code, place)?.err()
+    }
+
     /// What a code stands for: `Ok` for 0, and `None` for a code that document 01 doesn't have. The place is told with code 5 only.
     pub(crate) fn of_code(code: u64, place: u64) -> Option<Result<(), Refusal>> {
         let refusal = match code {
@@ -185,6 +199,15 @@ mod tests {
             let refusal = Refusal::of_code(code, 7).unwrap().unwrap_err();
             assert_eq!(u64::from(refusal.code()), code);
             assert!(sentences.insert(refusal.to_string()));
+        }
+    }
+
+    #[test]
+    fn the_header_says_the_same() {
+        let header = include_str!("../../../include/hondivole.h");
+        for code in (1..=22).filter(|code| *code != 5) {
+            let sentence = Refusal::from_code(code, 0).unwrap().to_string();
+            assert!(header.contains(&format!("return \"{sentence}\";")), "{sentence}");
         }
     }
 }

@@ -45,6 +45,36 @@ pub struct Totals {
     pub balance: i64,
 }
 
+/// Lays out the request to open a table: five ABI digits, and 20 bytes for each body's code and slots. [`Table::open`] does it by itself.
+///
+/// # Errors
+///
+/// [`Refusal::RequestWrong`] where the ABI hasn't five bytes or a code has more than 16; the library judges the rest.
+///
+/// ```
+/// use hondivole::{Refusal, request};
+///
+/// let bytes = request("01234", &[("000471", 4), ("471", 4)])?;
+/// assert_eq!(bytes.len(), 5 + 2 * 20);
+/// assert_eq!(&bytes[5..12], b"\x06000471");
+/// # Ok::<(), Refusal>(())
+/// ```
+pub fn request(abi: &str, bodies: &[(&str, u16)]) -> Result<Vec<u8>, Refusal> {
+    if abi.len() != 5 {
+        return Err(Refusal::RequestWrong);
+    }
+    let mut request = abi.as_bytes().to_vec();
+    for (code, slots) in bodies {
+        let mut entry = [0; 20];
+        let (room, code) = (&mut entry[1..17], code.as_bytes());
+        room.get_mut(..code.len()).ok_or(Refusal::RequestWrong)?.copy_from_slice(code);
+        entry[0] = code.len() as u8;
+        entry[18..].copy_from_slice(&slots.to_be_bytes());
+        request.extend(entry);
+    }
+    Ok(request)
+}
+
 /// An order table: its bytes, owned (`Table`, a `Vec<u8>`) or borrowed (`Table<&mut [u8]>`, or `Table<&[u8]>` for totals only).
 ///
 /// Every call looks at all the bytes first and refuses with [`Refusal::TableNotValid`] what is no valid table, so that any bytes may be
@@ -92,20 +122,8 @@ impl Table {
     /// # Ok::<(), Refusal>(())
     /// ```
     pub fn open(abi: &str, bodies: &[(&str, u16)]) -> Result<Table, Refusal> {
-        if abi.len() != 5 {
-            return Err(Refusal::RequestWrong);
-        }
-        let mut request = abi.as_bytes().to_vec();
-        let mut length = 16;
-        for (code, slots) in bodies {
-            let mut entry = [0; 20];
-            let (room, code) = (&mut entry[1..17], code.as_bytes());
-            room.get_mut(..code.len()).ok_or(Refusal::RequestWrong)?.copy_from_slice(code);
-            entry[0] = code.len() as u8;
-            entry[18..].copy_from_slice(&slots.to_be_bytes());
-            request.extend(entry);
-            length += 32 + 96 * usize::from(*slots);
-        }
+        let request = request(abi, bodies)?;
+        let length = bodies.iter().map(|(_, slots)| 32 + 96 * usize::from(*slots)).sum::<usize>() + 16;
         let mut bytes = vec![0; length];
         // SAFETY: the pointers and lengths are those of two vectors.
         let code = unsafe { ffi::hondivole_open(request.as_ptr(), request.len(), bytes.as_mut_ptr(), bytes.len()) };

@@ -2,7 +2,9 @@
 // a line of the output has what the code answers beside it, and says `touched` where outcome bytes that should stay did not. Calls: open (request, length),
 // flow (flow, room), execute and reverse (body, kind, esercizio, number, line), totals (body), poke (place, byte: damages the table), long (a flow of so
 // many zero bytes).
+use casebook::number;
 use casebook::say;
+use casebook::say_next;
 use casebook::say_number;
 use desk::FlowAnswer;
 use notices::NoticeAnswer;
@@ -10,67 +12,6 @@ use opening::Opened;
 ghost use mathlib.Core.Path.{_≡_};
 ghost use Prim.Native.Nat.{_+_, _≤_, _<_};
 ghost use lib.ListN.{length};
-
-// Where column k of the line from a up to e begins.
-fn column(s: &[u8], a: usize, e: usize, k: usize) -> usize
-    requires { ⌜ (a ≤ e) × (e ≤ length (now s)) ⌝ }
-    ensures { λ r. ⌜ (a ≤ r) × (r ≤ e) ⌝ }
-{
-    let mut at = a;
-    let mut left = k;
-    while 0 < left {
-        at = casebook::after(casebook::find(s, at, e, 9), e);
-        left -= 1;
-    }
-    at
-}
-
-fn wide(x: u8) -> u64
-    ensures { λ r. ⌜ r < 256 ⌝ }
-{
-    x as u64
-}
-
-// The number v followed by a digit, as far as there is room.
-fn more(v: u64, b: u8) -> u64 {
-    if 1000000000000000000 < v {
-        return v;
-    }
-    v * 10 + wide(b) % 16
-}
-
-// Column k as a number.
-fn number(s: &[u8], a: usize, e: usize, k: usize) -> u64
-    requires { ⌜ (a ≤ e) × (e ≤ length (now s)) ⌝ }
-{
-    let from = column(s, a, e, k);
-    let to = casebook::find(s, from, e, 9);
-    let mut i = from;
-    let mut v: u64 = 0;
-    while i < to {
-        v = more(v, s[i]);
-        i += 1;
-    }
-    v
-}
-
-fn say_next(n: u64) {
-    say(b" ");
-    say_number(n);
-}
-
-// The outcome of one order: kind, operation, number, lines, total, code.
-fn say_order(out: &[u8], at: usize)
-    requires { ⌜ at + 16 ≤ length (now out) ⌝ }
-{
-    say(b",");
-    say_next(wide(out[at]));
-    say_next(wide(out[at + 1]));
-    say_next(words::read4(out, at + 4));
-    say_next(wide(out[at + 3]));
-    say_next(words::read8(out, at + 8));
-    say_next(wide(out[at + 2]));
-}
 
 // Says so if out, which was all zero, has something else from a place on.
 fn say_touched(out: &[u8], from: usize) {
@@ -83,48 +24,15 @@ fn say_touched(out: &[u8], from: usize) {
     }
 }
 
-fn say_orders(out: &[u8], n: usize) {
-    let mut left = n;
-    let mut at: usize = 0;
-    while 0 < left {
-        if out.len() - at < 16 {
-            return;
-        }
-        say_order(out, at);
-        at += 16;
-        left -= 1;
-    }
-    say_touched(out, at)
-}
-
-fn say_answer(code: u64, place: u64, orders: u64, accepted: u64) {
-    say_number(code);
-    say_next(place);
-    say_next(orders);
-    say_next(accepted);
-}
-
-// A refusal, which leaves the outcomes as they were.
-fn say_refused(code: u64, place: u64, out: &[u8]) {
-    say_answer(code, place, 0, 0);
-    say_touched(out, 0);
-}
-
+// A flow's answer: code, place, orders, accepted, and the outcomes.
 fn say_flow(a: FlowAnswer, out: &[u8]) {
-    match a {
-        FlowAnswer::InvalidTable => say_refused(1, 0, out),
-        FlowAnswer::TooLong => say_refused(2, 0, out),
-        FlowAnswer::BrokenMarkup => say_refused(3, 0, out),
-        FlowAnswer::BrokenStructure => say_refused(4, 0, out),
-        FlowAnswer::BrokenField(p) => say_refused(5, p as u64, out),
-        FlowAnswer::OtherBank => say_refused(6, 0, out),
-        FlowAnswer::UnknownBody => say_refused(7, 0, out),
-        FlowAnswer::NoRoom => say_refused(8, 0, out),
-        FlowAnswer::Taken(n, k) => {
-            say_answer(0, 0, n as u64, k as u64);
-            say_orders(out, n);
-        }
-    }
+    let r = desk::reply_of(a);
+    say_number(r.code);
+    say_next(r.place);
+    say_next(r.orders);
+    say_next(r.accepted);
+    let past = casebook::say_outcomes(out, r.orders, b",", b"");
+    say_touched(out, past)
 }
 
 // A flow's call with at most so many bytes of out for its outcomes.
@@ -144,26 +52,13 @@ fn run_flow(t: &mut [u8], flow: &[u8], room: u64) {
 }
 
 fn say_notice(a: NoticeAnswer) {
-    match a {
-        NoticeAnswer::InvalidTable => say(b"1 0"),
-        NoticeAnswer::UnknownBody => say(b"7 0"),
-        NoticeAnswer::Done(cents) => {
-            say(b"0 ");
-            say_number(cents);
-        }
-        NoticeAnswer::Declined(c) => {
-            say_number(wide(c));
-            say(b" 0");
-        }
-    }
+    let r = notices::reply_of(a);
+    say_number(r.code);
+    say_next(r.cents);
 }
 
 fn say_opened(o: Opened) {
-    match o {
-        Opened::Open => say(b"0"),
-        Opened::WrongRequest => say(b"9"),
-        Opened::WrongLength => say(b"10"),
-    }
+    say_number(opening::code_of(o));
 }
 
 // Collected less paid, which may be below zero.
@@ -231,10 +126,8 @@ fn run_long(t: &mut [u8], n: u64) {
 fn run_body(s: &[u8], a: usize, e: usize, kind: &[u8], t: &mut [u8])
     requires { ⌜ (a ≤ e) × (e ≤ length (now s)) × (length (now s) ≤ 131072) ⌝ }
 {
-    let from = column(s, a, e, 2);
-    let to = casebook::find(s, from, e, 9);
     let mut code = [0u8; 64];
-    let n = casebook::unescape(s, from, to, &mut code);
+    let n = casebook::bytes(s, a, e, 2, &mut code);
     if scan::same(kind, b"totals") {
         return run_totals(t, &code[..n]);
     }
@@ -261,10 +154,8 @@ fn run_call(s: &[u8], a: usize, e: usize, kind: &[u8], t: &mut [u8])
     if !scan::same(kind, b"flow") {
         return run_body(s, a, e, kind, t);
     }
-    let from = column(s, a, e, 2);
-    let to = casebook::find(s, from, e, 9);
     let mut f = [0u8; 4096];
-    let n = casebook::unescape(s, from, to, &mut f);
+    let n = casebook::bytes(s, a, e, 2, &mut f);
     run_flow(t, &f[..n], number(s, a, e, 3))
 }
 
@@ -273,15 +164,13 @@ fn run_line(s: &[u8], a: usize, e: usize, t: &mut [u8], len: usize) -> usize
     requires { ⌜ (a ≤ e) × (e ≤ length (now s)) × (length (now s) ≤ 131072) × (len ≤ length (now t)) ⌝ }
     ensures { λ r. ⌜ r ≤ length (now (t .exit)) ⌝ }
 {
-    let b = casebook::find(s, a, e, 9);
+    let b = casebook::find(s, a, e, b'\t');
     if !scan::same(&s[a..b], b"open") {
         run_call(s, a, e, &s[a..b], &mut t[..len]);
         return len;
     }
-    let from = column(s, a, e, 2);
-    let to = casebook::find(s, from, e, 9);
     let mut request = [0u8; 512];
-    let n = casebook::unescape(s, from, to, &mut request);
+    let n = casebook::bytes(s, a, e, 2, &mut request);
     let k = number(s, a, e, 3);
     run_open(t, &request[..n], k)
 }
@@ -293,21 +182,12 @@ fn last_column(s: &[u8], a: usize, e: usize) -> usize
 {
     let mut i = e;
     while a < i {
-        if s[i - 1] == 9 {
+        if s[i - 1] == b'\t' {
             return i;
         }
         i -= 1;
     }
     i
-}
-
-fn say_name(s: &[u8], a: usize, e: usize)
-    requires { ⌜ (a ≤ e) × (e ≤ length (now s)) ⌝ }
-{
-    let from = column(s, a, e, 1);
-    let to = casebook::find(s, from, e, 9);
-    say(&s[from..to]);
-    say(b": ");
 }
 
 fn say_expected(s: &[u8], a: usize, e: usize)
@@ -325,14 +205,12 @@ fn run_lines(s: &[u8], t: &mut [u8])
     let mut at = 0;
     let mut len: usize = 0;
     while at < s.len() {
-        let e = casebook::find(s, at, s.len(), 10);
-        say_name(s, at, e);
+        let e = casebook::line_end(s, at);
+        casebook::say_column(s, at, e, 1);
+        say(b": ");
         len = run_line(s, at, e, t, len);
         say_expected(s, at, e);
-        if s.len() <= e {
-            return;
-        }
-        at = e + 1;
+        at = casebook::next_line(s, at);
     }
 }
 

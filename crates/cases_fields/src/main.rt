@@ -1,6 +1,7 @@
 // Each form of field at its edges. A line of the input is a form, a text and what document 01 says of it, by hand; a line of the output has what the
 // code says beside it.
 use casebook::say;
+use casebook::say_column;
 use casebook::say_number;
 use codes::Asked;
 use dates::Day;
@@ -136,31 +137,23 @@ fn form_of(form: &[u8]) -> Form {
     Form::Anagrafica
 }
 
-// What is seen of a text, and what is expected.
-fn show(form: &[u8], written: &[u8], t: &[u8], expected: &[u8]) {
-    say(form);
-    say(b" \"");
-    say(written);
-    say(b"\": ");
-    say_seen(form, t);
-    say(b", expected ");
-    say(expected);
-    say(b"; by its form it ");
-    say_judged(fields::field_stands(form_of(form), t));
-    say(b"\n");
-}
-
 // One case: the line from a up to e.
 fn run_case(s: &[u8], a: usize, e: usize)
     requires { ⌜ (a ≤ e) × (e ≤ length (now s)) × (length (now s) ≤ 65536) ⌝ }
 {
-    let b = casebook::find(s, a, e, 9);
-    let c = casebook::after(b, e);
-    let d = casebook::find(s, c, e, 9);
-    let x = casebook::after(d, e);
+    let b = casebook::find(s, a, e, b'\t');
     let mut text = [0u8; 2048];
-    let n = casebook::unescape(s, c, d, &mut text);
-    show(&s[a..b], &s[c..d], &text[..n], &s[x..e]);
+    let n = casebook::bytes(s, a, e, 1, &mut text);
+    say_column(s, a, e, 0);
+    say(b" \"");
+    say_column(s, a, e, 1);
+    say(b"\": ");
+    say_seen(&s[a..b], &text[..n]);
+    say(b", expected ");
+    say_column(s, a, e, 2);
+    say(b"; by its form it ");
+    say_judged(fields::field_stands(form_of(&s[a..b]), &text[..n]));
+    say(b"\n");
 }
 
 fn run_cases(s: &[u8])
@@ -168,12 +161,8 @@ fn run_cases(s: &[u8])
 {
     let mut at = 0;
     while at < s.len() {
-        let e = casebook::find(s, at, s.len(), 10);
-        run_case(s, at, e);
-        if s.len() <= e {
-            return;
-        }
-        at = e + 1;
+        run_case(s, at, casebook::line_end(s, at));
+        at = casebook::next_line(s, at);
     }
 }
 

@@ -89,62 +89,31 @@ fn say_edited(base: &[u8], x: &[u8], k: u64, y: &[u8]) {
     say_verdict(&f[..e]);
 }
 
-fn wide(x: u8) -> u64 {
-    x as u64
-}
-
-// A column of digits as a number below a hundred.
-fn small(s: &[u8], a: usize, e: usize) -> u64
-    requires { ⌜ (a ≤ e) × (e ≤ length (now s)) ⌝ }
-{
-    if e - a == 1 {
-        return wide(s[a]) % 16;
-    }
-    if e - a == 2 {
-        return wide(s[a]) % 16 * 10 + wide(s[a + 1]) % 16;
-    }
-    1
-}
-
-fn show(name: &[u8], base: &[u8], x: &[u8], k: u64, y: &[u8], expected: &[u8]) {
-    say(name);
-    say(b": ");
-    say_edited(base, x, k, y);
-    say(b", expected ");
-    say(expected);
-    say(b"\n");
-}
-
 // One case: the line from a up to e.
 fn run_case(base: &[u8], s: &[u8], a: usize, e: usize)
     requires { ⌜ (a ≤ e) × (e ≤ length (now s)) × (length (now s) ≤ 131072) ⌝ }
 {
-    let b = casebook::find(s, a, e, 9);
-    let c = casebook::after(b, e);
-    let d = casebook::find(s, c, e, 9);
-    let p = casebook::after(d, e);
-    let q = casebook::find(s, p, e, 9);
-    let u = casebook::after(q, e);
-    let v = casebook::find(s, u, e, 9);
-    let x = casebook::after(v, e);
+    let x = casebook::column(s, a, e, 2);
+    let to = casebook::find(s, x, e, b'\t');
     let mut y = [0u8; 4096];
-    let n = casebook::unescape(s, u, v, &mut y);
-    let k = small(s, c, d);
-    show(&s[a..b], base, &s[p..q], k, &y[..n], &s[x..e]);
+    let n = casebook::bytes(s, a, e, 3, &mut y);
+    let k = casebook::number(s, a, e, 1);
+    casebook::say_column(s, a, e, 0);
+    say(b": ");
+    say_edited(base, &s[x..to], k, &y[..n]);
+    say(b", expected ");
+    casebook::say_column(s, a, e, 4);
+    say(b"\n");
 }
 
 fn run_cases(s: &[u8])
     requires { ⌜ length (now s) ≤ 131072 ⌝ }
 {
-    let first = casebook::find(s, 0, s.len(), 10);
+    let first = casebook::line_end(s, 0);
     let mut at = casebook::after(first, s.len());
     while at < s.len() {
-        let e = casebook::find(s, at, s.len(), 10);
-        run_case(&s[0..first], s, at, e);
-        if s.len() <= e {
-            return;
-        }
-        at = e + 1;
+        run_case(&s[0..first], s, at, casebook::line_end(s, at));
+        at = casebook::next_line(s, at);
     }
 }
 

@@ -1,6 +1,7 @@
 // Cases of the markup. A line of the input has its kind, a name, a flow and what document 01 says of it, by hand; a line of the output has what the code
 // says beside it. Kinds: `flow`, whether it stands and where its root is; `place`, where it breaks; `bytes`, with which bytes in place of each 01 it stands.
 use casebook::say;
+use casebook::say_column;
 use casebook::say_number;
 use scan::Walk;
 ghost use mathlib.Core.Path.{_≡_};
@@ -108,32 +109,31 @@ fn say_seen(kind: &[u8], flow: &[u8]) {
     say_bytes(flow)
 }
 
-fn show(kind: &[u8], name: &[u8], written: &[u8], flow: &[u8], expected: &[u8]) {
-    if 0 < name.len() {
-        say(name);
+// The name of a case, if it has one.
+fn say_name(s: &[u8], a: usize, e: usize)
+    requires { ⌜ (a ≤ e) × (e ≤ length (now s)) ⌝ }
+{
+    let from = casebook::column(s, a, e, 1);
+    if from < casebook::find(s, from, e, b'\t') {
+        say_column(s, a, e, 1);
         say(b": ");
     }
-    say(written);
-    say(b": ");
-    say_seen(kind, flow);
-    say(b", expected ");
-    say(expected);
-    say(b"\n");
 }
 
 // One case: the line from a up to e.
 fn run_case(s: &[u8], a: usize, e: usize)
     requires { ⌜ (a ≤ e) × (e ≤ length (now s)) × (length (now s) ≤ 65536) ⌝ }
 {
-    let b = casebook::find(s, a, e, 9);
-    let c = casebook::after(b, e);
-    let d = casebook::find(s, c, e, 9);
-    let p = casebook::after(d, e);
-    let q = casebook::find(s, p, e, 9);
-    let x = casebook::after(q, e);
+    let b = casebook::find(s, a, e, b'\t');
     let mut flow = [0u8; 2048];
-    let n = casebook::unescape(s, p, q, &mut flow);
-    show(&s[a..b], &s[c..d], &s[p..q], &flow[..n], &s[x..e]);
+    let n = casebook::bytes(s, a, e, 2, &mut flow);
+    say_name(s, a, e);
+    say_column(s, a, e, 2);
+    say(b": ");
+    say_seen(&s[a..b], &flow[..n]);
+    say(b", expected ");
+    say_column(s, a, e, 3);
+    say(b"\n");
 }
 
 fn run_cases(s: &[u8])
@@ -141,29 +141,25 @@ fn run_cases(s: &[u8])
 {
     let mut at = 0;
     while at < s.len() {
-        let e = casebook::find(s, at, s.len(), 10);
-        run_case(s, at, e);
-        if s.len() <= e {
-            return;
-        }
-        at = e + 1;
+        run_case(s, at, casebook::line_end(s, at));
+        at = casebook::next_line(s, at);
     }
 }
 
 // More bytes than 16 bits count: the notes of the markup pass don't hold such a position.
 fn long_text() {
-    let mut f = [120u8; 70000];
-    f[0] = 60;
-    f[1] = 97;
-    f[2] = 62;
-    f[69996] = 60;
-    f[69997] = 47;
-    f[69998] = 97;
-    f[69999] = 62;
+    let mut f = [b'x'; 70000];
+    f[0] = b'<';
+    f[1] = b'a';
+    f[2] = b'>';
+    f[69996] = b'<';
+    f[69997] = b'/';
+    f[69998] = b'a';
+    f[69999] = b'>';
     say(b"a text of 69993 bytes: ");
     say_verdict(markup::markup_of(&f));
     say(b", expected stands at 0\nthe same with the end tag of b: ");
-    f[69998] = 98;
+    f[69998] = b'b';
     say_verdict(markup::markup_of(&f));
     say(b", expected breaks\n");
 }

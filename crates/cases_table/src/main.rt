@@ -11,72 +11,18 @@ ghost use Prim.Native.Nat.{_+_, _≤_, _<_};
 ghost use lib.ListN.{length};
 ghost use Rattle.table.specs.Table.{tableOk};
 
-fn digit(b: u8) -> usize
-    ensures { λ r. ⌜ r < 10 ⌝ }
-{
-    if b < 48 {
-        return 0;
-    }
-    if b <= 57 { (b - 48) as usize } else { 0 }
-}
-
 fn least(a: usize, b: usize) -> usize
     ensures { λ r. ⌜ (r ≤ a) × (r ≤ b) ⌝ }
 {
     if a < b { a } else { b }
 }
 
-// The number that stands from a up to e, but at most 65,536.
-fn number_of(s: &[u8], a: usize, e: usize) -> usize
-    requires { ⌜ (a ≤ e) × (e ≤ length (now s)) ⌝ }
-    ensures { λ r. ⌜ r ≤ 65536 ⌝ }
-{
-    let mut i = a;
-    let mut n: usize = 0;
-    while i < e {
-        n = least(n * 10 + digit(s[i]), 65536);
-        i += 1;
-    }
-    n
-}
-
-// Where column k of the line from a up to e begins.
-fn column(s: &[u8], a: usize, e: usize, k: usize) -> usize
-    requires { ⌜ (a ≤ e) × (e ≤ length (now s)) ⌝ }
-    ensures { λ r. ⌜ (a ≤ r) × (r ≤ e) ⌝ }
-{
-    let mut at = a;
-    let mut left = k;
-    while 0 < left {
-        at = casebook::after(casebook::find(s, at, e, 9), e);
-        left -= 1;
-    }
-    at
-}
-
+// Column k as a number, but at most 65,536.
 fn number(s: &[u8], a: usize, e: usize, k: usize) -> usize
     requires { ⌜ (a ≤ e) × (e ≤ length (now s)) ⌝ }
     ensures { λ r. ⌜ r ≤ 65536 ⌝ }
 {
-    let from = column(s, a, e, k);
-    number_of(s, from, casebook::find(s, from, e, 9))
-}
-
-// Writes what column k stands for into out: how many bytes that is.
-fn bytes(s: &[u8], a: usize, e: usize, k: usize, out: &mut [u8]) -> usize
-    requires { ⌜ (a ≤ e) × (e ≤ length (now s)) × (length (now s) ≤ 65536) ⌝ }
-    ensures { λ r. ⌜ r ≤ length (now (out .exit)) ⌝ }
-{
-    let from = column(s, a, e, k);
-    casebook::unescape(s, from, casebook::find(s, from, e, 9), out)
-}
-
-fn say_column(s: &[u8], a: usize, e: usize, k: usize)
-    requires { ⌜ (a ≤ e) × (e ≤ length (now s)) ⌝ }
-{
-    let from = column(s, a, e, k);
-    let to = casebook::find(s, from, e, 9);
-    say(&s[from..to]);
+    least(casebook::number(s, a, e, k) as usize, 65536)
 }
 
 // A buffer before it is opened: no byte of a table's contents is 170.
@@ -99,17 +45,9 @@ fn is_marked(t: &[u8]) -> bool {
     true
 }
 
-fn code_of(o: Opened) -> u64 {
-    match o {
-        Opened::Open => 0,
-        Opened::WrongRequest => 9,
-        Opened::WrongLength => 10,
-    }
-}
-
 fn say_opened(o: Opened, t: &[u8]) {
     say(b": ");
-    say_number(code_of(o));
+    say_number(opening::code_of(o));
     if is_marked(t) {
         say(b", buffer kept");
     } else {
@@ -121,8 +59,8 @@ fn say_opened(o: Opened, t: &[u8]) {
 fn damage(s: &[u8], a: usize, e: usize, t: &mut [u8])
     requires { ⌜ (a ≤ e) × (e ≤ length (now s)) ⌝ }
 {
-    let from = column(s, a, e, 3);
-    if casebook::find(s, from, e, 9) <= from {
+    let from = casebook::column(s, a, e, 3);
+    if casebook::find(s, from, e, b'\t') <= from {
         return;
     }
     let place = number(s, a, e, 3);
@@ -192,7 +130,7 @@ fn open_case(s: &[u8], a: usize, e: usize, t: &mut [u8])
     requires { ⌜ (a ≤ e) × (e ≤ length (now s)) × (length (now s) ≤ 65536) ⌝ }
 {
     let mut q = [0u8; 512];
-    let n = bytes(s, a, e, 1, &mut q);
+    let n = casebook::bytes(s, a, e, 1, &mut q);
     mark(t);
     let o = opening::open_table(&q[..n], t);
     say_opened(o, t);
@@ -204,8 +142,8 @@ fn show_case(s: &[u8], a: usize, e: usize, t: &[u8])
 {
     let mut c = [0u8; 64];
     let mut x = [0u8; 1024];
-    let n = bytes(s, a, e, 5, &mut c);
-    let m = bytes(s, a, e, 6, &mut x);
+    let n = casebook::bytes(s, a, e, 5, &mut c);
+    let m = casebook::bytes(s, a, e, 6, &mut x);
     say_table(t, &c[..n], &x[..m]);
 }
 
@@ -213,11 +151,11 @@ fn show_case(s: &[u8], a: usize, e: usize, t: &[u8])
 fn run_case(s: &[u8], a: usize, e: usize, t: &mut [u8])
     requires { ⌜ (a ≤ e) × (e ≤ length (now s)) × (length (now s) ≤ 65536) × (length (now t) ≤ 65536) ⌝ }
 {
-    say_column(s, a, e, 0);
+    casebook::say_column(s, a, e, 0);
     open_case(s, a, e, t);
     show_case(s, a, e, t);
     say(b"; expected ");
-    say_column(s, a, e, 7);
+    casebook::say_column(s, a, e, 7);
     say(b"\n");
 }
 
@@ -234,12 +172,8 @@ fn run_cases(s: &[u8], room: &mut [u8])
 {
     let mut at = 0;
     while at < s.len() {
-        let e = casebook::find(s, at, s.len(), 10);
-        run_within(s, at, e, room);
-        if s.len() <= e {
-            return;
-        }
-        at = e + 1;
+        run_within(s, at, casebook::line_end(s, at), room);
+        at = casebook::next_line(s, at);
     }
 }
 

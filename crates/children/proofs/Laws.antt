@@ -18,7 +18,7 @@ use Rattle.markup.proofs.Laws.{content-at-past}
 use Rattle.children.specs.declared.Child.{Child}
 use Rattle.children.specs.declared.Step.{Step}
 use Rattle.children.specs.declared.Step.the-variants.{One, End}
-use Rattle.children.specs.Child.{childAt, onward, thenFrom, childrenBy, childrenFrom, nameIn, textIn, SpansOf}
+use Rattle.children.specs.Child.{childAt, onward, thenFrom, childrenBy, childrenFrom, spansOf, fieldAt}
 
 -- a child that begins at i or later lies in the flow: its <, its name, its content, its end, in this order
 pub record Lies (s : List ℕ) (i : ℕ) (c : Child) : Type 0 where
@@ -104,17 +104,24 @@ module _ (s : List ℕ) (i : ℕ) where
 pub child-beyond : (s : List ℕ) (i : ℕ) → length s ≤ i → childAt s i ≡ End
 child-beyond s i h = let y : byteAt s i ≡ 0 = List·getD-eq-default s 0 h in child-none s i (λ e. omega arith)
 
--- where its own words stand
+-- WHERE ITS OWN WORDS STAND
 module _ (s : List ℕ) (i : ℕ) where
-  pub spans-none : childAt s i ≡ End → SpansOf s (childAt s i) (record { name = 0; gt = 0; text = 0; to = 0 })
-  unfolding nameIn textIn
-  spans-none e = rw e (record { named = refl; name-from = omega arith; name-in = omega arith; said = refl; text-from = omega arith; text-in = omega arith })
+  pub field-none : childAt s i ≡ End → spansOf End ≡ fieldAt s i
+  unfolding fieldAt
+  field-none e = rw e
 
-  pub spans-one : (c : Child) → childAt s i ≡ One c → SpansOf s (childAt s i) (record { name = c .lt + 1; gt = c .gt; text = c .gt + 1; to = c .to })
-  unfolding nameIn textIn
-  spans-one c e =
-      let l = child-lies s i c e .1 in
-      rw e (record { named = refl; name-from = omega arith; name-in = omega arith; said = refl; text-from = omega arith; text-in = omega arith })
+  pub field-one : (c : Child) → childAt s i ≡ One c → spansOf (One c) ≡ fieldAt s i
+  unfolding fieldAt
+  field-one c e = rw e
+
+-- within the flow
+pub field-within : (s : List ℕ) (i : ℕ) → (fieldAt s i .name + fieldAt s i .«name_len» ≤ length s) × (fieldAt s i .text + fieldAt s i .«text_len» ≤ length s)
+unfolding fieldAt
+field-within s i = go (childAt s i) refl
+  where
+    go : (w : Step) → childAt s i ≡ w → (spansOf w .name + spansOf w .«name_len» ≤ length s) × (spansOf w .text + spansOf w .«text_len» ≤ length s)
+    go (One c) e = let l = child-lies s i c e .1 in (omega arith, omega arith)
+    go End e = (omega arith, omega arith)
 
 -- CHILDREN
 -- two limits that are large enough give the same children

@@ -1,5 +1,5 @@
 -- The children of an element, of a flow whose markup stands. (Where it doesn't, the list ends at the first thing that is no element.)
-use Prim.Native.Nat.{ℕ, zero, suc, _+_, _-_, _≤_}
+use Prim.Native.Nat.{ℕ, zero, suc, _+_, _-_}
 use mathlib.Core.List.{List, [], _∷_}
 use mathlib.Core.Bool.{cond}
 use mathlib.Core.Path.{_≡_}
@@ -11,7 +11,7 @@ use Rattle.scan.specs.Bytes.{byte, byteAt, part}
 use Rattle.tokens.specs.Tokens.{whiteAt, nameAt, endTagAt}
 use Rattle.markup.specs.Markup.{contentAt}
 use Rattle.children.specs.declared.Child.{Child}
-use Rattle.children.specs.declared.Spans.{Spans}
+use Rattle.children.specs.declared.FieldSpans.{FieldSpans}
 use Rattle.children.specs.declared.Step.{Step}
 use Rattle.children.specs.declared.Step.the-variants.{One, End}
 
@@ -49,20 +49,23 @@ childrenBy (suc n) s i = thenFrom (childAt s i) (childrenBy n s)
 unfoldable pub childrenFrom : List ℕ → ℕ → List Child
 childrenFrom s i = childrenBy (suc (length s)) s i
 
--- A FIELD'S OWN WORDS: name and text of the element whose < stands at a place, as parts of the flow; empty where none does
-unfoldable pub nameIn : List ℕ → Step → List ℕ
-nameIn s (One c) = part s (c .lt + 1) (c .gt)
-nameIn s End = []
+-- A FIELD'S OWN WORDS: "A field's text is shown as the part of the flow itself, not as a copy"
 
-unfoldable pub textIn : List ℕ → Step → List ℕ
-textIn s (One c) = part s (c .gt + 1) (c .to)
-textIn s End = []
+-- where name and text stand of the element whose < stands at a place; all zero where none does
+abbrev pub spansOf : Step → FieldSpans
+spansOf (One c) = record { name = c .lt + 1; «name_len» = c .gt - (c .lt + 1); text = c .gt + 1; «text_len» = c .to - (c .gt + 1) }
+spansOf End = record { name = 0; «name_len» = 0; text = 0; «text_len» = 0 }
 
--- where both stand in the flow
-pub record SpansOf (s : List ℕ) (c : Step) (w : Spans) : Type 0 where
-  pub named : part s (w .name) (w .gt) ≡ nameIn s c
-  pub name-from : w .name ≤ w .gt
-  pub name-in : w .gt ≤ length s
-  pub said : part s (w .text) (w .to) ≡ textIn s c
-  pub text-from : w .text ≤ w .to
-  pub text-in : w .to ≤ length s
+unfoldable pub fieldAt : List ℕ → ℕ → FieldSpans
+fieldAt s place = spansOf (childAt s place)
+
+-- the promise of `field_at`
+abbrev pub FieldPromise : List ℕ → ℕ → FieldSpans → Type 0
+FieldPromise s place r = r ≡ fieldAt s place
+
+-- the parts of the flow that stand there
+abbrev pub ownName : List ℕ → ℕ → List ℕ
+ownName s place = let w = fieldAt s place in part s (w .name) (w .name + w .«name_len»)
+
+abbrev pub ownText : List ℕ → ℕ → List ℕ
+ownText s place = let w = fieldAt s place in part s (w .text) (w .text + w .«text_len»)

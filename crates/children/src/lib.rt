@@ -5,7 +5,7 @@ ghost use mathlib.Core.Path.{_≡_};
 ghost use Prim.Native.Nat.{_+_, _-_, _≤_, _<_};
 ghost use lib.ListN.{length};
 ghost use Rattle.markup.specs.Noted.{Noted};
-ghost use Rattle.children.specs.Child.{childAt, childTo, nameIn, textIn, SpansOf};
+ghost use Rattle.children.specs.Child.{childAt, childTo, FieldPromise, ownName, ownText};
 
 // An element: its `<`, the end of its name, the `<` of its end tag, and the place past it and the white space after it.
 pub struct Child {
@@ -20,12 +20,12 @@ pub enum Step {
     End,
 }
 
-// Where an element's name stands, up to its end, and where its text does.
-struct Spans {
-    name: usize,
-    gt: usize,
-    text: usize,
-    to: usize,
+// Where a field's name and its text stand in the flow: places and lengths, all zero where no field does.
+pub struct FieldSpans {
+    pub name: usize,
+    pub name_len: usize,
+    pub text: usize,
+    pub text_len: usize,
 }
 
 // The child at a position, read with no notes at hand.
@@ -86,46 +86,50 @@ pub fn child_at(s: &[u8], i: usize, past: &[u32]) -> Step
     Step::One(c)
 }
 
-// Where the name and the text stand of the element whose `<` stands at a place; both are empty where none does.
-fn spans_at(s: &[u8], place: usize) -> Spans
-    ensures { λ r. ⌜ SpansOf (now (s .entry)) (childAt (now (s .entry)) place) r ⌝ }
+// Where name and text stand of the element whose `<` stands at a place.
+pub fn field_at(s: &[u8], place: usize) -> FieldSpans
+    ensures { λ r. ⌜ FieldPromise (now (s .entry)) place r ⌝ }
 {
-    let none = Spans {
+    let none = FieldSpans {
         name: 0,
-        gt: 0,
+        name_len: 0,
         text: 0,
-        to: 0,
+        text_len: 0,
     };
     if s.len() < place {
         return none;
     }
     match child_alone(s, place) {
-        Step::One(c) => Spans {
-            name: c.lt + 1,
-            gt: c.gt,
-            text: c.gt + 1,
-            to: c.to,
-        },
+        Step::One(c) => {
+            let name = c.lt + 1;
+            let text = c.gt + 1;
+            FieldSpans {
+                name,
+                name_len: c.gt - name,
+                text,
+                text_len: c.to - text,
+            }
+        }
         Step::End => none,
     }
 }
 
 // The name of the element whose `<` stands at a place, as the part of the flow itself; empty where none does.
 pub fn name_at(s: &[u8], place: usize) -> &[u8]
-    ensures { λ r. ⌜ now r ≡ nameIn (now (s .entry)) (childAt (now (s .entry)) place) ⌝ }
+    ensures { λ r. ⌜ now r ≡ ownName (now (s .entry)) place ⌝ }
 {
-    let w = spans_at(s, place);
+    let w = field_at(s, place);
     let a = w.name;
-    let e = w.gt;
+    let e = a + w.name_len;
     &s[a..e]
 }
 
 // The text of the element whose `<` stands at a place, likewise.
 pub fn text_at(s: &[u8], place: usize) -> &[u8]
-    ensures { λ r. ⌜ now r ≡ textIn (now (s .entry)) (childAt (now (s .entry)) place) ⌝ }
+    ensures { λ r. ⌜ now r ≡ ownText (now (s .entry)) place ⌝ }
 {
-    let w = spans_at(s, place);
+    let w = field_at(s, place);
     let a = w.text;
-    let e = w.to;
+    let e = a + w.text_len;
     &s[a..e]
 }

@@ -17,7 +17,7 @@ use Rattle.rows.specs.declared.Kept.{Kept}
 use Rattle.rows.specs.declared.Next.{Next}
 use Rattle.rows.specs.declared.Next.the-variants.{Named, Done}
 use Rattle.rows.specs.Kept.{keptFrom, nextOf}
-use Rattle.order.specs.declared.Order.{Order}
+use Rattle.order.specs.Ordinativo.{Ordinativo}
 use Rattle.orders.specs.Orders.{inRow, orderOf, Header}
 use Rattle.orders.proofs.Laws.{row-at, orders-one, orders-end, Order-at, order-at, standing}
 use Rattle.table.specs.Table.{tableOk, abiOf}
@@ -27,9 +27,7 @@ use Rattle.flow.specs.declared.Verdict.{Verdict}
 use Rattle.flow.specs.declared.Verdict.the-variants.{Stands}
 use Rattle.flow.specs.Flow.{verdictOf, headerOf, flowOrders}
 use Rattle.flow.proofs.Laws.{flow-stood}
-use Rattle.rules.specs.declared.Judged.{Judged}
-use Rattle.rules.specs.Rules.{codeOf}
-use Rattle.service.specs.Service.{orderComes, orderLeaves, outcomeBytes, one, allLeave, allOutcomes, allAccepted}
+use Rattle.service.specs.Service.{allLeave, allOutcomes, allAccepted}
 use Rattle.desk.specs.declared.FlowAnswer.{FlowAnswer}
 use Rattle.desk.specs.declared.FlowAnswer.the-variants.{InvalidTable, TooLong, OtherBank, NoRoom, Taken}
 use Rattle.desk.specs.Desk.{maxFlow, forBody, forBank, forFlow, flowReads, Gives, FlowPromise}
@@ -37,7 +35,7 @@ use Rattle.serving.specs.Served.{ordersFrom, Rooted}
 use Rattle.desk.specs.Steps.{headerFrom, roomFor, bodyFor}
 
 -- THE WAYS OUT, from the last check to the first
-module _ (t out : List ℕ) (h : Header) (os : List Order) where
+module _ (t out : List ℕ) (h : Header) (os : List Ordinativo) where
   module _ (base n : ℕ) {count : ℕ} (e : count ≡ length os) where
     pub room-none : length out < 16 * count → Gives t out (roomFor (length out) h os base n) NoRoom t out
     room-none l = rw (lt-leb (16 * length os) (length out) (omega arith)) (refl, refl, refl)

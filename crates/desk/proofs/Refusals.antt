@@ -5,8 +5,8 @@ use Prim.Native.Nat.{ℕ, _*_, _≤_}
 use native.Mathlib.Omega.{arith}
 use lib.ListN.{length, getD, length-append}
 use Rattle.words.proofs.Laws.{get-after}
-use Rattle.order.specs.declared.Order.{Order}
-use Rattle.rules.specs.Rules.{codeOf}
+use Rattle.order.specs.Ordinativo.{Ordinativo}
+use Rattle.rules.specs.Rules.{orderCode}
 use Rattle.service.specs.Service.{orderComes, orderLeaves, outcomeBytes, allOutcomes}
 use Rattle.desk.specs.declared.FlowAnswer.{FlowAnswer}
 use Rattle.desk.specs.declared.FlowAnswer.the-variants.{InvalidTable, TooLong, BrokenMarkup, BrokenStructure, BrokenField, OtherBank, UnknownBody, NoRoom, Taken}
@@ -43,18 +43,18 @@ pub one-result : (t f out : List ℕ) {r r′ : FlowAnswer} {u u′ o o′ : Lis
 one-result t f out p q = (p .0 ∙ sym (q .0), p .1 ∙ sym (q .1), p .2 ∙ sym (q .2))
 
 -- "Each writes 16 outcome bytes"; "Outcome bytes past the last order stay"
-pub outcomes-length : (t : List ℕ) (base n year : ℕ) (os : List Order) → length (allOutcomes t base n year os) ≡ 16 * length os
+pub outcomes-length : (t : List ℕ) (base n year : ℕ) (os : List Ordinativo) → length (allOutcomes t base n year os) ≡ 16 * length os
 unfolding allOutcomes
 outcomes-length t base n year [] = refl
 outcomes-length t base n year (o ∷ os) =
-    let v = outcomeBytes o (codeOf (orderComes t base n year o)) in
+    let v = outcomeBytes o (orderCode (orderComes t base n year o)) in
     let w = allOutcomes (orderLeaves t base n year o) base n year os in
     let h = outcomes-length (orderLeaves t base n year o) base n year os in
-    let l = outcome-length o (codeOf (orderComes t base n year o)) in
+    let l = outcome-length o (orderCode (orderComes t base n year o)) in
     let s = length-append v w in
     omega arith
 
-pub outcomes-past : (t f out : List ℕ) {base n year : ℕ} {os : List Order} {r : FlowAnswer} {t′ out′ : List ℕ} → flowReads t f (length out) ≡ served base n year os → FlowPromise t f out r t′ out′
+pub outcomes-past : (t f out : List ℕ) {base n year : ℕ} {os : List Ordinativo} {r : FlowAnswer} {t′ out′ : List ℕ} → flowReads t f (length out) ≡ served base n year os → FlowPromise t f out r t′ out′
     → (i : ℕ) → 16 * length os ≤ i → getD out′ i 0 ≡ getD out i 0
 outcomes-past t f out {base} {n} {year} {os} e p i h =
     let q = rw e at p in

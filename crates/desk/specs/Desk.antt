@@ -8,7 +8,7 @@ use lib.Dec.{eqb, leb}
 use Rattle.scan.specs.Bytes.{textIs}
 use Rattle.words.specs.Numbers.{put}
 use Rattle.table.specs.Table.{tableOk, abiOf}
-use Rattle.order.specs.declared.Order.{Order}
+use Rattle.order.specs.Ordinativo.{Ordinativo}
 use Rattle.orders.specs.Orders.{Header}
 use Rattle.flow.specs.declared.Verdict.{Verdict}
 use Rattle.flow.specs.declared.Verdict.the-variants.{MarkupBreaks, StructureBreaks, FieldBreaks, Stands}
@@ -17,6 +17,7 @@ use Rattle.service.specs.Service.{allLeave, allOutcomes, allAccepted}
 use Rattle.address.specs.declared.Addressed.{Addressed}
 use Rattle.address.specs.declared.Addressed.the-variants.{Invalid, Unknown, Body}
 use Rattle.address.specs.Address.{bodyNamed}
+use Rattle.desk.specs.declared.FlowReply.{FlowReply}
 use Rattle.desk.specs.declared.FlowAnswer.{FlowAnswer}
 use Rattle.desk.specs.declared.FlowAnswer.the-variants.{InvalidTable, TooLong, BrokenMarkup, BrokenStructure, BrokenField, OtherBank, UnknownBody, NoRoom, Taken}
 
@@ -25,20 +26,20 @@ use Rattle.desk.specs.declared.FlowAnswer.the-variants.{InvalidTable, To
 -- a flow refused, or served: on which body of the table, in which esercizio, and its orders
 pub data Reading : Type 0 where
   refused : FlowAnswer → Reading
-  served : ℕ → ℕ → ℕ → List Order → Reading
+  served : ℕ → ℕ → ℕ → List Ordinativo → Reading
 
 -- "8 the outcome buffer has under 16 bytes per order"
-abbrev pub withRoom : ℕ → ℕ → ℕ → ℕ → List Order → Reading
+abbrev pub withRoom : ℕ → ℕ → ℕ → ℕ → List Ordinativo → Reading
 withRoom room base n year os = cond (leb (16 * length os) room) (served base n year os) (refused NoRoom)
 
 -- "7 no body has this code"
-abbrev pub forBody : ℕ → ℕ → List Order → Addressed → Reading
+abbrev pub forBody : ℕ → ℕ → List Ordinativo → Addressed → Reading
 forBody room year os (Body e base n) = withRoom room base n year os
 forBody room year os Unknown = refused UnknownBody
 forBody room year os Invalid = refused InvalidTable
 
 -- "6 codice_ABI_BT isn't the table's"
-abbrev pub forBank : List ℕ → ℕ → Header → List Order → Reading
+abbrev pub forBank : List ℕ → ℕ → Header → List Ordinativo → Reading
 forBank t room h os = cond (textIs (abiOf t) (h .abi)) (forBody room (h .esercizio) os (bodyNamed t (h .ente))) (refused OtherBank)
 
 -- "3 the markup breaks; 4 the structure breaks; 5 a field breaks"
@@ -83,12 +84,6 @@ abbrev pub FlowPromise : List ℕ → List ℕ → List ℕ → FlowAnswer → L
 FlowPromise t f out a t′ out′ = Gives t out (flowReads t f (length out)) a t′ out′
 
 -- DOCUMENT 01'S NUMBERS of an answer: "A refusal gives orders and accepted 0; place is 0 but for code 5"
-pub record FlowReply : Type 0 where
-  pub code : ℕ
-  pub place : ℕ
-  pub orders : ℕ
-  pub accepted : ℕ
-
 abbrev refusal : ℕ → FlowReply
 refusal c = record { code = c; place = 0; orders = 0; accepted = 0 }
 
@@ -106,8 +101,10 @@ flowReply (Taken n m) = record { code = 0; place = 0; orders = n; accepted = m }
 abbrev pub flowCode : FlowAnswer → ℕ
 flowCode a = flowReply a .code
 
+-- the same reply, number by number
+abbrev pub SameReply : FlowReply → FlowReply → Type 0
+SameReply m n = (m .code ≡ n .code) × (m .place ≡ n .place) × (m .orders ≡ n .orders) × (m .accepted ≡ n .accepted)
+
 -- the promise in these numbers
 abbrev pub FlowReplies : List ℕ → List ℕ → List ℕ → FlowReply → List ℕ → List ℕ → Type 0
-FlowReplies t f out n t′ out′ =
-    (a : FlowAnswer) × FlowPromise t f out a t′ out′
-    × (n .code ≡ flowReply a .code) × (n .place ≡ flowReply a .place) × (n .orders ≡ flowReply a .orders) × (n .accepted ≡ flowReply a .accepted)
+FlowReplies t f out n t′ out′ = (a : FlowAnswer) × FlowPromise t f out a t′ out′ × SameReply n (flowReply a)

@@ -13,7 +13,7 @@ ghost use Rattle.record.specs.Slot.{slotSize};
 ghost use Rattle.table.specs.Table.{tableOk};
 ghost use Rattle.flow.specs.declared.Verdict.the-variants.{Stands};
 ghost use Rattle.flow.specs.Flow.{verdictOf, headerOf, flowOrders};
-ghost use Rattle.desk.specs.Desk.{forBank, maxFlow, Gives, FlowPromise};
+ghost use Rattle.desk.specs.Desk.{forBank, maxFlow, Gives, FlowPromise, SameReply, flowReply};
 ghost use Rattle.serving.specs.Served.{ordersFrom, Rooted};
 ghost use Rattle.desk.specs.Steps.{headerFrom, roomFor, bodyFor};
 
@@ -28,6 +28,14 @@ pub enum FlowAnswer {
     UnknownBody,
     NoRoom,
     Taken(usize, usize),
+}
+
+// Document 01's numbers of an answer.
+pub struct FlowReply {
+    pub code: u64,
+    pub place: u64,
+    pub orders: u64,
+    pub accepted: u64,
 }
 
 // The flow's esercizio.
@@ -121,4 +129,42 @@ pub fn take_flow(t: &mut [u8], f: &[u8], out: &mut [u8]) -> FlowAnswer
     }
     let mut past = [0u32; 8193];
     take_noted(t, f, out, &mut past)
+}
+
+fn refusal(code: u64) -> FlowReply
+    ensures { λ r. ⌜ SameReply r (record { code = code; place = 0; orders = 0; accepted = 0 }) ⌝ }
+{
+    FlowReply {
+        code,
+        place: 0,
+        orders: 0,
+        accepted: 0,
+    }
+}
+
+// The numbers of an answer.
+pub fn reply_of(a: FlowAnswer) -> FlowReply
+    ensures { λ r. ⌜ SameReply r (flowReply a) ⌝ }
+{
+    match a {
+        FlowAnswer::InvalidTable => refusal(1),
+        FlowAnswer::TooLong => refusal(2),
+        FlowAnswer::BrokenMarkup => refusal(3),
+        FlowAnswer::BrokenStructure => refusal(4),
+        FlowAnswer::BrokenField(p) => FlowReply {
+            code: 5,
+            place: p as u64,
+            orders: 0,
+            accepted: 0,
+        },
+        FlowAnswer::OtherBank => refusal(6),
+        FlowAnswer::UnknownBody => refusal(7),
+        FlowAnswer::NoRoom => refusal(8),
+        FlowAnswer::Taken(n, k) => FlowReply {
+            code: 0,
+            place: 0,
+            orders: n as u64,
+            accepted: k as u64,
+        },
+    }
 }

@@ -22,6 +22,8 @@ use Rattle.standing.specs.declared.Standing.{Standing}
 use Rattle.standing.specs.declared.Standing.the-variants as standing
 use Rattle.standing.specs.Readings.{Bad, Place, Nowhere, fieldsAt, firstBad}
 use Rattle.standing.specs.Standing.{standingAt, standingBy}
+use Rattle.standing.specs.Shown.{Shown}
+use Rattle.standing.proofs.Shown.{bad-shown}
 use Rattle.flow.specs.declared.Verdict.{Verdict}
 use Rattle.flow.specs.declared.Verdict.the-variants.{MarkupBreaks, StructureBreaks, FieldBreaks, Stands}
 use Rattle.flow.specs.Flow.{byFields, byRoot, byMarkup, verdictOf}
@@ -98,4 +100,25 @@ flow-stood s at e = walk (markupOf s) e
 
     walk : (w : Walk) → byMarkup s w ≡ Stands at → Stood s at
     walk (Past r) e = root r (childAt s r) refl e
+    walk (Broken p) e = let z : _≡_ {A = ℕ} 0 1 = cc in absurd (omega arith)
+
+-- A FIELD THAT BREAKS is shown by its place
+pub flow-shown : (s : List ℕ) (q : ℕ) → verdictOf s ≡ FieldBreaks q → Shown s q
+unfolding verdictOf
+flow-shown s q e = walk (markupOf s) e
+  where
+    fields : (x : ℕ) (b : Bad) → badOf s x ≡ b → byFields x b ≡ FieldBreaks q → Shown s q
+    fields x (Place p) h e = let z : p ≡ q = cc in bad-shown 4 FlussoOrdinativi s x q (rw z at h)
+    fields x Nowhere h e = let z : _≡_ {A = ℕ} 0 1 = cc in absurd (omega arith)
+
+    cut : (x : ℕ) (n : Bool) → cond n (byFields x (badOf s x)) StructureBreaks ≡ FieldBreaks q → Shown s q
+    cut x true e = fields x (badOf s x) refl e
+    cut x false e = let z : _≡_ {A = ℕ} 0 1 = cc in absurd (omega arith)
+
+    root : (w : Step) → byRoot s w ≡ FieldBreaks q → Shown s q
+    root (One c) e = cut (c .gt + 1) (isFlow s c && fitsFlow s (c .gt + 1)) e
+    root End e = let z : _≡_ {A = ℕ} 0 1 = cc in absurd (omega arith)
+
+    walk : (w : Walk) → byMarkup s w ≡ FieldBreaks q → Shown s q
+    walk (Past r) e = root (childAt s r) e
     walk (Broken p) e = let z : _≡_ {A = ℕ} 0 1 = cc in absurd (omega arith)

@@ -1,14 +1,13 @@
 -- The values of a flow that stands: its header and its orders are within the bounds of their forms.
 use mathlib.Core.Path.{_≡_, refl, sym, ap, _∙_}
 use mathlib.Core.Logic.{_⊎_, ⊎-elim}
-use mathlib.Core.List.{List, [], _∷_, _++_}
+use mathlib.Core.List.{List, [], _∷_, _++_, map}
 use mathlib.Core.Bool.{Bool, true, false, _&&_}
 use Prim.Native.Nat.{ℕ, zero, suc, _+_, _-_, _≤_, _<_}
 use native.Mathlib.Omega.{arith}
-use lib.ListN.{length, getD, take, drop, replicate, length-append, length-replicate, length-take, List·getD-eq-default}
-use lib.Seq.{getD-take}
-use lib.Dec.{leb}
-use borrow.Author.Tests.{eqb-true, leb-true, leb-false}
+use lib.ListN.{length, getD, take, drop, replicate, length-map}
+use lib.Seq.{take-take, take-at}
+use borrow.Author.Tests.{eqb-true}
 use Rattle.scan.specs.Bytes.{isWhite}
 use Rattle.scan.proofs.Laws.{run-within}
 use Rattle.tokens.specs.Tokens.{whiteAt}
@@ -42,7 +41,7 @@ use Rattle.structure.proofs.Laws.{HeldIn, fits-parts, all-next, order-last}
 use Rattle.standing.specs.Readings.{Bad, Place, Nowhere, textOf, fieldsIn, fieldsBy, fieldsAt, badOr, firstBad}
 use Rattle.standing.proofs.Readings.{orBad, bad-append}
 use Rattle.order.specs.declared.Line.{Line}
-use Rattle.order.specs.declared.Order.{Order}
+use Rattle.order.specs.Ordinativo.{Ordinativo, ordinativo}
 use Rattle.orders.specs.Shape.{orderRows, lineRows, Shaped, Filled}
 use Rattle.orders.specs.Orders.{inRow, textIn, valueOf, dateOf, lineOf, linesOf, noLine, eight, linesIn, kindOf, orderBy, orderOf, ordersOf, Header, headerIn, ordersIn}
 use Rattle.orders.proofs.Laws.{one, held-at, row-at, ofRow, in-row-all, found, found-some, shaped-inside, Standing, order-at, orders-end, standing, lines-length}
@@ -53,15 +52,13 @@ abbrev pub maxCents : ℕ
 maxCents = 99999999999
 
 -- AN ORDER AND A HEADER WITHIN BOUNDS
-pub record OrderOk (o : Order) : Type 0 where
+pub record OrderOk (o : Ordinativo) : Type 0 where
   pub kind : (1 ≤ o .kind) × (o .kind ≤ 2)
   pub number : (1 ≤ o .number) × (o .number ≤ 9999999)
   pub date : isDate (o .date) ≡ true
   pub total : o .total ≤ maxCents
-  pub count : (1 ≤ o .lines .count) × (o .lines .count ≤ 8)
-  pub size : length (o .lines .each) ≡ 8
-  pub amounts : (j : ℕ) → getD (o .lines .each) j noLine .amount ≤ maxCents
-  pub beyond : (j : ℕ) → o .lines .count ≤ j → getD (o .lines .each) j noLine ≡ noLine
+  pub count : (1 ≤ length (o .lines)) × (length (o .lines) ≤ 8)
+  pub amounts : (j : ℕ) → getD (o .lines) j noLine .amount ≤ maxCents
 
 pub record HeaderOk (h : Header) : Type 0 where
   pub abi : codiceAbi (h .abi) ≡ true
@@ -212,34 +209,16 @@ lines-ok (suc n) p q s i h t r f e j = go (nextOf (keptFrom p s i)) refl (lines-
         let w : Shaped lineRows 2 s k = record { within = omega arith; rows = rw y (t .same); holds = b .0 } in
         rw (next-at p s i k x .rest) (pick k (keptFrom p s (k .child .after)) j (line-ok s k q (t .line) y w (c .0)) (ih (k .child .after) (omega arith) t (a .1) (b .1) (c .1)))
 
--- eight places: those of the lines, then no line
-padded : (ls : List Line) (m j : ℕ) → getD (ls ++ replicate m noLine) j noLine ≡ getD ls j noLine
-padded [] zero j = refl
-padded [] (suc m) zero = refl
-padded [] (suc m) (suc j) = padded [] m j
-padded (l ∷ ls) m zero = refl
-padded (l ∷ ls) m (suc j) = padded ls m j
-
-eight-at : (ls : List Line) (j : ℕ) → length ls ≤ 8 → getD (eight ls) j noLine ≡ getD ls j noLine
+-- of the eight places those of the lines
+lines-there : (ls : List Line) (n : ℕ) → length ls ≡ n → n ≤ 8 → take n (eight ls) ≡ ls
 unfolding eight
-eight-at ls j h = go (leb 8 j) refl
-  where
-    go : (b : Bool) → leb 8 j ≡ b → getD (take 8 (ls ++ replicate 8 noLine)) j noLine ≡ getD ls j noLine
-    go true e =
-        let k = leb-true 8 j e in
-        let u = length-take 8 (ls ++ replicate 8 noLine) in
-        List·getD-eq-default (take 8 (ls ++ replicate 8 noLine)) noLine (omega arith) ∙ sym (List·getD-eq-default ls noLine (omega arith))
-    go false e = let k = leb-false 8 j e in getD-take 8 (ls ++ replicate 8 noLine) j noLine (omega arith) ∙ padded ls 8 j
-
-eight-size : (ls : List Line) → length (eight ls) ≡ 8
-unfolding eight
-eight-size ls = omega (arith, length-take 8 (ls ++ replicate 8 noLine), length-append ls (replicate 8 noLine), length-replicate 8 noLine)
+lines-there ls n e h = take-take n 8 (ls ++ replicate 8 noLine) h ∙ take-at ls (replicate 8 noLine) n e
 
 -- AN ORDER, its four fields read one after the other
 module _ (s : List ℕ) (p q : Parent) (t : OrderTable p q) (i j1 j2 j3 j4 : ℕ) where
   order-by : Field-at TipoOperazione (drop 1 orderRows) 2 p s 0 i j1 → Field-at Numero (drop 2 orderRows) 2 p s 1 j1 j2
       → Field-at Data (drop 3 orderRows) 2 p s 2 j2 j3 → Field-at Importo (drop 4 orderRows) 2 p s 3 j3 j4
-      → (kind : ℕ) → (1 ≤ kind) × (kind ≤ 2) → OrderOk (orderBy kind s (keptFrom p s i))
+      → (kind : ℕ) → (1 ≤ kind) × (kind ≤ 2) → OrderOk (ordinativo (orderBy kind s (keptFrom p s i)))
   unfolding linesIn fieldStands
   order-by a b c d kind v =
       let ks = keptFrom p s i in
@@ -247,21 +226,19 @@ module _ (s : List ℕ) (p q : Parent) (t : OrderTable p q) (i j1 j2 j3 j4 : ℕ
       let f = d .on in
       let o = order-last (record { least = 1; most = 8 }) 4 js (f .filled .rows) in
       let z : inRow 4 ks ≡ js = a .later 4 (omega arith) ∙ b .later 4 (omega arith) ∙ c .later 4 (omega arith) ∙ d .later 4 (omega arith) ∙ in-row-all 4 js (o .rows) in
-      let y : length (linesOf s (inRow 4 ks)) ≤ 8 = rw z (omega (arith, lines-length s js, o .most)) in
-      let x : (j : ℕ) → getD (eight (linesOf s (inRow 4 ks))) j noLine ≡ getD (linesOf s (inRow 4 ks)) j noLine = λ j. eight-at (linesOf s (inRow 4 ks)) j y in
+      let w : take (length (inRow 4 ks)) (eight (linesOf s (inRow 4 ks))) ≡ linesOf s js = lines-there (linesOf s (inRow 4 ks)) (length (inRow 4 ks)) (lines-length s (inRow 4 ks)) (rw z (o .most)) ∙ ap (linesOf s) z in
+      let m = lines-length s js in
       let l : (j : ℕ) → LineOk (getD (linesOf s js) j noLine) = lines-ok (suc (length s - j4)) p q s j4 (omega arith) t (o .rows) (f .filled .each) (f .fields) in
       record {
         kind = v;
         number = rw (a .texts 1 (omega arith)) (numero-range (textIn 1 s (keptFrom p s j1)) (number-there (numero (textIn 1 s (keptFrom p s j1))) (b .stands)));
         date = rw (a .texts 2 (omega arith), b .texts 2 (omega arith)) (data-real (textIn 2 s (keptFrom p s j2)) (day-there (dataOf (textIn 2 s (keptFrom p s j2))) (c .stands)));
         total = rw (a .texts 3 (omega arith), b .texts 3 (omega arith), c .texts 3 (omega arith)) (cents-ok (textIn 3 s (keptFrom p s j3)) (d .stands));
-        count = rw z (o .least, o .most);
-        size = eight-size (linesOf s (inRow 4 ks));
-        amounts = λ j. rw (x j, z) (l j);
-        beyond = λ j m. x j ∙ List·getD-eq-default (linesOf s (inRow 4 ks)) noLine (omega (arith, m, lines-length s (inRow 4 ks)));
+        count = rw (w, m) (o .least, o .most);
+        amounts = λ j. rw w (l j);
       }
 
-order-ok : (s : List ℕ) (k : Kept) (p q : Parent) → OrderTable p q → k .holds ≡ Rows p → (1 ≤ kindOf (Rows p)) × (kindOf (Rows p) ≤ 2) → Shaped orderRows 3 s k → standsIn 3 s k ≡ true → OrderOk (orderOf s k)
+order-ok : (s : List ℕ) (k : Kept) (p q : Parent) → OrderTable p q → k .holds ≡ Rows p → (1 ≤ kindOf (Rows p)) × (kindOf (Rows p) ≤ 2) → Shaped orderRows 3 s k → standsIn 3 s k ≡ true → OrderOk (ordinativo (orderOf s k))
 unfolding orderOf
 order-ok s k p q t h v w e =
     let i = whiteAt s (k .child .gt + 1) in
@@ -280,7 +257,7 @@ pub sound : (s : List ℕ) (at : ℕ) → Stood s at → Sound s (whiteAt s at)
 unfolding fieldsAt
 sound s at h = record { standing = standing s at (h .fits); fields = each-stands 3 s (keptFrom FlussoOrdinativi s (whiteAt s at)) (h .fields) }
 
-pub sound-next : (s : List ℕ) (i : ℕ) (k : Kept) → Sound s i → nextOf (inRow 5 (keptFrom FlussoOrdinativi s i)) ≡ Named k → OrderOk (orderOf s k) × Sound s (k .child .after)
+pub sound-next : (s : List ℕ) (i : ℕ) (k : Kept) → Sound s i → nextOf (inRow 5 (keptFrom FlussoOrdinativi s i)) ≡ Named k → OrderOk (ordinativo (orderOf s k)) × Sound s (k .child .after)
 sound-next s i k h e =
     let a = order-at s i k (h .standing) e in
     let r = row-at 5 FlussoOrdinativi s i k e in
@@ -293,15 +270,15 @@ sound-next s i k h e =
     )
 
 -- all of them
-abbrev pub Each : (Order → Type 0) → List Order → Type 0
+abbrev pub Each : (Ordinativo → Type 0) → List Ordinativo → Type 0
 Each f [] = Unit
 Each f (o ∷ os) = f o × Each f os
 
-each-ok : (n : ℕ) (s : List ℕ) (i : ℕ) → length s - i < n → Sound s i → Each OrderOk (ordersIn s (keptFrom FlussoOrdinativi s i))
+each-ok : (n : ℕ) (s : List ℕ) (i : ℕ) → length s - i < n → Sound s i → Each OrderOk (map ordinativo (ordersIn s (keptFrom FlussoOrdinativi s i)))
 each-ok zero s i h w = absurd (omega arith)
 each-ok (suc n) s i h w = go (nextOf (inRow 5 (keptFrom FlussoOrdinativi s i))) refl (each-ok n s)
   where
-    go : (x : Next) → nextOf (inRow 5 (keptFrom FlussoOrdinativi s i)) ≡ x → ((j : ℕ) → length s - j < n → Sound s j → Each OrderOk (ordersIn s (keptFrom FlussoOrdinativi s j))) → Each OrderOk (ordersIn s (keptFrom FlussoOrdinativi s i))
+    go : (x : Next) → nextOf (inRow 5 (keptFrom FlussoOrdinativi s i)) ≡ x → ((j : ℕ) → length s - j < n → Sound s j → Each OrderOk (map ordinativo (ordersIn s (keptFrom FlussoOrdinativi s j)))) → Each OrderOk (map ordinativo (ordersIn s (keptFrom FlussoOrdinativi s i)))
     go Done e ih = rw (orders-end s i e) tt
     go (Named k) e ih =
         let a = order-at s i k (w .standing) e in
@@ -336,13 +313,13 @@ module _ (s : List ℕ) (i j1 j2 j3 j4 j5 : ℕ) (a : Header-at CodiceAbi (drop 
         esercizio = rw (a .texts 4 (omega arith), b .texts 4 (omega arith), c .texts 4 (omega arith), d .texts 4 (omega arith)) (esercizio-range (textIn 4 s (keptFrom p s j4)) (number-there (esercizio (textIn 4 s (keptFrom p s j4))) (e .stands)));
       }
 
-  number-by : (1 ≤ length (ordersIn s (keptFrom FlussoOrdinativi s i))) × (length (ordersIn s (keptFrom FlussoOrdinativi s i)) ≤ 64)
+  number-by : (1 ≤ length (map ordinativo (ordersIn s (keptFrom FlussoOrdinativi s i)))) × (length (map ordinativo (ordersIn s (keptFrom FlussoOrdinativi s i))) ≤ 64)
   number-by =
       let ks = keptFrom FlussoOrdinativi s i in
       let js = keptFrom FlussoOrdinativi s j5 in
       let o = order-last (record { least = 1; most = 64 }) 5 js (e .on .filled .rows) in
       let z : inRow 5 ks ≡ js = a .later 5 (omega arith) ∙ b .later 5 (omega arith) ∙ c .later 5 (omega arith) ∙ d .later 5 (omega arith) ∙ e .later 5 (omega arith) ∙ in-row-all 5 js (o .rows) in
-      let m : length (ordersIn s ks) ≡ length js = orders-length s (inRow 5 ks) ∙ ap length z in
+      let m : length (map ordinativo (ordersIn s ks)) ≡ length js = length-map (ordersIn s ks) ordinativo ∙ orders-length s (inRow 5 ks) ∙ ap length z in
       (omega (arith, o .least), omega (arith, o .most))
 
 pub header-ok : (s : List ℕ) (at : ℕ) → Stood s at → HeaderOk (headerOf s at) × ((1 ≤ length (flowOrders s at)) × (length (flowOrders s at) ≤ 64))

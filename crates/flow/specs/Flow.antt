@@ -1,6 +1,6 @@
 -- A whole flow (document 01, "Answers", codes 3 to 5, "Checked in that order, each over the whole flow"): what breaks, or its header and orders.
 use Prim.Native.Nat.{ℕ, _+_}
-use mathlib.Core.List.{List}
+use mathlib.Core.List.{List, map}
 use mathlib.Core.Bool.{cond, _&&_}
 use Rattle.scan.specs.declared.Walk.{Walk}
 use Rattle.scan.specs.declared.Walk.the-variants.{Past, Broken}
@@ -16,7 +16,7 @@ use Rattle.rows.specs.Table.{nameIs}
 use Rattle.rows.specs.Kept.{keptFrom}
 use Rattle.structure.specs.Structure.{fitsAt, levels}
 use Rattle.standing.specs.Readings.{Bad, Place, Nowhere, fieldsAt, firstBad}
-use Rattle.order.specs.declared.Order.{Order}
+use Rattle.order.specs.Ordinativo.{Ordinativo, ordinativo}
 use Rattle.orders.specs.Orders.{Header, headerIn, ordersIn}
 use Rattle.flow.specs.declared.Verdict.{Verdict}
 use Rattle.flow.specs.declared.Verdict.the-variants.{MarkupBreaks, StructureBreaks, FieldBreaks, Stands}
@@ -53,5 +53,5 @@ abbrev pub headerOf : List ℕ → ℕ → Header
 headerOf s at = headerIn s (namedIn s at)
 
 -- the orders as written
-abbrev pub flowOrders : List ℕ → ℕ → List Order
-flowOrders s at = ordersIn s (namedIn s at)
+abbrev pub flowOrders : List ℕ → ℕ → List Ordinativo
+flowOrders s at = map ordinativo (ordersIn s (namedIn s at))

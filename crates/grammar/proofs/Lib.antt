@@ -2,5 +2,5 @@ pub mod Parts
 pub mod Pieces
 pub mod Sound
 pub mod Complete
-pub mod Tags
+pub mod XML
 pub mod Theorem

@@ -1,5 +1,5 @@
 -- What the bytes of a text are not.
-use mathlib.Core.Path.{_≡_, refl, sym, _∙_}
+use mathlib.Core.Path.{_≡_, refl, sym}
 use mathlib.Core.List.{List, [], _∷_, _++_}
 use mathlib.Core.Bool.{Bool, true, false, not}
 use Prim.Native.Nat.{ℕ, zero, suc, _+_, _≤_, _<_}
@@ -10,7 +10,7 @@ use borrow.Author.Tests.{ne-eqb}
 use Rattle.scan.specs.Bytes.{all}
 use Rattle.scan.proofs.Laws.{both}
 use Rattle.grammar.proofs.Parts.{no}
-use Rattle.grammar.specs.Grammar.{Character, one, two, three, four, Piece, char, amp, lt, gt, quot, apos, Pieces, none, more}
+use Rattle.grammar.specs.Grammar.{Character, one, two, three, four, Piece, char, amp, lt, gt, quot, apos}
 
 -- other than b
 abbrev pub other : ℕ → ℕ → Bool
@@ -26,21 +26,13 @@ not-other b x e = go (eqb x b) e
     go true e = no (sym e)
     go false e = refl
 
--- bytes of a kind that b is not of
-pub kind-other : (f : ℕ → Bool) (b : ℕ) → f b ≡ false → (x : List ℕ) → all f x ≡ true → all (other b) x ≡ true
-unfolding all
-kind-other f b n [] a = refl
-kind-other f b n (y ∷ x) a =
-    let c = both (f y) (all f x) a in
-    rw (other-is b y (λ z. no (sym (c .0) ∙ rw z n)), kind-other f b n x (c .1))
-
 pub all-at : (f : ℕ → Bool) (t : List ℕ) → all f t ≡ true → (i : ℕ) → i < length t → f (getD t i 0) ≡ true
 unfolding all
 all-at f [] a i h = absurd (omega arith)
 all-at f (b ∷ t) a zero h = both (f b) (all f t) a .0
 all-at f (b ∷ t) a (suc i) h = all-at f t (both (f b) (all f t) a .1) i (omega arith)
 
--- an ASCII byte b stands in no character but itself, and in none after its first byte
+-- an ASCII byte b stands in no character after its first byte
 module _ (b : ℕ) (low : b < 128) where
   high : (x : ℕ) → 128 ≤ x → other b x ≡ true
   high x h = other-is b x (λ e. omega arith)
@@ -52,13 +44,6 @@ module _ (b : ℕ) (low : b < 128) where
   char-rest (three {y = y} {z = z} h k l v) = rw (high (128 + y) (omega arith), high (128 + z) (omega arith))
   char-rest (four {y = y} {z = z} {w = w} h k l m v) = rw (high (128 + y) (omega arith), high (128 + z) (omega arith), high (128 + w) (omega arith))
 
-  char-other : {c : List ℕ} → Character c → (c ≡ b ∷ [] → ⊥) → all (other b) c ≡ true
-  unfolding all
-  char-other (one {x = x} h v) f = rw (other-is b x (λ e. f (rw e)))
-  char-other (two {x = x} h k v) f = rw (high (192 + x) (omega arith)) (char-rest (two h k v))
-  char-other (three {x = x} h k l v) f = rw (high (224 + x) (omega arith)) (char-rest (three h k l v))
-  char-other (four {x = x} h k l m v) f = rw (high (240 + x) (omega arith)) (char-rest (four h k l m v))
-
 -- no piece has a ] after its first byte
 pub piece-rest : {x : List ℕ} → Piece x → all (other 93) (drop 1 x) ≡ true
 unfolding all
@@ -69,22 +54,7 @@ piece-rest gt = refl
 piece-rest quot = refl
 piece-rest apos = refl
 
--- no text has a <
-pub piece-other : {x : List ℕ} → Piece x → all (other 60) x ≡ true
-unfolding all
-piece-other (char c f g) = char-other 60 (omega arith) c f
-piece-other amp = refl
-piece-other lt = refl
-piece-other gt = refl
-piece-other quot = refl
-piece-other apos = refl
-
 pub all-append : (f : ℕ → Bool) (x t : List ℕ) → all f x ≡ true → all f t ≡ true → all f (x ++ t) ≡ true
 unfolding all
 all-append f [] t a b = b
 all-append f (c ∷ x) t a b = let d = both (f c) (all f x) a in rw (d .0, all-append f x t (d .1) b)
-
-pub pieces-other : {t : List ℕ} → Pieces t → all (other 60) t ≡ true
-unfolding all
-pieces-other none = refl
-pieces-other (more {p = p} {t = t} x ps) = all-append (other 60) p t (piece-other x) (pieces-other ps)

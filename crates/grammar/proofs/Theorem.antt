@@ -6,10 +6,10 @@ use mathlib.Core.List.{List}
 use Rattle.scan.specs.declared.Walk.the-variants.{Past}
 use Rattle.markup.specs.Markup.{markupOf}
 use Rattle.grammar.specs.Grammar.{Flow, rootPlace}
-use Rattle.grammar.specs.WellFormed.{WellFormed}
+use Rattle.grammar.specs.XML.{WellFormedXML}
 use Rattle.grammar.proofs.Sound.{flow-sound}
 use Rattle.grammar.proofs.Complete.{flow-complete}
-use Rattle.grammar.proofs.Tags.{flow-well-formed}
+use Rattle.grammar.proofs.XML.{flow-well-formed}
 
 -- whatever is accepted is a flow of the grammar
 pub sound : (s : List ℕ) (p : ℕ) → markupOf s ≡ Past p → Flow s
@@ -19,7 +19,6 @@ sound = flow-sound
 pub complete : (s : List ℕ) (f : Flow s) → markupOf s ≡ Past (rootPlace f)
 complete = flow-complete
 
--- "Everything accepted is well-formed XML 1.0". What that says of names, characters and references stands in the grammar; as to tags
--- (crates/grammar/specs/WellFormed.antt): each has its partner of the same name, they nest, and there is one root
-pub well-formed : (s : List ℕ) (p : ℕ) → markupOf s ≡ Past p → WellFormed s
+-- "Everything accepted is well-formed XML 1.0": the recommendation's productions (crates/grammar/specs/XML.antt) derive it
+pub well-formed : (s : List ℕ) (p : ℕ) → markupOf s ≡ Past p → WellFormedXML s
 well-formed s p e = flow-well-formed s (sound s p e)

@@ -1,2 +1,2 @@
 pub mod Grammar
-pub mod WellFormed
+pub mod XML

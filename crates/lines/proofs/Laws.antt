@@ -1,12 +1,12 @@
 -- Laws of a walk over one order's lines: the answer that a tally and the lines still to come determine, at the start, after one line more and at the end.
 use Prim.Native.Nat.{ℕ, suc, zero, _+_, _-_, _<_}
 use mathlib.Core.Bool.{Bool, true, false, _&&_, cond, and-assoc, and-true}
-use mathlib.Core.List.{List, _∷_}
+use mathlib.Core.List.{List, [], _∷_}
 use mathlib.Core.Path.{_≡_, refl, sym, ap, _∙_}
 use native.Mathlib.Omega.{arith}
 use native.Mathlib.Nat.{zero-add, suc-add}
 use native.Mathlib.Numerals.{add-one}
-use lib.ListN.{length, getD, drop}
+use lib.ListN.{length, getD, take, drop}
 use lib.Seq.{drop-cons, drop-length}
 use lib.Dec.{eqb, leb, eqb·suc-suc}
 use borrow.Author.Tests.{leb-true, leb-false, ne-eqb}
@@ -50,3 +50,9 @@ module _ (ls : List Line) (t : Tally) (i : ℕ) where
   pub ends : i ≡ length ls → codeFrom t i (drop i ls) ≡ answerOf t
   unfolding numberedFrom sumOf
   ends e = rw (e, drop-length ls, and-true (t .numbered))
+
+-- as many as there are, of those that are there
+pub there : {A : Type 0} (n : ℕ) (l : List A) → take (length (take n l)) l ≡ take n l
+there zero l = refl
+there (suc n) [] = refl
+there (suc n) (x ∷ l) = ap (λ r. x ∷ r) (there n l)

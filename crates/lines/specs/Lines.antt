@@ -2,14 +2,8 @@
 use Prim.Native.Nat.{ℕ, _+_}
 use mathlib.Core.Bool.{Bool, true, _&&_, cond}
 use mathlib.Core.List.{List, [], _∷_}
-use lib.ListN.{take}
 use lib.Dec.{eqb}
 use Rattle.order.specs.declared.Line.{Line}
-use Rattle.order.specs.declared.Lines.{Lines}
-
--- one order's lines, as many as it has
-abbrev pub linesOf : Lines → List Line
-linesOf ls = take (ls .count) (ls .each)
 
 -- numbered n, n + 1, n + 2 and so on
 unfoldable pub numberedFrom : ℕ → List Line → Bool

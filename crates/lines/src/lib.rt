@@ -6,7 +6,8 @@ ghost use mathlib.Core.Bool.{_&&_};
 ghost use Prim.Native.Nat.{_+_, _-_, _≤_, _<_, _^_};
 ghost use lib.ListN.{take};
 ghost use lib.Dec.{eqb, leb};
-ghost use Rattle.lines.specs.Lines.{linesOf, lineCode};
+ghost use Rattle.order.specs.Ordinativo.{linesThere};
+ghost use Rattle.lines.specs.Lines.{lineCode};
 ghost use Rattle.lines.specs.Walk.{startOf, stepOf, answerOf};
 
 // What is known after some lines: all numbered as they should be, all fit into the total, and what they leave of it.
@@ -113,9 +114,9 @@ fn check_first(each: [Line; 8], n: usize, total: u64) -> u8
 
 // What an order's lines come to.
 pub fn check_lines(ls: Lines, total: u64) -> u8
-    requires { ⌜ ls .count ≤ 8 ⌝ }
-    ensures { λ r. ⌜ r ≡ lineCode (linesOf ls) total ⌝ }
+    ensures { λ r. ⌜ r ≡ lineCode (linesThere ls) total ⌝ }
 {
     let each = ls.each;
-    check_first(each, ls.count, total)
+    let n = order::count_of(ls);
+    check_first(each, n, total)
 }

@@ -13,11 +13,16 @@ use Rattle.address.specs.Address.{addressed}
 use Rattle.rules.specs.declared.Noticed.{Noticed}
 use Rattle.rules.specs.declared.Noticed.the-variants.{Moved, Unmoved}
 use Rattle.service.specs.Service.{noticeComes, noticeLeaves}
+use Rattle.notices.specs.declared.NoticeReply.{NoticeReply}
 use Rattle.notices.specs.declared.NoticeAnswer.{NoticeAnswer}
 use Rattle.notices.specs.declared.NoticeAnswer.the-variants.{InvalidTable, UnknownBody, Done, Declined}
 use Rattle.notices.specs.declared.TotalsAnswer.{TotalsAnswer}
 
 -- A NOTICE: "A notice names body code, kind, esercizio, number, line"
+
+-- the key of the order that it names
+abbrev pub keyed : ℕ → ℕ → ℕ → Key
+keyed kind esercizio number = record { kind = kind; esercizio = esercizio; number = number }
 
 abbrev pub noticed : Noticed → NoticeAnswer
 noticed (Moved i cents) = Done cents
@@ -44,28 +49,31 @@ noticeTable t executing code k line = noticeTableBy t executing k line (addresse
 abbrev pub NoticePromise : List ℕ → Bool → List ℕ → Key → ℕ → NoticeAnswer → List ℕ → Type 0
 NoticePromise t executing code k line a t′ = (a ≡ noticeAnswer t executing code k line) × (t′ ≡ noticeTable t executing code k line)
 
--- document 01's code and cents: "cents 0 on refusal"
-abbrev pub noticeCodeOf : NoticeAnswer → ℕ
-noticeCodeOf InvalidTable = 1
-noticeCodeOf UnknownBody = 7
-noticeCodeOf (Done cents) = 0
-noticeCodeOf (Declined c) = c
+-- DOCUMENT 01'S NUMBERS of an answer: "cents 0 on refusal"
+abbrev refusal : ℕ → NoticeReply
+refusal c = record { code = c; cents = 0 }
 
-abbrev pub noticeCentsOf : NoticeAnswer → ℕ
-noticeCentsOf InvalidTable = 0
-noticeCentsOf UnknownBody = 0
-noticeCentsOf (Done cents) = cents
-noticeCentsOf (Declined c) = 0
+abbrev pub noticeReply : NoticeAnswer → NoticeReply
+noticeReply InvalidTable = refusal 1
+noticeReply UnknownBody = refusal 7
+noticeReply (Done cents) = record { code = 0; cents = cents }
+noticeReply (Declined c) = refusal c
+
+abbrev pub noticeCodeOf : NoticeAnswer → ℕ
+noticeCodeOf a = noticeReply a .code
 
 -- the promise in these numbers
 abbrev pub NoticeReplies : List ℕ → Bool → List ℕ → Key → ℕ → ℕ → ℕ → List ℕ → Type 0
 NoticeReplies t executing code k line n cents t′ =
-    (a : NoticeAnswer) × NoticePromise t executing code k line a t′ × (n ≡ noticeCodeOf a) × (cents ≡ noticeCentsOf a)
+    (a : NoticeAnswer) × NoticePromise t executing code k line a t′ × (n ≡ noticeReply a .code) × (cents ≡ noticeReply a .cents)
 
 -- TOTALS: "Totals name a body: code (0, 1, 7), used slots, cents paid (executed mandato lines), cents collected (executed reversale lines), and the
 -- balance, collected less paid, which may be below zero. A refusal gives zeros."
+abbrev pub totalled : ℕ → ℕ → ℕ → ℕ → ℤ → TotalsAnswer
+totalled c used paid collected balance = record { code = c; used = used; paid = paid; collected = collected; balance = balance }
+
 abbrev pub zeroTotals : ℕ → TotalsAnswer
-zeroTotals c = record { code = c; used = 0; paid = 0; collected = 0; balance = pos 0 }
+zeroTotals c = totalled c 0 0 0 (pos 0)
 
 -- of a body of n slots from base on
 unfoldable pub bodyTotals : List ℕ → ℕ → ℕ → TotalsAnswer

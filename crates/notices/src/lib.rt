@@ -9,7 +9,7 @@ ghost use lib.IntN.{pos, _-ℤ_};
 ghost use lib.ListN.{length};
 ghost use Rattle.record.specs.Slot.{slotSize};
 ghost use Rattle.body.specs.Body.{bodyOk};
-ghost use Rattle.notices.specs.Notices.{noticed, NoticePromise, zeroTotals, bodyTotals, TotalsPromise};
+ghost use Rattle.notices.specs.Notices.{keyed, noticed, noticeReply, NoticePromise, zeroTotals, bodyTotals, TotalsPromise};
 
 // What a notice's call answers.
 pub enum NoticeAnswer {
@@ -17,6 +17,12 @@ pub enum NoticeAnswer {
     UnknownBody,
     Done(u64),
     Declined(u8),
+}
+
+// Document 01's numbers of an answer.
+pub struct NoticeReply {
+    pub code: u64,
+    pub cents: u64,
 }
 
 // What a totals call answers.
@@ -63,7 +69,7 @@ pub fn execute(
     number: u64,
     line: u64,
 ) -> NoticeAnswer
-    ensures { λ r. ⌜ NoticePromise (now (t .entry)) true (now (code .entry)) (record { kind = kind; esercizio = esercizio; number = number }) line r (now (t .exit)) ⌝ }
+    ensures { λ r. ⌜ NoticePromise (now (t .entry)) true (now (code .entry)) (keyed kind esercizio number) line r (now (t .exit)) ⌝ }
 {
     notice(
         t,
@@ -87,7 +93,7 @@ pub fn reverse(
     number: u64,
     line: u64,
 ) -> NoticeAnswer
-    ensures { λ r. ⌜ NoticePromise (now (t .entry)) false (now (code .entry)) (record { kind = kind; esercizio = esercizio; number = number }) line r (now (t .exit)) ⌝ }
+    ensures { λ r. ⌜ NoticePromise (now (t .entry)) false (now (code .entry)) (keyed kind esercizio number) line r (now (t .exit)) ⌝ }
 {
     notice(
         t,
@@ -100,6 +106,21 @@ pub fn reverse(
         },
         line,
     )
+}
+
+// The numbers of an answer.
+pub fn reply_of(a: NoticeAnswer) -> NoticeReply
+    ensures { λ r. ⌜ (r .code ≡ noticeReply a .code) × (r .cents ≡ noticeReply a .cents) ⌝ }
+{
+    match a {
+        NoticeAnswer::InvalidTable => NoticeReply { code: 1, cents: 0 },
+        NoticeAnswer::UnknownBody => NoticeReply { code: 7, cents: 0 },
+        NoticeAnswer::Done(cents) => NoticeReply { code: 0, cents },
+        NoticeAnswer::Declined(c) => NoticeReply {
+            code: c as u64,
+            cents: 0,
+        },
+    }
 }
 
 fn no_totals(code: u64) -> TotalsAnswer

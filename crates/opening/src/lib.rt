@@ -6,7 +6,7 @@ ghost use lib.ListN.{length, replicate};
 ghost use Rattle.words.specs.Numbers.{put};
 ghost use Rattle.entries.specs.Entry.{requestSize};
 ghost use Rattle.request.specs.Request.{firstBody, asked, needed, requestOk};
-ghost use Rattle.opening.specs.Opening.{headBytes, entryBytes, entriesBytes, opened, OpenPromise};
+ghost use Rattle.opening.specs.Opening.{headBytes, entryBytes, entriesBytes, opened, openCode, OpenPromise};
 
 // What opening answers.
 pub enum Opened {
@@ -91,4 +91,15 @@ pub fn open_table(q: &[u8], t: &mut [u8]) -> Opened
     }
     fill(t, q, n);
     Opened::Open
+}
+
+// Document 01's code of an answer.
+pub fn code_of(o: Opened) -> u64
+    ensures { λ r. ⌜ r ≡ openCode o ⌝ }
+{
+    match o {
+        Opened::Open => 0,
+        Opened::WrongRequest => 9,
+        Opened::WrongLength => 10,
+    }
 }

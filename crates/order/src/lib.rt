@@ -1,6 +1,10 @@
 // An order as a flow writes it. The reader of flows makes it and the rules judge it; neither knows the other.
 use calendar::Date;
 use codes::Operation;
+ghost use mathlib.Core.Path.{_≡_};
+ghost use Prim.Native.Nat.{_≤_};
+ghost use lib.ListN.{length};
+ghost use Rattle.order.specs.Ordinativo.{linesThere};
 
 // A line of an order: its progressivo and its cents.
 pub struct Line {
@@ -22,4 +26,11 @@ pub struct Order {
     pub date: Date,
     pub total: u64,
     pub lines: Lines,
+}
+
+// How many lines there are: never more than there are places.
+pub fn count_of(ls: Lines) -> usize
+    ensures { λ r. ⌜ (r ≡ length (linesThere ls)) × (r ≤ 8) ⌝ }
+{
+    if ls.count <= 8 { ls.count } else { 8 }
 }

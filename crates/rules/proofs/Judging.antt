@@ -9,20 +9,22 @@ use lib.Dec.{eqb, leb, ltb}
 use borrow.Author.Tests.{ltb-true, eqb-false, leb-true}
 use Rattle.ranges.specs.declared.Found.{Found}
 use Rattle.ranges.specs.declared.Found.the-variants.{At, Nothing}
-use Rattle.codes.specs.declared.Operation.{Operation}
-use Rattle.codes.specs.declared.Operation.the-variants.{Inserimento, Variazione, Annullo, Sostituzione}
-use Rattle.order.specs.declared.Order.{Order}
+use Rattle.order.specs.Ordinativo.{Ordinativo}
 use Rattle.record.specs.declared.Record.{Record}
 use Rattle.record.specs.declared.Key.{Key}
 use Rattle.slots.specs.Slots.{findIn}
 use Rattle.slots.proofs.Search.{found-below}
 use Rattle.rules.specs.declared.Situation.{Situation}
 use Rattle.rules.specs.declared.Situation.the-variants.{Absent, Annulled, Waiting, Executed}
-use Rattle.rules.specs.declared.Judged.{Judged}
-use Rattle.rules.specs.declared.Judged.the-variants.{Accepted, Refused}
+use Rattle.rules.specs.declared.Change.{Change}
+use Rattle.rules.specs.declared.Change.the-variants.{Insert, Vary, Annul}
+use Rattle.rules.specs.declared.Asks.{Asks}
+use Rattle.rules.specs.declared.Asks.the-variants.{For, Unserved}
+use Rattle.rules.specs.declared.Ruling.{Ruling}
+use Rattle.rules.specs.declared.Ruling.the-variants.{Accepted, Refused}
 use Rattle.rules.specs.declared.Noticed.the-variants.{Moved, Unmoved}
-use Rattle.lines.specs.Lines.{linesOf, lineCode}
-use Rattle.rules.specs.Rules.{anyExecuted, situationIn, situationOf, stepOf, sostituzione, keyFor, nth, noRecord, placed, unless, stepped, judgeOrder, sameOrder, lineMoves, moveOr, noticeIn, noticeAt, judgeNotice}
+use Rattle.lines.specs.Lines.{lineCode}
+use Rattle.rules.specs.Rules.{asksOf, anyExecuted, situationIn, situationOf, stepCode, keyFor, nth, noRecord, sameOrder, placed, unless, stepped, judgeAsked, judgeOrder, lineMoves, moveOr, noticeIn, noticeAt, judgeNotice}
 
 -- two constructors are never equal
 abbrev clash : Type 0
@@ -31,7 +33,7 @@ clash = _≡_ {A = ℕ} 0 1
 no : clash → ⊥
 no z = omega arith
 
-refused : {A : Type 0} {c i : ℕ} → Refused c ≡ Accepted i → A
+refused : {A : Type 0} {code i : ℕ} {c : Change} → Refused code ≡ Accepted c i → A
 refused e = let z : clash = cc in absurd (no z)
 
 unmoved : {A : Type 0} {c i m : ℕ} → Unmoved c ≡ Moved i m → A
@@ -64,75 +66,110 @@ waiting-in r e = go (eqb (r .state) 2) (anyExecuted (r .states)) refl refl e
 
 -- THE STEP TABLE: a step of 0
 
-inserts : (s : Situation) → stepOf Inserimento s ≡ 0 → s ≡ Absent
+inserts : (s : Situation) → stepCode Insert s ≡ 0 → s ≡ Absent
 inserts Absent e = refl
 inserts Annulled e = absurd (omega arith)
 inserts Waiting e = absurd (omega arith)
 inserts Executed e = absurd (omega arith)
 
-varies : (s : Situation) → stepOf Variazione s ≡ 0 → s ≡ Waiting
+varies : (s : Situation) → stepCode Vary s ≡ 0 → s ≡ Waiting
 varies Absent e = absurd (omega arith)
 varies Annulled e = absurd (omega arith)
 varies Waiting e = refl
 varies Executed e = absurd (omega arith)
 
-annuls : (s : Situation) → stepOf Annullo s ≡ 0 → s ≡ Waiting
+annuls : (s : Situation) → stepCode Annul s ≡ 0 → s ≡ Waiting
 annuls s e = varies s e
 
 -- AN ACCEPTED ORDER, of a body with so many slots and these records: it stands at i
-pub data Stands (slots year : ℕ) (o : Order) (rs : List Record) (i : ℕ) : Type 0 where
-  inserting : o .operation ≡ Inserimento → findIn rs 0 (keyFor year o) ≡ Nothing → i ≡ length rs → length rs < slots → Stands slots year o rs i
-  varying : o .operation ≡ Variazione → findIn rs 0 (keyFor year o) ≡ At i → Waits (nth rs i) → Stands slots year o rs i
-  annulling : o .operation ≡ Annullo → findIn rs 0 (keyFor year o) ≡ At i → Waits (nth rs i) → sameOrder o (nth rs i) ≡ true → Stands slots year o rs i
+pub data Stands (slots year : ℕ) (o : Ordinativo) (rs : List Record) (c : Change) (i : ℕ) : Type 0 where
+  inserting : c ≡ Insert → findIn rs 0 (keyFor year o) ≡ Nothing → i ≡ length rs → length rs < slots → Stands slots year o rs c i
+  varying : c ≡ Vary → findIn rs 0 (keyFor year o) ≡ At i → Waits (nth rs i) → Stands slots year o rs c i
+  annulling : c ≡ Annul → findIn rs 0 (keyFor year o) ≡ At i → Waits (nth rs i) → sameOrder o (nth rs i) ≡ true → Stands slots year o rs c i
 
-unless-zero : (c : ℕ) (next : Judged) {i : ℕ} → unless c next ≡ Accepted i → (c ≡ 0) × (next ≡ Accepted i)
+unless-zero : (code : ℕ) (next : Ruling) {c : Change} {i : ℕ} → unless code next ≡ Accepted c i → (code ≡ 0) × (next ≡ Accepted c i)
 unless-zero zero next e = (refl, e)
-unless-zero (suc c) next e = refused e
+unless-zero (suc code) next e = refused e
 
-module _ (slots year : ℕ) (o : Order) (rs : List Record) (i : ℕ) where
-  stand : (p : Operation) (f : Found) → o .operation ≡ p → findIn rs 0 (keyFor year o) ≡ f
-      → stepOf p (situationOf rs f) ≡ 0 → placed slots o rs p f ≡ Accepted i → Stands slots year o rs i
+module _ (slots year : ℕ) (o : Ordinativo) (rs : List Record) (c : Change) (i : ℕ) where
+  stand : (d : Change) (f : Found) → findIn rs 0 (keyFor year o) ≡ f
+      → stepCode d (situationOf rs f) ≡ 0 → placed slots o rs d f ≡ Accepted c i → Stands slots year o rs c i
   unfolding situationOf placed
-  stand Inserimento Nothing p f s e = go (ltb (length rs) slots) refl e
+  stand Insert Nothing f s e = go (ltb (length rs) slots) refl e
     where
-      go : (b : Bool) → ltb (length rs) slots ≡ b → cond b (Accepted (length rs)) (Refused 15) ≡ Accepted i → Stands slots year o rs i
-      go true h e = let q : i ≡ length rs = cc in inserting p f q (ltb-true (length rs) slots h)
+      go : (b : Bool) → ltb (length rs) slots ≡ b → cond b (Accepted Insert (length rs)) (Refused 15) ≡ Accepted c i → Stands slots year o rs c i
+      go true h e =
+          let p : c ≡ Insert = cc in
+          let q : i ≡ length rs = cc in
+          inserting p f q (ltb-true (length rs) slots h)
       go false h e = refused e
-  stand Inserimento (At j) p f s e = absurd (there (nth rs j) (inserts (situationIn (nth rs j)) s))
-  stand Variazione Nothing p f s e = absurd (omega arith)
-  stand Variazione (At j) p f s e =
+  stand Insert (At j) f s e = absurd (there (nth rs j) (inserts (situationIn (nth rs j)) s))
+  stand Vary Nothing f s e = absurd (omega arith)
+  stand Vary (At j) f s e =
+      let p : c ≡ Vary = cc in
       let q : j ≡ i = cc in
       varying p (f ∙ ap At q) (waiting-in (nth rs i) (ap (λ (m : ℕ). situationIn (nth rs m)) (sym q) ∙ varies (situationIn (nth rs j)) s))
-  stand Annullo Nothing p f s e = absurd (omega arith)
-  stand Annullo (At j) p f s e = go (sameOrder o (nth rs j)) refl e
+  stand Annul Nothing f s e = absurd (omega arith)
+  stand Annul (At j) f s e = go (sameOrder o (nth rs j)) refl e
     where
-      go : (b : Bool) → sameOrder o (nth rs j) ≡ b → cond b (Accepted j) (Refused 19) ≡ Accepted i → Stands slots year o rs i
+      go : (b : Bool) → sameOrder o (nth rs j) ≡ b → cond b (Accepted Annul j) (Refused 19) ≡ Accepted c i → Stands slots year o rs c i
       go true h e =
+          let p : c ≡ Annul = cc in
           let q : j ≡ i = cc in
           annulling p (f ∙ ap At q) (waiting-in (nth rs i) (ap (λ (m : ℕ). situationIn (nth rs m)) (sym q) ∙ annuls (situationIn (nth rs j)) s))
           (ap (λ (m : ℕ). sameOrder o (nth rs m)) (sym q) ∙ h)
       go false h e = refused e
-  stand Sostituzione f p g s e = refused e
 
-  module _ (e : judgeOrder slots year o rs ≡ Accepted i) where
-    judged : (lineCode (linesOf (o .lines)) (o .total) ≡ 0) × (stepped slots o rs (findIn rs 0 (keyFor year o)) ≡ Accepted i)
-    unfolding judgeOrder
-    judged = unless-zero (lineCode (linesOf (o .lines)) (o .total)) _ (unless-zero (sostituzione (o .operation)) _ e .1)
+  placed-change : (d : Change) (f : Found) → placed slots o rs d f ≡ Accepted c i → d ≡ c
+  unfolding placed
+  placed-change Insert f e = go (ltb (length rs) slots) e
+    where
+      go : (b : Bool) → cond b (Accepted Insert (length rs)) (Refused 15) ≡ Accepted c i → Insert ≡ c
+      go true e = cc
+      go false e = refused e
+  placed-change Vary (At j) e = cc
+  placed-change Vary Nothing e = refused e
+  placed-change Annul (At j) e = go (sameOrder o (nth rs j)) e
+    where
+      go : (b : Bool) → cond b (Accepted Annul j) (Refused 19) ≡ Accepted c i → Annul ≡ c
+      go true e = cc
+      go false e = refused e
+  placed-change Annul Nothing e = refused e
 
-    pub accepted-lines : lineCode (linesOf (o .lines)) (o .total) ≡ 0
-    accepted-lines = judged .0
+  module _ (e : judgeOrder slots year o rs ≡ Accepted c i) where
+    -- what it asks for, and the tests that it passed
+    record Passed : Type 0 where
+      change : Change
+      asks : asksOf (o .operation) ≡ For change
+      lines : lineCode (o .lines) (o .total) ≡ 0
+      step : stepCode change (situationOf rs (findIn rs 0 (keyFor year o))) ≡ 0
+      place : placed slots o rs change (findIn rs 0 (keyFor year o)) ≡ Accepted c i
 
-    pub accepted : Stands slots year o rs i
-    unfolding stepped
-    accepted =
-        let s = unless-zero (stepOf (o .operation) (situationOf rs (findIn rs 0 (keyFor year o)))) _ (judged .1) in
-        stand (o .operation) (findIn rs 0 (keyFor year o)) refl refl (s .0) (s .1)
+    passed : Passed
+    unfolding judgeOrder stepped
+    passed = go (asksOf (o .operation)) refl e
+      where
+        go : (a : Asks) → asksOf (o .operation) ≡ a → judgeAsked slots year o rs a ≡ Accepted c i → Passed
+        go (For d) p e =
+            let l = unless-zero (lineCode (o .lines) (o .total)) _ e in
+            let s = unless-zero (stepCode d (situationOf rs (findIn rs 0 (keyFor year o)))) _ (l .1) in
+            record { change = d; asks = p; lines = l .0; step = s .0; place = s .1 }
+        go (Unserved code) p e = refused e
+
+    pub accepted-lines : lineCode (o .lines) (o .total) ≡ 0
+    accepted-lines = passed .lines
+
+    pub accepted-asks : asksOf (o .operation) ≡ For c
+    accepted-asks = passed .asks ∙ ap For (placed-change (passed .change) (findIn rs 0 (keyFor year o)) (passed .place))
+
+    pub accepted : Stands slots year o rs c i
+    accepted = stand (passed .change) (findIn rs 0 (keyFor year o)) refl (passed .step) (passed .place)
 
     -- its slot is used already, or is the first empty one
     pub accepted-within : i ≤ length rs
     accepted-within = go accepted
       where
-        go : Stands slots year o rs i → i ≤ length rs
+        go : Stands slots year o rs c i → i ≤ length rs
         go (inserting p f q l) = omega arith
         go (varying p f w) = omega (arith, found-below rs (keyFor year o) i noRecord f)
         go (annulling p f w s) = omega (arith, found-below rs (keyFor year o) i noRecord f)
@@ -140,7 +177,7 @@ module _ (slots year : ℕ) (o : Order) (rs : List Record) (i : ℕ) where
     pub accepted-slot : length rs ≤ slots → i < slots
     accepted-slot h = go accepted
       where
-        go : Stands slots year o rs i → i < slots
+        go : Stands slots year o rs c i → i < slots
         go (inserting p f q l) = omega arith
         go (varying p f w) = omega (arith, found-below rs (keyFor year o) i noRecord f)
         go (annulling p f w s) = omega (arith, found-below rs (keyFor year o) i noRecord f)

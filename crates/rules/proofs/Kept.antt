@@ -1,18 +1,18 @@
 -- What accepted orders and moved lines leave: valid records, with the keys that they had.
 use Prim.Native.Nat.{ℕ, zero, suc, _+_, _-_, _≤_, _<_}
 use mathlib.Core.Bool.{Bool, true, false, _&&_, _||_, cond}
-use mathlib.Core.List.{List, [], _∷_}
+use mathlib.Core.List.{List, [], _∷_, _++_}
 use mathlib.Core.Path.{_≡_, refl, sym, ap, _∙_}
 use native.Mathlib.Omega.{arith}
-use lib.ListN.{length, getD, take, set, length-set}
-use lib.Seq.{take-nil, getD-set-same, getD-set-other}
+use lib.ListN.{length, getD, take, set, replicate, length-set, length-replicate, getD-replicate, List·getD-eq-default}
+use lib.Seq.{getD-set-same, getD-set-other}
 use lib.Dec.{eqb, leb, ltb}
 use borrow.Author.Tests.{lt-ltb, le-ltb, le-leb, ltb-true, ltb-false, ne-eqb, eqb-true, eqb-false}
 use Rattle.scan.specs.Bytes.{between}
 use Rattle.scan.proofs.Laws.{both, in-range}
 use Rattle.calendar.specs.Calendar.{isDate}
 use Rattle.order.specs.declared.Line.{Line}
-use Rattle.order.specs.declared.Order.{Order}
+use Rattle.order.specs.Ordinativo.{Ordinativo}
 use Rattle.record.specs.declared.Record.{Record}
 use Rattle.record.specs.Slot.{keyOf}
 use Rattle.ranges.specs.declared.Found.the-variants.{At}
@@ -20,10 +20,12 @@ use Rattle.valid.specs.Valid.{maxCents, lineThere, lineAbsent, lineOk, sum, ran
 use Rattle.slots.specs.Slots.{findIn}
 use Rattle.valid.proofs.Valid.{Valid, ok-bounds, ok-line, ok-sum, ok-amount, ok-tests, ok-from}
 use Rattle.slots.proofs.Search.{found-below, found-key}
-use Rattle.rules.specs.declared.Judged.the-variants.{Accepted}
-use Rattle.lines.specs.Lines.{linesOf, numberedFrom, sumOf, lineCode}
-use Rattle.lines.proofs.Laws.{noLine}
-use Rattle.rules.specs.Rules.{amountsOf, waitingFor, waiting, anyExecuted, keyFor, nth, noRecord, judgeOrder, annulled, written}
+use Rattle.lines.specs.Lines.{numberedFrom, sumOf, lineCode}
+use Rattle.rules.specs.declared.Change.{Change}
+use Rattle.rules.specs.declared.Ruling.the-variants.{Accepted}
+use Rattle.rules.specs.Rules.{anyExecuted, keyFor, nth, noRecord, eight, amountsOf, judgeOrder, annulled, written}
+use Rattle.rules.specs.Effects.{withState}
+use Rattle.rules.proofs.Laws.{eight-at, length-eight}
 use Rattle.rules.proofs.Judging.{Stands, inserting, varying, annulling, accepted, accepted-lines}
 
 within : (lo hi b : ℕ) → (lo ≤ b) × (b ≤ hi) → between lo hi b ≡ true
@@ -81,7 +83,7 @@ module _ (r : Record) (k : ℕ) where
 
 -- ALL LINES WAITING
 
-none-executed : (s : List ℕ) (k : ℕ) → anyExecuted s ≡ false → getD s k 0 ≡ 2 → ⊥
+pub none-executed : (s : List ℕ) (k : ℕ) → anyExecuted s ≡ false → getD s k 0 ≡ 2 → ⊥
 unfolding anyExecuted
 none-executed [] k e h = omega arith
 none-executed (x ∷ s) k e h = go (eqb x 2) refl e k h (none-executed s)
@@ -91,27 +93,16 @@ none-executed (x ∷ s) k e h = go (eqb x 2) refl e k h (none-executed s)
     go false q f zero h next = eqb-false x 2 q h
     go false q f (suc k) h next = next k f h
 
-waiting-at : (n k : ℕ) → k < 8 → getD (waiting n) k 0 ≡ waitingFor n k
-waiting-at n zero h = refl
-waiting-at n (suc zero) h = refl
-waiting-at n (suc (suc zero)) h = refl
-waiting-at n (suc (suc (suc zero))) h = refl
-waiting-at n (suc (suc (suc (suc zero)))) h = refl
-waiting-at n (suc (suc (suc (suc (suc zero))))) h = refl
-waiting-at n (suc (suc (suc (suc (suc (suc zero)))))) h = refl
-waiting-at n (suc (suc (suc (suc (suc (suc (suc zero))))))) h = refl
-waiting-at n (suc (suc (suc (suc (suc (suc (suc (suc k)))))))) h = absurd (omega arith)
+-- all lines waiting, and no line after them
+waiting-none : (m n k : ℕ) → anyExecuted (take m (replicate n 1 ++ replicate k 0)) ≡ false
+unfolding anyExecuted
+waiting-none zero n k = refl
+waiting-none (suc m) zero zero = refl
+waiting-none (suc m) zero (suc k) = waiting-none m zero k
+waiting-none (suc m) (suc n) k = waiting-none m n k
 
-amount-at : (e : List Line) (k : ℕ) → getD (amountsOf e) k 0 ≡ getD e k noLine .amount
-unfolding amountsOf
-amount-at [] k = refl
-amount-at (l ∷ e) zero = refl
-amount-at (l ∷ e) (suc k) = amount-at e k
-
-length-amounts : (e : List Line) → length (amountsOf e) ≡ length e
-unfolding amountsOf
-length-amounts [] = refl
-length-amounts (l ∷ e) = ap suc (length-amounts e)
+pub waiting-all : (n : ℕ) → anyExecuted (eight (replicate n 1)) ≡ false
+waiting-all n = waiting-none 8 n 8
 
 -- one of the numbers is at most their sum
 one-of-sum : (a : List ℕ) (k : ℕ) → getD a k 0 ≤ sum a
@@ -120,24 +111,38 @@ one-of-sum [] k = omega arith
 one-of-sum (x ∷ a) zero = omega arith
 one-of-sum (x ∷ a) (suc k) = omega (arith, one-of-sum a k)
 
--- lines that aren't there add nothing
-sum-front : (e : List Line) (n : ℕ) → ((k : ℕ) → n ≤ k → getD e k noLine .amount ≡ 0) → sum (amountsOf e) ≡ sumOf (take n e)
+-- places past the lines add nothing
+sum-none : (m k : ℕ) → sum (take m (replicate k 0)) ≡ 0
+unfolding sum
+sum-none zero k = refl
+sum-none (suc m) zero = refl
+sum-none (suc m) (suc k) = omega (arith, sum-none m k)
+
+sum-first : (m k : ℕ) (ns : List ℕ) → length ns ≤ m → sum (take m (ns ++ replicate k 0)) ≡ sum ns
+unfolding sum
+sum-first m k [] h = sum-none m k
+sum-first zero k (n ∷ ns) h = absurd (omega arith)
+sum-first (suc m) k (n ∷ ns) h = ap (λ (x : ℕ). n + x) (sum-first m k ns (omega arith))
+
+length-amounts : (ls : List Line) → length (amountsOf ls) ≡ length ls
+unfolding amountsOf
+length-amounts [] = refl
+length-amounts (l ∷ ls) = ap suc (length-amounts ls)
+
+sum-amounts : (ls : List Line) → sum (amountsOf ls) ≡ sumOf ls
 unfolding amountsOf sum sumOf
-sum-front [] n h = ap sumOf (sym (take-nil n))
-sum-front (l ∷ e) zero h = omega (arith, h 0 (omega arith), sum-front e 0 (λ k p. h (suc k) (omega arith)))
-sum-front (l ∷ e) (suc n) h = ap (λ (x : ℕ). l .amount + x) (sum-front e n (λ k p. h (suc k) (omega arith)))
+sum-amounts [] = refl
+sum-amounts (l ∷ ls) = ap (λ (x : ℕ). l .amount + x) (sum-amounts ls)
 
 -- AN ORDER as a flow that stands writes it
-pub record Writable (o : Order) : Type 0 where
+pub record Writable (o : Ordinativo) : Type 0 where
   pub kind : (1 ≤ o .kind) × (o .kind ≤ 2)
   pub number : (1 ≤ o .number) × (o .number ≤ 9999999)
   pub date : isDate (o .date) ≡ true
   pub total : o .total ≤ maxCents
-  pub count : (1 ≤ o .lines .count) × (o .lines .count ≤ 8)
-  pub eight : length (o .lines .each) ≡ 8
-  pub rest : (k : ℕ) → o .lines .count ≤ k → getD (o .lines .each) k noLine .amount ≡ 0
+  pub count : (1 ≤ length (o .lines)) × (length (o .lines) ≤ 8)
 
-code-zero : (ls : List Line) (total : ℕ) → lineCode ls total ≡ 0 → (numberedFrom 1 ls ≡ true) × (sumOf ls ≡ total)
+pub code-zero : (ls : List Line) (total : ℕ) → lineCode ls total ≡ 0 → (numberedFrom 1 ls ≡ true) × (sumOf ls ≡ total)
 unfolding lineCode
 code-zero ls total e = go (numberedFrom 1 ls) (eqb (sumOf ls) total) refl refl e
   where
@@ -147,43 +152,45 @@ code-zero ls total e = go (numberedFrom 1 ls) (eqb (sumOf ls) total) refl refl e
     go false b p q e = absurd (omega arith)
 
 -- the record that an order leaves with all its lines waiting
-abbrev fresh : Order → ℕ → ℕ → ℕ → ℕ → Record
+abbrev fresh : Ordinativo → ℕ → ℕ → ℕ → ℕ → Record
 fresh o kind state esercizio number = record {
   kind = kind;
   state = state;
-  lines = o .lines .count;
+  lines = length (o .lines);
   esercizio = esercizio;
   number = number;
   date = o .date;
   total = o .total;
-  states = waiting (o .lines .count);
-  amounts = amountsOf (o .lines .each);
+  states = eight (replicate (length (o .lines)) 1);
+  amounts = eight (amountsOf (o .lines));
 }
 
-module _ (o : Order) (w : Writable o) (z : lineCode (linesOf (o .lines)) (o .total) ≡ 0) where
-  fresh-sum : sum (amountsOf (o .lines .each)) ≡ o .total
-  fresh-sum = sum-front (o .lines .each) (o .lines .count) (w .rest) ∙ code-zero (linesOf (o .lines)) (o .total) z .1
+module _ (o : Ordinativo) (w : Writable o) (z : lineCode (o .lines) (o .total) ≡ 0) where
+  fresh-sum : sum (eight (amountsOf (o .lines))) ≡ o .total
+  fresh-sum = sum-first 8 8 (amountsOf (o .lines)) (omega (arith, length-amounts (o .lines), w .count)) ∙ sum-amounts (o .lines) ∙ code-zero (o .lines) (o .total) z .1
 
   module _ (kind state esercizio number : ℕ) where
     fresh-line : (k : ℕ) → k < 8 → lineOk (fresh o kind state esercizio number) k ≡ true
     fresh-line k h =
-        split k (o .lines .count)
-        (λ l. line-waits (fresh o kind state esercizio number) k l (waiting-at (o .lines .count) k h ∙ rw (lt-ltb k (o .lines .count) l))
-        (omega (arith, one-of-sum (amountsOf (o .lines .each)) k, fresh-sum, w .total)))
-        (λ l. line-none (fresh o kind state esercizio number) k l (waiting-at (o .lines .count) k h ∙ rw (le-ltb k (o .lines .count) l))
-        (amount-at (o .lines .each) k ∙ w .rest k l))
+        let n = length (o .lines) in
+        split k n
+        (λ l. line-waits (fresh o kind state esercizio number) k l (eight-at (replicate n 1) k h ∙ getD-replicate n k 1 0 l)
+        (omega (arith, one-of-sum (eight (amountsOf (o .lines))) k, fresh-sum, w .total)))
+        (λ l. line-none (fresh o kind state esercizio number) k l
+        (eight-at (replicate n 1) k h ∙ List·getD-eq-default (replicate n 1) 0 (omega (arith, length-replicate {A = ℕ} n 1)))
+        (eight-at (amountsOf (o .lines)) k h ∙ List·getD-eq-default (amountsOf (o .lines)) 0 (omega (arith, length-amounts (o .lines)))))
 
     module _ (a : (1 ≤ kind) × (kind ≤ 2)) (b : (1 ≤ state) × (state ≤ 2)) (c : (2000 ≤ esercizio) × (esercizio ≤ 2099)) (d : (1 ≤ number) × (number ≤ 9999999)) where
       fresh-ranges : rangesOk (fresh o kind state esercizio number) ≡ true
       unfolding rangesOk
       fresh-ranges =
-          rw (within 1 2 kind a, within 1 2 state b, within 1 8 (o .lines .count) (w .count), within 2000 2099 esercizio c, within 1 9999999 number d, w .date, le-leb (o .total) maxCents (w .total))
+          rw (within 1 2 kind a, within 1 2 state b, within 1 8 (length (o .lines)) (w .count), within 2000 2099 esercizio c, within 1 9999999 number d, w .date, le-leb (o .total) maxCents (w .total))
 
       fresh-valid : Valid (fresh o kind state esercizio number)
       fresh-valid = record {
         ok = ok-from (fresh o kind state esercizio number) fresh-ranges fresh-line fresh-sum;
-        states = refl;
-        amounts = length-amounts (o .lines .each) ∙ w .eight;
+        states = length-eight (replicate (length (o .lines)) 1);
+        amounts = length-eight (amountsOf (o .lines));
       }
 
 -- an order whose lines all wait stays valid as it is annulled
@@ -215,7 +222,7 @@ module _ (r : Record) (v : Valid r) where
           (λ l. line-absent (annulled r) k l ∙ sym (line-absent r k l) ∙ ok-line r (v .ok) k h)
 
 -- THE RECORD THAT AN ACCEPTED ORDER LEAVES, in a slot that holds r; a used slot holds its record
-module _ (slots year : ℕ) (o : Order) (rs : List Record) (i : ℕ) (r : Record) (e : judgeOrder slots year o rs ≡ Accepted i) (held : i < length rs → r ≡ nth rs i) where
+module _ (slots year : ℕ) (o : Ordinativo) (rs : List Record) (c : Change) (i : ℕ) (r : Record) (e : judgeOrder slots year o rs ≡ Accepted c i) (held : i < length rs → r ≡ nth rs i) where
   -- a used slot's record is the one with the order's key
   module _ (f : findIn rs 0 (keyFor year o) ≡ At i) where
     held-here : r ≡ nth rs i
@@ -225,23 +232,23 @@ module _ (slots year : ℕ) (o : Order) (rs : List Record) (i : ℕ) (r : Record
     held-key = ap keyOf held-here ∙ found-key rs (keyFor year o) i noRecord f
 
   -- INSERIMENTO gives the order's key, VARIAZIONE and ANNULLO keep it
-  pub written-key : keyOf (written year o r (o .operation)) ≡ keyFor year o
+  pub written-key : keyOf (written year o r c) ≡ keyFor year o
   unfolding written
-  written-key = go (accepted slots year o rs i e)
+  written-key = go (accepted slots year o rs c i e)
     where
-      go : Stands slots year o rs i → keyOf (written year o r (o .operation)) ≡ keyFor year o
+      go : Stands slots year o rs c i → keyOf (written year o r c) ≡ keyFor year o
       go (inserting p f q l) = rw p
       go (varying p f w) = rw p (held-key f)
       go (annulling p f w s) = rw p (held-key f)
 
-  pub written-valid : Writable o → (2000 ≤ year) × (year ≤ 2099) → (i < length rs → Valid r) → Valid (written year o r (o .operation))
+  pub written-valid : Writable o → (2000 ≤ year) × (year ≤ 2099) → (i < length rs → Valid r) → Valid (written year o r c)
   unfolding written
-  written-valid w y v = go (accepted slots year o rs i e)
+  written-valid w y v = go (accepted slots year o rs c i e)
     where
-      z : lineCode (linesOf (o .lines)) (o .total) ≡ 0
-      z = accepted-lines slots year o rs i e
+      z : lineCode (o .lines) (o .total) ≡ 0
+      z = accepted-lines slots year o rs c i e
 
-      go : Stands slots year o rs i → Valid (written year o r (o .operation))
+      go : Stands slots year o rs c i → Valid (written year o r c)
       go (inserting p f q l) = rw p (fresh-valid o w z (o .kind) 1 year (o .number) (w .kind) (omega arith, omega arith) y (w .number))
       go (varying p f a) =
           let u = v (found-below rs (keyFor year o) i noRecord f) in
@@ -251,19 +258,7 @@ module _ (slots year : ℕ) (o : Order) (rs : List Record) (i : ℕ) (r : Record
           let u = v (found-below rs (keyFor year o) i noRecord f) in
           rw p (annulled-valid r u (ap (λ (x : Record). anyExecuted (x .states)) (held-here f) ∙ a .waits))
 
--- A MOVED LINE: the record with the state s at line k, counted from 0
-abbrev pub withState : Record → ℕ → ℕ → Record
-withState r k s = record {
-  kind = r .kind;
-  state = r .state;
-  lines = r .lines;
-  esercizio = r .esercizio;
-  number = r .number;
-  date = r .date;
-  total = r .total;
-  states = set (r .states) k s;
-  amounts = r .amounts;
-}
+-- A MOVED LINE
 
 -- a line whose state stays is as valid as it was
 same-line : (r : Record) (k s j : ℕ) → getD (set (r .states) k s) j 0 ≡ getD (r .states) j 0 → lineOk (withState r k s) j ≡ lineOk r j

@@ -1,46 +1,88 @@
 -- Laws of the rules, one way out of the code at a time: what the proofs of this crate cite.
 use Prim.Native.Nat.{ℕ, zero, suc, _+_, _-_, _≤_, _<_}
-use mathlib.Core.Bool.{Bool, true, false, and-false}
-use mathlib.Core.List.{List, [], _∷_, map}
+use mathlib.Core.Bool.{Bool, true, false, cond, and-false}
+use mathlib.Core.List.{List, [], _∷_, _++_}
 use mathlib.Core.Path.{_≡_, refl, sym, ap, _∙_}
 use native.Mathlib.Omega.{arith}
 use native.Mathlib.Numerals.{add-one}
-use lib.ListN.{length, drop, getD, drop-of-length-le, length-map}
-use lib.Seq.{drop-cons}
-use borrow.Author.Tests.{eq-eqb, ne-eqb, le-leb, lt-leb}
+use lib.ListN.{length, take, drop, getD, replicate, drop-of-length-le, length-append, length-take, length-replicate, getD-replicate, List·getD-eq-default}
+use lib.Seq.{drop-cons, getD-take, length-take-le}
+use lib.Dec.{ltb}
+use borrow.Author.Tests.{eq-eqb, ne-eqb, le-leb, lt-leb, ltb-true, ltb-false}
 use Rattle.lines.proofs.Laws.{noLine}
 use Rattle.order.specs.declared.Line.{Line}
-use Rattle.order.specs.declared.Order.{Order}
+use Rattle.order.specs.Ordinativo.{Ordinativo}
 use Rattle.record.specs.declared.Record.{Record}
-use Rattle.codes.specs.declared.Operation.{Operation}
-use Rattle.codes.specs.declared.Operation.the-variants.{Inserimento, Variazione, Annullo, Sostituzione}
 use Rattle.rules.specs.declared.Situation.{Situation}
 use Rattle.rules.specs.declared.Situation.the-variants.{Absent, Annulled, Waiting, Executed}
+use Rattle.rules.specs.declared.Change.{Change}
+use Rattle.rules.specs.declared.Change.the-variants.{Insert, Vary, Annul}
 use Rattle.rules.specs.declared.Noticed.the-variants.{Moved, Unmoved}
-use Rattle.rules.specs.Rules.{amountsOf, anyExecuted, situationIn, columnOf, rowOf, stepOf, sameList, sameOrder, lineMoves, moveOr, noticeIn}
+use Rattle.rules.specs.Rules.{anyExecuted, situationIn, row, stepCode, eight, amountsOf, sameList, sameOrder, lineMoves, moveOr, noticeIn}
+use Rattle.rules.specs.Inner.{rowOf, columnOf}
 
--- A LIST OF EIGHT
-
--- what is known of an array of structs in a struct is known of it field by field
-pub unmapped : {A B : Type 0} (f : A → B) (l : List A) (n : ℕ) → length (map f l) ≡ n → length l ≡ n
-unmapped f l n e = sym (length-map l f) ∙ e
+-- EIGHT PLACES
 
 -- front by front
 front : {A : Type 0} (e : List A) (i : ℕ) (d : A) {x : List A} → i < length e → drop (suc i) e ≡ x → drop i e ≡ getD e i d ∷ x
 front e i d h q = drop-cons e i d h ∙ ap (λ x. getD e i d ∷ x) q
 
-pub eight : {A : Type 0} (e : List A) (d : A) → length e ≡ 8
+spread : {A : Type 0} (e : List A) (d : A) → length e ≡ 8
     → e ≡ getD e 0 d ∷ getD e 1 d ∷ getD e 2 d ∷ getD e 3 d ∷ getD e 4 d ∷ getD e 5 d ∷ getD e 6 d ∷ getD e 7 d ∷ []
-eight e d h =
+spread e d h =
     front e 0 d (omega arith) (front e 1 d (omega arith) (front e 2 d (omega arith) (front e 3 d (omega arith)
     (front e 4 d (omega arith) (front e 5 d (omega arith) (front e 6 d (omega arith) (front e 7 d (omega arith)
     (drop-of-length-le e {i = 8} (omega arith)))))))))
 
-pub amounts-eight : (e : List Line) → length e ≡ 8
-    → (getD e 0 noLine .amount ∷ getD e 1 noLine .amount ∷ getD e 2 noLine .amount ∷ getD e 3 noLine .amount
-    ∷ getD e 4 noLine .amount ∷ getD e 5 noLine .amount ∷ getD e 6 noLine .amount ∷ getD e 7 noLine .amount ∷ []) ≡ amountsOf e
+padded : (ns : List ℕ) (m k : ℕ) → getD (ns ++ replicate m 0) k 0 ≡ getD ns k 0
+padded [] zero k = refl
+padded [] (suc m) zero = refl
+padded [] (suc m) (suc k) = padded [] m k
+padded (n ∷ ns) m zero = refl
+padded (n ∷ ns) m (suc k) = padded ns m k
+
+module _ (ns : List ℕ) where
+  pub eight-at : (k : ℕ) → k < 8 → getD (eight ns) k 0 ≡ getD ns k 0
+  eight-at k h = getD-take 8 (ns ++ replicate 8 0) k 0 h ∙ padded ns 8 k
+
+  pub length-eight : length (eight ns) ≡ 8
+  length-eight = length-take-le 8 (ns ++ replicate 8 0) (omega (arith, length-append ns (replicate 8 0), length-replicate {A = ℕ} 8 0))
+
+  -- the eight, one by one
+  pub eight-of : {a b c d e f g h : ℕ} → a ≡ getD ns 0 0 → b ≡ getD ns 1 0 → c ≡ getD ns 2 0 → d ≡ getD ns 3 0
+      → e ≡ getD ns 4 0 → f ≡ getD ns 5 0 → g ≡ getD ns 6 0 → h ≡ getD ns 7 0
+      → (a ∷ b ∷ c ∷ d ∷ e ∷ f ∷ g ∷ h ∷ []) ≡ eight ns
+  eight-of a b c d e f g h =
+      (λ i.
+      is 0 (omega arith) a i ∷ is 1 (omega arith) b i ∷ is 2 (omega arith) c i ∷ is 3 (omega arith) d i
+      ∷ is 4 (omega arith) e i ∷ is 5 (omega arith) f i ∷ is 6 (omega arith) g i ∷ is 7 (omega arith) h i ∷ [])
+      ∙ sym (spread (eight ns) 0 length-eight)
+    where
+      is : (k : ℕ) {x : ℕ} → k < 8 → x ≡ getD ns k 0 → x ≡ getD (eight ns) k 0
+      is k l p = p ∙ sym (eight-at k l)
+
+-- a test whether there is a line k, by what holds where there is one and where there is none
+module _ (n k : ℕ) {v x : ℕ} (there : k < n → x ≡ v) (past : n ≤ k → x ≡ 0) where
+  tested : cond (ltb k n) v 0 ≡ x
+  tested = go (ltb k n) refl
+    where
+      go : (b : Bool) → ltb k n ≡ b → cond b v 0 ≡ x
+      go true e = sym (there (ltb-true k n e))
+      go false e = sym (past (ltb-false k n e))
+
+pub amount-at : (e : List Line) (k : ℕ) → getD (amountsOf e) k 0 ≡ getD e k noLine .amount
 unfolding amountsOf
-amounts-eight e h = sym (ap amountsOf (eight e noLine h))
+amount-at [] k = refl
+amount-at (l ∷ e) zero = refl
+amount-at (l ∷ e) (suc k) = amount-at e k
+
+pub amount-there : (n : ℕ) (e : List Line) (k : ℕ) → cond (ltb k n) (getD e k noLine .amount) 0 ≡ getD (amountsOf (take n e)) k 0
+amount-there n e k =
+    tested n k (λ h. amount-at (take n e) k ∙ ap (λ (l : Line). l .amount) (getD-take n e k noLine h))
+    (λ h. amount-at (take n e) k ∙ ap (λ (l : Line). l .amount) (List·getD-eq-default (take n e) noLine (omega (arith, length-take n e))))
+
+pub waiting-there : (n k : ℕ) → _≡_ {A = ℕ} (cond (ltb k n) 1 0) (getD (replicate n 1) k 0)
+waiting-there n k = tested n k (getD-replicate n k 1 0) (λ h. List·getD-eq-default (replicate n 1) 0 (omega (arith, length-replicate {A = ℕ} n 1)))
 
 -- A LIST, FROM i ON
 
@@ -77,7 +119,7 @@ same-lengths [] (y ∷ b) e = refl
 same-lengths (x ∷ a) [] e = refl
 same-lengths (x ∷ a) (y ∷ b) e = rw (same-lengths a b (λ q. e (ap suc q)), and-false)
 
--- AN ORDER AND A RECORD
+-- A SITUATION
 
 module _ (r : Record) where
   pub in-annulled : r .state ≡ 2 → situationIn r ≡ Annulled
@@ -93,32 +135,50 @@ module _ (r : Record) where
     unfolding situationIn
     in-waiting e = rw (ne-eqb _ _ s, e)
 
+-- THE STEP TABLE, as the code's array has it
+abbrev steps : List (List ℕ)
+steps =
+    (0 ∷ 14 ∷ 14 ∷ 14 ∷ [])
+    ∷ (16 ∷ 17 ∷ 0 ∷ 18 ∷ [])
+    ∷ (16 ∷ 17 ∷ 0 ∷ 18 ∷ [])
+    ∷ []
+
+by-row : (a b c d : ℕ) (s : Situation) → getD (a ∷ b ∷ c ∷ d ∷ []) (columnOf s) 0 ≡ row a b c d s
+by-row a b c d Absent = refl
+by-row a b c d Annulled = refl
+by-row a b c d Waiting = refl
+by-row a b c d Executed = refl
+
+pub step-at : (c : Change) (s : Situation) {i j : ℕ} → i ≡ rowOf c → j ≡ columnOf s → getD (getD steps i []) j 0 ≡ stepCode c s
+step-at Insert s p q = rw (p, q) (by-row 0 14 14 14 s)
+step-at Vary s p q = rw (p, q) (by-row 16 17 0 18 s)
+step-at Annul s p q = rw (p, q) (by-row 16 17 0 18 s)
+
 pub column-below : (s : Situation) → columnOf s < 4
 column-below Absent = omega arith
 column-below Annulled = omega arith
 column-below Waiting = omega arith
 column-below Executed = omega arith
 
-module _ (o : Order) (r : Record) where
+pub row-below : (c : Change) → rowOf c < 3
+row-below Insert = omega arith
+row-below Vary = omega arith
+row-below Annul = omega arith
+
+-- AN ORDER AND A RECORD
+module _ (o : Ordinativo) (r : Record) where
   pub other-total : (o .total ≡ r .total → ⊥) → sameOrder o r ≡ false
   unfolding sameOrder
   other-total e = rw (ne-eqb _ _ e)
 
-  module _ (t : o .total ≡ r .total) where
-    pub other-count : (o .lines .count ≡ r .lines → ⊥) → sameOrder o r ≡ false
+  module _ (t : o .total ≡ r .total) {n : ℕ} (c : n ≡ length (o .lines)) where
+    pub other-count : (n ≡ r .lines → ⊥) → sameOrder o r ≡ false
     unfolding sameOrder
-    other-count e = rw (eq-eqb _ _ t, ne-eqb _ _ e)
+    other-count e = rw (eq-eqb _ _ t, ne-eqb (length (o .lines)) (r .lines) (λ q. e (c ∙ q)))
 
-    pub same-amounts : o .lines .count ≡ r .lines → sameOrder o r ≡ sameList (amountsOf (o .lines .each)) (r .amounts)
+    pub same-amounts : {a : List ℕ} → a ≡ eight (amountsOf (o .lines)) → n ≡ r .lines → sameList a (r .amounts) ≡ sameOrder o r
     unfolding sameOrder
-    same-amounts e = rw (eq-eqb _ _ t, eq-eqb _ _ e)
-
--- SOSTITUZIONE has no row
-pub no-row : (o : Operation) (s : Situation) → 3 ≤ rowOf o → stepOf o s ≡ 0
-no-row Inserimento s h = absurd (omega arith)
-no-row Variazione s h = absurd (omega arith)
-no-row Annullo s h = absurd (omega arith)
-no-row Sostituzione s h = refl
+    same-amounts p e = rw (eq-eqb _ _ t, eq-eqb (length (o .lines)) (r .lines) (sym c ∙ e), p)
 
 -- A NOTICE
 

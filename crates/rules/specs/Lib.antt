@@ -1,1 +1,4 @@
 pub mod Rules
+pub mod Effects
+pub mod Listed
+pub mod Inner

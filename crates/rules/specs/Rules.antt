@@ -1,41 +1,36 @@
 -- The rules (document 01, "Answers"): what an order or a notice comes to, over one body's records.
 use Prim.Native.Nat.{ℕ, zero, suc, _-_}
-use mathlib.Core.Bool.{Bool, true, false, _&&_, _||_, not, cond}
+use mathlib.Core.Bool.{Bool, true, false, _&&_, _||_, cond}
 use mathlib.Core.List.{List, [], _∷_, _++_}
-use lib.ListN.{length, getD, replicate}
+use lib.ListN.{length, getD, take, replicate}
 use lib.Dec.{eqb, leb, ltb}
 use Rattle.ranges.specs.declared.Found.{Found}
 use Rattle.ranges.specs.declared.Found.the-variants.{At, Nothing}
-use Rattle.calendar.specs.declared.Date.{Date}
 use Rattle.codes.specs.declared.Operation.{Operation}
 use Rattle.codes.specs.declared.Operation.the-variants.{Inserimento, Variazione, Annullo, Sostituzione}
 use Rattle.order.specs.declared.Line.{Line}
-use Rattle.order.specs.declared.Order.{Order}
+use Rattle.order.specs.Ordinativo.{Ordinativo}
 use Rattle.record.specs.declared.Record.{Record}
 use Rattle.record.specs.declared.Key.{Key}
 use Rattle.slots.specs.Slots.{findIn}
-use Rattle.lines.specs.Lines.{linesOf, lineCode}
+use Rattle.lines.specs.Lines.{lineCode}
 use Rattle.rules.specs.declared.Situation.{Situation}
 use Rattle.rules.specs.declared.Situation.the-variants.{Absent, Annulled, Waiting, Executed}
-use Rattle.rules.specs.declared.Judged.{Judged}
-use Rattle.rules.specs.declared.Judged.the-variants.{Accepted, Refused}
+use Rattle.rules.specs.declared.Change.{Change}
+use Rattle.rules.specs.declared.Change.the-variants.{Insert, Vary, Annul}
+use Rattle.rules.specs.declared.Asks.{Asks}
+use Rattle.rules.specs.declared.Asks.the-variants.{For, Unserved}
+use Rattle.rules.specs.declared.Ruling.{Ruling}
+use Rattle.rules.specs.declared.Ruling.the-variants.{Accepted, Refused}
 use Rattle.rules.specs.declared.Noticed.{Noticed}
 use Rattle.rules.specs.declared.Noticed.the-variants.{Moved, Unmoved}
 
--- THE LINES of an order
-
--- eight amounts
-unfoldable pub amountsOf : List Line → List ℕ
-amountsOf [] = []
-amountsOf (l ∷ ls) = l .amount ∷ amountsOf ls
-
--- eight line states: n waiting, no line after them
-abbrev pub waitingFor : ℕ → ℕ → ℕ
-waitingFor n k = cond (ltb k n) 1 0
-
-abbrev pub waiting : ℕ → List ℕ
-waiting n =
-    waitingFor n 0 ∷ waitingFor n 1 ∷ waitingFor n 2 ∷ waitingFor n 3 ∷ waitingFor n 4 ∷ waitingFor n 5 ∷ waitingFor n 6 ∷ waitingFor n 7 ∷ []
+-- THE OPERATIONS: which change an order asks for. "11 SOSTITUZIONE"
+abbrev pub asksOf : Operation → Asks
+asksOf Inserimento = For Insert
+asksOf Variazione = For Vary
+asksOf Annullo = For Annul
+asksOf Sostituzione = Unserved 11
 
 -- THE STEP TABLE
 
@@ -43,38 +38,27 @@ unfoldable pub anyExecuted : List ℕ → Bool
 anyExecuted [] = false
 anyExecuted (s ∷ states) = eqb s 2 || anyExecuted states
 
--- the columns: absent; annulled; acquired, all lines waiting; acquired, a line executed
+-- the situation of an order that is there
 unfoldable pub situationIn : Record → Situation
 situationIn r = cond (eqb (r .state) 2) Annulled (cond (anyExecuted (r .states)) Executed Waiting)
 
-abbrev pub columnOf : Situation → ℕ
-columnOf Absent = 0
-columnOf Annulled = 1
-columnOf Waiting = 2
-columnOf Executed = 3
-
--- the rows: INSERIMENTO, VARIAZIONE, ANNULLO
-abbrev pub rowOf : Operation → ℕ
-rowOf Inserimento = 0
-rowOf Variazione = 1
-rowOf Annullo = 2
-rowOf Sostituzione = 3
+-- a row: "absent; annulled; acquired, all lines waiting; acquired, a line executed"
+abbrev pub row : ℕ → ℕ → ℕ → ℕ → Situation → ℕ
+row absent annulled waiting executed Absent = absent
+row absent annulled waiting executed Annulled = annulled
+row absent annulled waiting executed Waiting = waiting
+row absent annulled waiting executed Executed = executed
 
 -- "The step table is held as three rows of four codes"
-abbrev pub steps : List (List ℕ)
-steps =
-    (0 ∷ 14 ∷ 14 ∷ 14 ∷ [])
-    ∷ (16 ∷ 17 ∷ 0 ∷ 18 ∷ [])
-    ∷ (16 ∷ 17 ∷ 0 ∷ 18 ∷ [])
-    ∷ []
-
-abbrev pub stepOf : Operation → Situation → ℕ
-stepOf o c = getD (getD steps (rowOf o) []) (columnOf c) 0
+abbrev pub stepCode : Change → Situation → ℕ
+stepCode Insert s = row 0 14 14 14 s
+stepCode Vary s = row 16 17 0 18 s
+stepCode Annul s = row 16 17 0 18 s
 
 -- WHAT AN ORDER COMES TO
 
 -- "by the body's record of the order's kind and number and the flow's esercizio"
-abbrev pub keyFor : ℕ → Order → Key
+abbrev pub keyFor : ℕ → Ordinativo → Key
 keyFor year o = record { kind = o .kind; esercizio = year; number = o .number }
 
 -- the record at an index of a body's records
@@ -98,6 +82,14 @@ unfoldable pub situationOf : List Record → Found → Situation
 situationOf rs Nothing = Absent
 situationOf rs (At i) = situationIn (nth rs i)
 
+-- EIGHT PLACES of a record, nothing after what there is: "eight line states (0 no line ..)", "eight amounts"
+abbrev pub eight : List ℕ → List ℕ
+eight ns = take 8 (ns ++ replicate 8 0)
+
+unfoldable pub amountsOf : List Line → List ℕ
+amountsOf [] = []
+amountsOf (l ∷ ls) = l .amount ∷ amountsOf ls
+
 unfoldable pub sameList : List ℕ → List ℕ → Bool
 sameList [] [] = true
 sameList [] (b ∷ y) = false
@@ -105,73 +97,75 @@ sameList (a ∷ x) [] = false
 sameList (a ∷ x) (b ∷ y) = eqb a b && sameList x y
 
 -- "19 (ANNULLO: total, number of lines or a line amount differs from the record)"
-unfoldable pub sameOrder : Order → Record → Bool
-sameOrder o r = eqb (o .total) (r .total) && (eqb (o .lines .count) (r .lines) && sameList (amountsOf (o .lines .each)) (r .amounts))
+unfoldable pub sameOrder : Ordinativo → Record → Bool
+sameOrder o r = eqb (o .total) (r .total) && (eqb (length (o .lines)) (r .lines) && sameList (eight (amountsOf (o .lines))) (r .amounts))
 
--- after a step of 0: where the order's record is to stand. "15 (INSERIMENTO: the body has no empty slot)"
-unfoldable pub placed : ℕ → Order → List Record → Operation → Found → Judged
-placed slots o rs Inserimento f = cond (ltb (length rs) slots) (Accepted (length rs)) (Refused 15)
-placed slots o rs Variazione (At i) = Accepted i
-placed slots o rs Variazione Nothing = Refused 16
-placed slots o rs Annullo (At i) = cond (sameOrder o (nth rs i)) (Accepted i) (Refused 19)
-placed slots o rs Annullo Nothing = Refused 16
-placed slots o rs Sostituzione f = Refused 11
+-- after a step of 0: the slot that the order's record takes. "15 (INSERIMENTO: the body has no empty slot)"
+abbrev pub firstEmpty : ℕ → List Record → Ruling
+firstEmpty slots rs = cond (ltb (length rs) slots) (Accepted Insert (length rs)) (Refused 15)
+
+abbrev pub ifSame : Ordinativo → List Record → ℕ → Ruling
+ifSame o rs i = cond (sameOrder o (nth rs i)) (Accepted Annul i) (Refused 19)
+
+unfoldable pub placed : ℕ → Ordinativo → List Record → Change → Found → Ruling
+placed slots o rs Insert f = firstEmpty slots rs
+placed slots o rs Vary (At i) = Accepted Vary i
+placed slots o rs Vary Nothing = Refused 16
+placed slots o rs Annul (At i) = ifSame o rs i
+placed slots o rs Annul Nothing = Refused 16
 
 -- a code, or what comes after where it is 0
-abbrev pub unless : ℕ → Judged → Judged
+abbrev pub unless : ℕ → Ruling → Ruling
 unless zero next = next
 unless (suc c) next = Refused (suc c)
 
-unfoldable pub stepped : ℕ → Order → List Record → Found → Judged
-stepped slots o rs f = unless (stepOf (o .operation) (situationOf rs f)) (placed slots o rs (o .operation) f)
+unfoldable pub stepped : ℕ → Ordinativo → List Record → Change → Found → Ruling
+stepped slots o rs c f = unless (stepCode c (situationOf rs f)) (placed slots o rs c f)
 
--- "11 SOSTITUZIONE"
-abbrev pub sostituzione : Operation → ℕ
-sostituzione Inserimento = 0
-sostituzione Variazione = 0
-sostituzione Annullo = 0
-sostituzione Sostituzione = 11
+-- "12 ..; 13 ..; then the step table ..; then 19 .. or 15 ..; else 0"
+abbrev pub judgeChange : ℕ → ℕ → Ordinativo → List Record → Change → Ruling
+judgeChange slots year o rs c = unless (lineCode (o .lines) (o .total)) (stepped slots o rs c (findIn rs 0 (keyFor year o)))
 
--- "Per order: 11 SOSTITUZIONE; 12 ..; 13 ..; then the step table ..; then 19 .. or 15 ..; else 0"
-unfoldable pub judgeOrder : ℕ → ℕ → Order → List Record → Judged
-judgeOrder slots year o rs =
-    unless (sostituzione (o .operation))
-    (unless (lineCode (linesOf (o .lines)) (o .total))
-    (stepped slots o rs (findIn rs 0 (keyFor year o))))
+abbrev pub judgeAsked : ℕ → ℕ → Ordinativo → List Record → Asks → Ruling
+judgeAsked slots year o rs (For c) = judgeChange slots year o rs c
+judgeAsked slots year o rs (Unserved code) = Refused code
+
+unfoldable pub judgeOrder : ℕ → ℕ → Ordinativo → List Record → Ruling
+judgeOrder slots year o rs = judgeAsked slots year o rs (asksOf (o .operation))
 
 -- document 01's code
-abbrev pub codeOf : Judged → ℕ
-codeOf (Accepted i) = 0
-codeOf (Refused c) = c
+abbrev pub orderCode : Ruling → ℕ
+orderCode (Accepted c i) = 0
+orderCode (Refused code) = code
 
 -- WHAT IS WRITTEN
 
 -- "INSERIMENTO fills the body's first empty slot with all lines waiting"
-abbrev pub inserted : ℕ → Order → Record
+abbrev pub inserted : ℕ → Ordinativo → Record
 inserted year o = record {
   kind = o .kind;
   state = 1;
-  lines = o .lines .count;
+  lines = length (o .lines);
   esercizio = year;
   number = o .number;
   date = o .date;
   total = o .total;
-  states = waiting (o .lines .count);
-  amounts = amountsOf (o .lines .each);
+  states = eight (replicate (length (o .lines)) 1);
+  amounts = eight (amountsOf (o .lines));
 }
 
 -- "VARIAZIONE replaces date, total and lines"
-abbrev pub varied : Order → Record → Record
+abbrev pub varied : Ordinativo → Record → Record
 varied o r = record {
   kind = r .kind;
   state = r .state;
-  lines = o .lines .count;
+  lines = length (o .lines);
   esercizio = r .esercizio;
   number = r .number;
   date = o .date;
   total = o .total;
-  states = waiting (o .lines .count);
-  amounts = amountsOf (o .lines .each);
+  states = eight (replicate (length (o .lines)) 1);
+  amounts = eight (amountsOf (o .lines));
 }
 
 -- "ANNULLO sets the state only"
@@ -188,11 +182,11 @@ annulled r = record {
   amounts = r .amounts;
 }
 
-unfoldable pub written : ℕ → Order → Record → Operation → Record
-written year o r Inserimento = inserted year o
-written year o r Variazione = varied o r
-written year o r Annullo = annulled r
-written year o r Sostituzione = r
+-- the record that an accepted change leaves in its slot, which held r
+unfoldable pub written : ℕ → Ordinativo → Record → Change → Record
+written year o r Insert = inserted year o
+written year o r Vary = varied o r
+written year o r Annul = annulled r
 
 -- A NOTICE: "Execution sets the line executed; reversal sets it waiting again"
 
@@ -225,11 +219,7 @@ noticeAt executing line rs (At i) = noticeIn executing line i (nth rs i)
 unfoldable pub judgeNotice : Bool → Key → ℕ → List Record → Noticed
 judgeNotice executing k line rs = noticeAt executing line rs (findIn rs 0 k)
 
--- document 01's code and cents: "cents (the line's amount), cents 0 on refusal"
+-- document 01's code
 abbrev pub noticeCode : Noticed → ℕ
 noticeCode (Moved i cents) = 0
 noticeCode (Unmoved c) = c
-
-abbrev pub noticeCents : Noticed → ℕ
-noticeCents (Moved i cents) = cents
-noticeCents (Unmoved c) = 0

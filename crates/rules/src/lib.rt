@@ -4,10 +4,13 @@ use order::Lines;
 use order::Order;
 use record::Record;
 ghost use mathlib.Core.Path.{_≡_};
-ghost use mathlib.Core.Bool.{_&&_};
+ghost use mathlib.Core.Bool.{_&&_, cond};
 ghost use Prim.Native.Nat.{ℕ, _+_, _-_, _≤_, _<_};
-ghost use lib.ListN.{length, getD};
-ghost use Rattle.rules.specs.Rules.{amountsOf, waitingFor, waiting, anyExecuted, situationIn, columnOf, rowOf, stepOf, sameList, sameOrder, inserted, varied, annulled, written, lineMoves, noticeIn};
+ghost use lib.ListN.{length, getD, replicate};
+ghost use lib.Dec.{ltb};
+ghost use Rattle.order.specs.Ordinativo.{linesThere, ordinativo};
+ghost use Rattle.rules.specs.Rules.{asksOf, anyExecuted, situationIn, stepCode, eight, amountsOf, sameList, sameOrder, inserted, varied, annulled, written, lineMoves, noticeIn};
+ghost use Rattle.rules.specs.Inner.{rowOf, columnOf};
 
 // Where the step table's columns stand.
 pub enum Situation {
@@ -17,9 +20,22 @@ pub enum Situation {
     Executed,
 }
 
-// What an order comes to: the slot that its record takes, or a code.
-pub enum Judged {
-    Accepted(usize),
+// What an order may change: the step table's rows.
+pub enum Change {
+    Insert,
+    Vary,
+    Annul,
+}
+
+// What an operation asks for: a change, or the code of one that is not served.
+pub enum Asks {
+    For(Change),
+    Unserved(u8),
+}
+
+// What an order comes to: the change, and the slot that its record takes, or a code.
+pub enum Ruling {
+    Accepted(Change, usize),
     Refused(u8),
 }
 
@@ -32,30 +48,51 @@ pub enum Noticed {
 // Document 01's step table, by operation and situation.
 const STEPS: [[u8; 4]; 3] = [[0, 14, 14, 14], [16, 17, 0, 18], [16, 17, 0, 18]];
 
-pub fn amounts_of(ls: Lines) -> [u64; 8]
-    ensures { λ r. ⌜ r ≡ amountsOf (ls .each) ⌝ }
+pub fn asks_of(o: Operation) -> Asks
+    ensures { λ r. ⌜ r ≡ asksOf o ⌝ }
+{
+    match o {
+        Operation::Inserimento => Asks::For(Change::Insert),
+        Operation::Variazione => Asks::For(Change::Vary),
+        Operation::Annullo => Asks::For(Change::Annul),
+        Operation::Sostituzione => Asks::Unserved(11),
+    }
+}
+
+// The amount at place k of n lines: nothing past them.
+fn amount_for(n: usize, k: usize, amount: u64) -> u64
+    ensures { λ r. ⌜ r ≡ cond (ltb k n) amount 0 ⌝ }
+{
+    if k < n { amount } else { 0 }
+}
+
+// Eight amounts. Whatever stands in a place past the lines is left out.
+fn amounts_of(ls: Lines) -> [u64; 8]
+    ensures { λ r. ⌜ r ≡ eight (amountsOf (linesThere ls)) ⌝ }
 {
     let e = ls.each;
+    let n = ls.count;
     [
-        e[0].amount,
-        e[1].amount,
-        e[2].amount,
-        e[3].amount,
-        e[4].amount,
-        e[5].amount,
-        e[6].amount,
-        e[7].amount,
+        amount_for(n, 0, e[0].amount),
+        amount_for(n, 1, e[1].amount),
+        amount_for(n, 2, e[2].amount),
+        amount_for(n, 3, e[3].amount),
+        amount_for(n, 4, e[4].amount),
+        amount_for(n, 5, e[5].amount),
+        amount_for(n, 6, e[6].amount),
+        amount_for(n, 7, e[7].amount),
     ]
 }
 
+// The state at place k of n lines: waiting, or no line.
 fn waiting_for(n: usize, k: usize) -> u8
-    ensures { λ r. ⌜ r ≡ waitingFor n k ⌝ }
+    ensures { λ r. ⌜ r ≡ cond (ltb k n) 1 0 ⌝ }
 {
     if k < n { 1 } else { 0 }
 }
 
 fn waiting_lines(n: usize) -> [u8; 8]
-    ensures { λ r. ⌜ r ≡ waiting n ⌝ }
+    ensures { λ r. ⌜ r ≡ eight (replicate n 1) ⌝ }
 {
     [
         waiting_for(n, 0),
@@ -108,24 +145,23 @@ fn column_of(s: Situation) -> usize
     }
 }
 
-fn row_of(o: Operation) -> usize
-    ensures { λ r. ⌜ r ≡ rowOf o ⌝ }
+fn row_of(c: Change) -> usize
+    ensures { λ r. ⌜ r ≡ rowOf c ⌝ }
 {
-    match o {
-        Operation::Inserimento => 0,
-        Operation::Variazione => 1,
-        Operation::Annullo => 2,
-        Operation::Sostituzione => 3,
+    match c {
+        Change::Insert => 0,
+        Change::Vary => 1,
+        Change::Annul => 2,
     }
 }
 
-// The step table's code. SOSTITUZIONE has no row: it is answered before.
-pub fn step_of(o: Operation, s: Situation) -> u8
-    ensures { λ r. ⌜ r ≡ stepOf o s ⌝ }
+// The step table's code.
+pub fn step_of(c: Change, s: Situation) -> u8
+    ensures { λ r. ⌜ r ≡ stepCode c s ⌝ }
 {
-    let row = row_of(o);
+    let row = row_of(c);
     let column = column_of(s);
-    if row < 3 { STEPS[row][column] } else { 0 }
+    STEPS[row][column]
 }
 
 fn same_list(a: &[u64], b: &[u64]) -> bool
@@ -146,13 +182,13 @@ fn same_list(a: &[u64], b: &[u64]) -> bool
 
 // Whether an ANNULLO means this record: total, number of lines and every amount agree.
 pub fn same_order(o: Order, r: Record) -> bool
-    ensures { λ b. ⌜ b ≡ sameOrder o r ⌝ }
+    ensures { λ b. ⌜ b ≡ sameOrder (ordinativo o) r ⌝ }
 {
     let ls = o.lines;
     if o.total != r.total {
         return false;
     }
-    if ls.count != r.lines as usize {
+    if order::count_of(ls) != r.lines as usize {
         return false;
     }
     let a = amounts_of(ls);
@@ -161,17 +197,17 @@ pub fn same_order(o: Order, r: Record) -> bool
 }
 
 fn inserted_by(year: u64, o: Order) -> Record
-    requires { ⌜ o .lines .count ≤ 8 ⌝ }
-    ensures { λ w. ⌜ w ≡ inserted year o ⌝ }
+    ensures { λ w. ⌜ w ≡ inserted year (ordinativo o) ⌝ }
 {
     let ls = o.lines;
     let date = o.date;
-    let states = waiting_lines(ls.count);
+    let n = order::count_of(ls);
+    let states = waiting_lines(n);
     let amounts = amounts_of(ls);
     Record {
         kind: o.kind,
         state: 1,
-        lines: ls.count as u8,
+        lines: n as u8,
         esercizio: year,
         number: o.number,
         date,
@@ -183,17 +219,17 @@ fn inserted_by(year: u64, o: Order) -> Record
 
 // Date, total and lines are replaced: nothing is left of the lines it had.
 fn varied_by(o: Order, r: Record) -> Record
-    requires { ⌜ o .lines .count ≤ 8 ⌝ }
-    ensures { λ w. ⌜ w ≡ varied o r ⌝ }
+    ensures { λ w. ⌜ w ≡ varied (ordinativo o) r ⌝ }
 {
     let ls = o.lines;
     let date = o.date;
-    let states = waiting_lines(ls.count);
+    let n = order::count_of(ls);
+    let states = waiting_lines(n);
     let amounts = amounts_of(ls);
     let mut w = r;
     w.date = date;
     w.total = o.total;
-    w.lines = ls.count as u8;
+    w.lines = n as u8;
     w.states = states;
     w.amounts = amounts;
     w
@@ -208,17 +244,14 @@ fn annulled_of(r: Record) -> Record
     w
 }
 
-// The record that an accepted order leaves in its slot, which held r.
-pub fn written_by(year: u64, o: Order, r: Record) -> Record
-    requires { ⌜ o .lines .count ≤ 8 ⌝ }
-    ensures { λ w. ⌜ w ≡ written year o r (o .operation) ⌝ }
+// The record that an accepted change leaves in its slot, which held r.
+pub fn written_by(year: u64, o: Order, r: Record, c: Change) -> Record
+    ensures { λ w. ⌜ w ≡ written year (ordinativo o) r c ⌝ }
 {
-    let operation = o.operation;
-    match operation {
-        Operation::Inserimento => inserted_by(year, o),
-        Operation::Variazione => varied_by(o, r),
-        Operation::Annullo => annulled_of(r),
-        Operation::Sostituzione => r,
+    match c {
+        Change::Insert => inserted_by(year, o),
+        Change::Vary => varied_by(o, r),
+        Change::Annul => annulled_of(r),
     }
 }
 

@@ -9,7 +9,7 @@ use lib.Seq.{set-split, take-all}
 use Rattle.words.specs.Numbers.{put}
 use Rattle.words.proofs.Laws.{Agree, length-put}
 use Rattle.ranges.specs.declared.Found.the-variants.{At}
-use Rattle.order.specs.declared.Order.{Order}
+use Rattle.order.specs.Ordinativo.{Ordinativo}
 use Rattle.record.specs.declared.Record.{Record}
 use Rattle.record.specs.Slot.{slotSize, recordAt, recordBytes, keyOf}
 use Rattle.record.proofs.Back.{agree-before, agree-after, length-record}
@@ -20,9 +20,11 @@ use Rattle.slots.proofs.Search.{found-key}
 use Rattle.slots.proofs.Index.{length-records}
 use Rattle.body.proofs.Slots.{valid-at}
 use Rattle.valid.proofs.Valid.{Valid}
-use Rattle.rules.specs.declared.Judged.{Judged}
-use Rattle.rules.specs.declared.Judged.the-variants.{Accepted, Refused}
+use Rattle.rules.specs.declared.Change.{Change}
+use Rattle.rules.specs.declared.Ruling.{Ruling}
+use Rattle.rules.specs.declared.Ruling.the-variants.{Accepted, Refused}
 use Rattle.rules.specs.Rules.{keyFor, nth, noRecord, judgeOrder, written}
+use Rattle.rules.specs.Effects.{storedAt, recordsBy, allRecords}
 use Rattle.rules.proofs.Judging.{Stands, inserting, varying, annulling, accepted}
 use Rattle.rules.proofs.Kept.{Writable, written-valid, written-key}
 use Rattle.service.specs.Service.{orderComes, orderStored, orderLeaves, allLeave}
@@ -56,31 +58,22 @@ slot-kept t base n i v l h fits e = record {
   ok = e;
 }
 
--- THE RECORDS: a record in place of the one at i, or after the last
-abbrev pub storedAt : List Record → ℕ → Record → List Record
-storedAt rs i r = take i rs ++ r ∷ drop (suc i) rs
-
-stored-end : (rs : List Record) (i : ℕ) (r : Record) → i ≡ length rs → storedAt rs i r ≡ rs ++ r ∷ []
+pub stored-end : (rs : List Record) (i : ℕ) (r : Record) → i ≡ length rs → storedAt rs i r ≡ rs ++ r ∷ []
 stored-end rs i r e =
     let a = take-all i rs (omega arith) in
     let b = drop-of-length-le rs {i = suc i} (omega arith) in
     λ k. a k ++ r ∷ b k
 
--- the records that an order leaves
-abbrev pub recordsBy : ℕ → Order → List Record → Judged → List Record
-recordsBy year o rs (Accepted i) = storedAt rs i (written year o (nth rs i) (o .operation))
-recordsBy year o rs (Refused c) = rs
-
-module _ (t : List ℕ) (base n year : ℕ) (o : Order) (fits : base + slotSize * n ≤ length t) (ok : bodyOk t base n ≡ true) (w : Writable o) (y : (2000 ≤ year) × (year ≤ 2099)) where
+module _ (t : List ℕ) (base n year : ℕ) (o : Ordinativo) (fits : base + slotSize * n ≤ length t) (ok : bodyOk t base n ≡ true) (w : Writable o) (y : (2000 ≤ year) × (year ≤ 2099)) where
   abbrev rs : List Record
   rs = recordsAt t base n
 
-  module _ (i : ℕ) (e : judgeOrder n year o rs ≡ Accepted i) (low : i < n) where
+  module _ (c : Change) (i : ℕ) (e : judgeOrder n year o rs ≡ Accepted c i) (low : i < n) where
     abbrev old : Record
     old = recordAt t (base + slotSize * i)
 
     abbrev new : Record
-    new = written year o old (o .operation)
+    new = written year o old c
 
     abbrev after : List ℕ
     after = put t (base + slotSize * i) (recordBytes new)
@@ -89,10 +82,10 @@ module _ (t : List ℕ) (base n year : ℕ) (o : Order) (fits : base + slotSize 
     holds h = sym (held t base n i h .same)
 
     valid : Valid new
-    valid = written-valid n year o rs i old e holds w y (λ h. valid-at t base n i ok (held t base n i h .used))
+    valid = written-valid n year o rs c i old e holds w y (λ h. valid-at t base n i ok (held t base n i h .used))
 
     key : keyOf new ≡ keyFor year o
-    key = written-key n year o rs i old e holds
+    key = written-key n year o rs c i old e holds
 
     -- in place of its own record
     module _ (f : findIn rs 0 (keyFor year o) ≡ At i) where
@@ -108,52 +101,47 @@ module _ (t : List ℕ) (base n year : ℕ) (o : Order) (fits : base + slotSize 
       same-old : old ≡ nth rs i
       same-old = sym (here .same)
 
-    stored-ok : Stands n year o rs i → bodyOk after base n ≡ true
+    stored-ok : Stands n year o rs c i → bodyOk after base n ≡ true
     stored-ok (inserting p f q l) = adds-ok t base n i new valid low fits (omega (arith, length-records t base n)) ok (ap (findIn rs 0) key ∙ f)
     stored-ok (varying p f a) = replaced-ok f
     stored-ok (annulling p f a s) = replaced-ok f
 
-    stored-records : Stands n year o rs i → recordsAt after base n ≡ recordsBy year o rs (Accepted i)
+    stored-records : Stands n year o rs c i → recordsAt after base n ≡ recordsBy year o rs (Accepted c i)
     unfolding written
     stored-records (inserting p f q l) =
         records-add t base n i new valid low fits (omega (arith, length-records t base n)) ok ∙ sym (stored-end rs i new q)
         ∙ ap (storedAt rs i) (rw p)
-    stored-records (varying p f a) = replaced f ∙ ap (λ (r : Record). storedAt rs i (written year o r (o .operation))) (same-old f)
-    stored-records (annulling p f a s) = replaced f ∙ ap (λ (r : Record). storedAt rs i (written year o r (o .operation))) (same-old f)
+    stored-records (varying p f a) = replaced f ∙ ap (λ (r : Record). storedAt rs i (written year o r c)) (same-old f)
+    stored-records (annulling p f a s) = replaced f ∙ ap (λ (r : Record). storedAt rs i (written year o r c)) (same-old f)
 
     long : length (recordBytes new) ≡ slotSize
     long = length-record new (valid .states) (valid .amounts)
 
-  kept-by : (j : Judged) → orderComes t base n year o ≡ j → Kept t (orderStored t base year o j) base n
+  kept-by : (j : Ruling) → orderComes t base n year o ≡ j → Kept t (orderStored t base year o j) base n
   unfolding orderComes orderStored
-  kept-by (Accepted i) e =
-      let low = order-low t base n year o i e in
-      slot-kept t base n i (recordBytes (new i e low)) (long i e low) low fits (stored-ok i e low (accepted n year o rs i e))
-  kept-by (Refused c) e = unchanged t base n ok
+  kept-by (Accepted c i) e =
+      let low = order-low t base n year o c i e in
+      slot-kept t base n i (recordBytes (new c i e low)) (long c i e low) low fits (stored-ok c i e low (accepted n year o rs c i e))
+  kept-by (Refused code) e = unchanged t base n ok
 
   pub order-kept : Kept t (orderLeaves t base n year o) base n
   order-kept = kept-by (orderComes t base n year o) refl
 
-  records-by : (j : Judged) → orderComes t base n year o ≡ j → recordsAt (orderStored t base year o j) base n ≡ recordsBy year o rs j
+  records-by : (j : Ruling) → orderComes t base n year o ≡ j → recordsAt (orderStored t base year o j) base n ≡ recordsBy year o rs j
   unfolding orderComes orderStored
-  records-by (Accepted i) e = let low = order-low t base n year o i e in stored-records i e low (accepted n year o rs i e)
-  records-by (Refused c) e = refl
+  records-by (Accepted c i) e = let low = order-low t base n year o c i e in stored-records c i e low (accepted n year o rs c i e)
+  records-by (Refused code) e = refl
 
   pub order-records : recordsAt (orderLeaves t base n year o) base n ≡ recordsBy year o rs (judgeOrder n year o rs)
   unfolding orderComes
   order-records = records-by (orderComes t base n year o) refl
 
 -- ALL ORDERS OF A FLOW
-pub data Writables : List Order → Type 0 where
+pub data Writables : List Ordinativo → Type 0 where
   none : Writables []
-  more : {o : Order} {os : List Order} → Writable o → Writables os → Writables (o ∷ os)
+  more : {o : Ordinativo} {os : List Ordinativo} → Writable o → Writables os → Writables (o ∷ os)
 
--- the records that they leave
-unfoldable pub allRecords : ℕ → ℕ → List Order → List Record → List Record
-allRecords slots year [] rs = rs
-allRecords slots year (o ∷ os) rs = allRecords slots year os (recordsBy year o rs (judgeOrder slots year o rs))
-
-pub all-kept : (t : List ℕ) (base n year : ℕ) (os : List Order) → base + slotSize * n ≤ length t → bodyOk t base n ≡ true → Writables os → (2000 ≤ year) × (year ≤ 2099)
+pub all-kept : (t : List ℕ) (base n year : ℕ) (os : List Ordinativo) → base + slotSize * n ≤ length t → bodyOk t base n ≡ true → Writables os → (2000 ≤ year) × (year ≤ 2099)
     → Kept t (allLeave t base n year os) base n
 unfolding allLeave
 all-kept t base n year [] fits ok none y = unchanged t base n ok
@@ -161,7 +149,7 @@ all-kept t base n year (o ∷ os) fits ok (more w ws) y =
     let k = order-kept t base n year o fits ok w y in
     kept-on k (all-kept (orderLeaves t base n year o) base n year os (omega (arith, k .long)) (k .ok) ws y)
 
-pub all-records : (t : List ℕ) (base n year : ℕ) (os : List Order) → base + slotSize * n ≤ length t → bodyOk t base n ≡ true → Writables os → (2000 ≤ year) × (year ≤ 2099)
+pub all-records : (t : List ℕ) (base n year : ℕ) (os : List Ordinativo) → base + slotSize * n ≤ length t → bodyOk t base n ≡ true → Writables os → (2000 ≤ year) × (year ≤ 2099)
     → recordsAt (allLeave t base n year os) base n ≡ allRecords n year os (recordsAt t base n)
 unfolding allLeave allRecords
 all-records t base n year [] fits ok none y = refl

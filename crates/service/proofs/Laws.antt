@@ -10,10 +10,9 @@ use borrow.Author.Tests.{ltb-true, lt-ltb, le-ltb}
 use Rattle.words.specs.Numbers.{put, bytes4, bytes8}
 use Rattle.words.proofs.Laws.{put-put}
 use Rattle.codes.specs.Codes.{operationNumber}
-use Rattle.codes.specs.declared.Operation.the-variants.{Variazione, Annullo}
 use Rattle.ranges.specs.declared.Found.{Found}
 use Rattle.ranges.specs.declared.Found.the-variants.{At, Nothing}
-use Rattle.order.specs.declared.Order.{Order}
+use Rattle.order.specs.Ordinativo.{Ordinativo}
 use Rattle.record.specs.declared.Record.{Record}
 use Rattle.record.specs.declared.Key.{Key}
 use Rattle.record.specs.Slot.{slotSize, recordAt, recordBytes}
@@ -25,13 +24,18 @@ use Rattle.slots.proofs.Index.{length-records, get-record}
 use Rattle.body.proofs.Slots.{valid-at}
 use Rattle.valid.proofs.Valid.{ok-bounds}
 use Rattle.rules.specs.declared.Situation.{Situation}
-use Rattle.rules.specs.declared.Judged.{Judged}
-use Rattle.rules.specs.declared.Judged.the-variants.{Accepted, Refused}
+use Rattle.rules.specs.declared.Change.{Change}
+use Rattle.rules.specs.declared.Change.the-variants.{Insert, Vary, Annul}
+use Rattle.rules.specs.declared.Asks.{Asks}
+use Rattle.rules.specs.declared.Asks.the-variants.{For, Unserved}
+use Rattle.rules.specs.declared.Ruling.{Ruling}
+use Rattle.rules.specs.declared.Ruling.the-variants.{Accepted, Refused}
 use Rattle.rules.specs.declared.Noticed.the-variants.{Moved, Unmoved}
-use Rattle.lines.specs.Lines.{linesOf, lineCode}
-use Rattle.rules.specs.Rules.{situationIn, situationOf, stepOf, sostituzione, keyFor, nth, noRecord, sameOrder, placed, unless, stepped, judgeOrder, written, movedTo, noticeIn, noticeAt, judgeNotice}
+use Rattle.lines.specs.Lines.{lineCode}
+use Rattle.rules.specs.Rules.{asksOf, situationIn, situationOf, stepCode, keyFor, nth, noRecord, sameOrder, firstEmpty, placed, unless, stepped, judgeChange, judgeAsked, judgeOrder, written, movedTo, noticeIn, noticeAt, judgeNotice}
 use Rattle.rules.proofs.Judging.{accepted-slot, moved}
-use Rattle.service.specs.Service.{foundIn, atFound, orderComes, orderStored, orderLeaves, outcomeBytes, noticeComes, noticeStored, noticeLeaves, statePlace}
+use Rattle.service.specs.Inner.{foundIn, atFound}
+use Rattle.service.specs.Service.{orderComes, orderStored, orderLeaves, outcomeBytes, noticeComes, noticeStored, noticeLeaves, statePlace}
 
 -- A RECORD OF A BODY stands in its slot
 pub record Held (t : List ℕ) (base n i : ℕ) : Type 0 where
@@ -75,22 +79,22 @@ module _ (t : List ℕ) (base n : ℕ) where
     unfolding situationOf
     situation-at = sym (ap (situationOf records) e ∙ ap situationIn held-here)
 
-    module _ (o : Order) {b : Bool} (s : b ≡ sameOrder o r) where
-      annulled-by : placed n o records Annullo f ≡ cond b (Accepted i) (Refused 19)
+    module _ (o : Ordinativo) {b : Bool} (s : b ≡ sameOrder o r) where
+      annulled-by : placed n o records Annul f ≡ cond b (Accepted Annul i) (Refused 19)
       unfolding placed
-      annulled-by = ap (placed n o records Annullo) e ∙ ap (λ (x : Bool). cond x (Accepted i) (Refused 19)) (ap (sameOrder o) held-here ∙ sym s)
+      annulled-by = ap (placed n o records Annul) e ∙ ap (λ (x : Bool). cond x (Accepted Annul i) (Refused 19)) (ap (sameOrder o) held-here ∙ sym s)
 
-      pub annulled-same : b ≡ true → placed n o records Annullo f ≡ Accepted i
+      pub annulled-same : b ≡ true → placed n o records Annul f ≡ Accepted Annul i
       annulled-same q = annulled-by ∙ rw q
 
-      pub annulled-other : b ≡ false → placed n o records Annullo f ≡ Refused 19
+      pub annulled-other : b ≡ false → placed n o records Annul f ≡ Refused 19
       annulled-other q = annulled-by ∙ rw q
 
-  pub annulled-none : (o : Order) {f : Found} → f ≡ Nothing → placed n o records Annullo f ≡ Refused 16
+  pub annulled-none : (o : Ordinativo) {f : Found} → f ≡ Nothing → placed n o records Annul f ≡ Refused 16
   unfolding placed
   annulled-none o e = rw e
 
-  pub varied-found : (o : Order) (f : Found) → placed n o records Variazione f ≡ atFound f
+  pub varied-found : (o : Ordinativo) (f : Found) → placed n o records Vary f ≡ atFound f
   unfolding placed
   varied-found o (At i) = refl
   varied-found o Nothing = refl
@@ -99,50 +103,47 @@ module _ (t : List ℕ) (base n : ℕ) where
     length-is : length records ≡ used
     length-is = length-records t base n ∙ sym q
 
-    pub first-there : used < n → cond (ltb (length records) n) (Accepted (length records)) (Refused 15) ≡ Accepted used
+    pub first-there : used < n → firstEmpty n records ≡ Accepted Insert used
     first-there h = rw (length-is, lt-ltb used n h)
 
-    pub first-full : n ≤ used → cond (ltb (length records) n) (Accepted (length records)) (Refused 15) ≡ Refused 15
+    pub first-full : n ≤ used → firstEmpty n records ≡ Refused 15
     first-full h = rw (length-is, le-ltb used n h)
 
 -- a code that isn't 0 is the answer
-unless-stop : (c : ℕ) (next : Judged) → (c ≡ 0 → ⊥) → unless c next ≡ Refused c
+unless-stop : (code : ℕ) (next : Ruling) → (code ≡ 0 → ⊥) → unless code next ≡ Refused code
 unless-stop zero next h = absurd (h refl)
-unless-stop (suc c) next h = refl
+unless-stop (suc code) next h = refl
 
-module _ (slots : ℕ) (o : Order) (rs : List Record) (f : Found) {s : Situation} {c : ℕ} (q : s ≡ situationOf rs f) (e : c ≡ stepOf (o .operation) s) where
-  step-is : stepOf (o .operation) (situationOf rs f) ≡ c
-  step-is = ap (stepOf (o .operation)) (sym q) ∙ sym e
+module _ (slots : ℕ) (o : Ordinativo) (rs : List Record) (c : Change) (f : Found) {s : Situation} {code : ℕ} (q : s ≡ situationOf rs f) (e : code ≡ stepCode c s) where
+  step-is : stepCode c (situationOf rs f) ≡ code
+  step-is = ap (stepCode c) (sym q) ∙ sym e
 
-  pub step-stops : (c ≡ 0 → ⊥) → stepped slots o rs f ≡ Refused c
+  pub step-stops : (code ≡ 0 → ⊥) → stepped slots o rs c f ≡ Refused code
   unfolding stepped
-  step-stops h = rw step-is (unless-stop c _ h)
+  step-stops h = rw step-is (unless-stop code _ h)
 
-  pub step-goes : c ≡ 0 → stepped slots o rs f ≡ placed slots o rs (o .operation) f
+  pub step-goes : code ≡ 0 → stepped slots o rs c f ≡ placed slots o rs c f
   unfolding stepped
   step-goes h = rw (step-is, h)
 
-module _ (t : List ℕ) (base n year : ℕ) (o : Order) {a : ℕ} (e : a ≡ sostituzione (o .operation)) where
-  pub comes-first : (a ≡ 0 → ⊥) → orderComes t base n year o ≡ Refused a
-  unfolding orderComes judgeOrder
-  comes-first h = rw (← e) (unless-stop a _ h)
+module _ (slots year : ℕ) (o : Ordinativo) (rs : List Record) (c : Change) {code : ℕ} (e : code ≡ lineCode (o .lines) (o .total)) where
+  pub change-lines : (code ≡ 0 → ⊥) → judgeChange slots year o rs c ≡ Refused code
+  change-lines h = rw (← e) (unless-stop code _ h)
 
-  module _ {b : ℕ} (z : a ≡ 0) (g : b ≡ lineCode (linesOf (o .lines)) (o .total)) where
-    pub comes-lines : (b ≡ 0 → ⊥) → orderComes t base n year o ≡ Refused b
-    unfolding orderComes judgeOrder
-    comes-lines h = rw (← e, z, ← g) (unless-stop b _ h)
+  pub change-stepped : {f : Found} → code ≡ 0 → f ≡ findIn rs 0 (keyFor year o) → judgeChange slots year o rs c ≡ stepped slots o rs c f
+  change-stepped h q = rw (← e, h, q)
 
-    pub comes-stepped : {f : Found} → b ≡ 0 → f ≡ findIn (recordsAt t base n) 0 (keyFor year o) → orderComes t base n year o ≡ stepped n o (recordsAt t base n) f
-    unfolding orderComes judgeOrder
-    comes-stepped h q = rw (← e, z, ← g, h, q)
+pub comes-by : (t : List ℕ) (base n year : ℕ) (o : Ordinativo) {a b : Asks} → a ≡ asksOf (o .operation) → a ≡ b → orderComes t base n year o ≡ judgeAsked n year o (recordsAt t base n) b
+unfolding orderComes judgeOrder
+comes-by t base n year o e q = ap (judgeAsked n year o (recordsAt t base n)) (sym e ∙ q)
 
 -- its slot is one of the body's
-pub order-low : (t : List ℕ) (base n year : ℕ) (o : Order) (i : ℕ) → orderComes t base n year o ≡ Accepted i → i < n
+pub order-low : (t : List ℕ) (base n year : ℕ) (o : Ordinativo) (c : Change) (i : ℕ) → orderComes t base n year o ≡ Accepted c i → i < n
 unfolding orderComes
-order-low t base n year o i e = accepted-slot n year o (recordsAt t base n) i e (omega (arith, length-records t base n, used-le t base n))
+order-low t base n year o c i e = accepted-slot n year o (recordsAt t base n) c i e (omega (arith, length-records t base n, used-le t base n))
 
-module _ (t : List ℕ) (base n year : ℕ) (o : Order) where
-  pub order-stored : {i : ℕ} {r w : Record} {t′ : List ℕ} → orderComes t base n year o ≡ Accepted i → r ≡ recordAt t (base + slotSize * i) → w ≡ written year o r (o .operation)
+module _ (t : List ℕ) (base n year : ℕ) (o : Ordinativo) where
+  pub order-stored : {c : Change} {i : ℕ} {r w : Record} {t′ : List ℕ} → orderComes t base n year o ≡ Accepted c i → r ≡ recordAt t (base + slotSize * i) → w ≡ written year o r c
       → t′ ≡ put t (base + slotSize * i) (recordBytes w) → t′ ≡ orderLeaves t base n year o
   unfolding orderStored
   order-stored e p q s = rw (e, ← p, ← q) s
@@ -152,17 +153,17 @@ module _ (t : List ℕ) (base n year : ℕ) (o : Order) where
   order-refused e = rw e
 
 -- an order's outcome, put in three
-pub outcome-put : (s s₁ s₂ s₃ : List ℕ) (at : ℕ) (o : Order) (code : ℕ) {p : ℕ} → at + 16 ≤ length s → p ≡ operationNumber (o .operation)
-    → s₁ ≡ put s at (o .kind ∷ p ∷ code ∷ o .lines .count ∷ []) → s₂ ≡ put s₁ (at + 4) (bytes4 (o .number)) → s₃ ≡ put s₂ (at + 8) (bytes8 (o .total))
+pub outcome-put : (s s₁ s₂ s₃ : List ℕ) (at : ℕ) (o : Ordinativo) (code : ℕ) {p m : ℕ} → at + 16 ≤ length s → p ≡ operationNumber (o .operation) → m ≡ length (o .lines)
+    → s₁ ≡ put s at (o .kind ∷ p ∷ code ∷ m ∷ []) → s₂ ≡ put s₁ (at + 4) (bytes4 (o .number)) → s₃ ≡ put s₂ (at + 8) (bytes8 (o .total))
     → s₃ ≡ put s at (outcomeBytes o code)
 unfolding outcomeBytes
-outcome-put s s₁ s₂ s₃ at o code {p} fits q e₁ e₂ e₃ =
-    let head : List ℕ = o .kind ∷ p ∷ code ∷ o .lines .count ∷ [] in
+outcome-put s s₁ s₂ s₃ at o code {p} {m} fits q l e₁ e₂ e₃ =
+    let head : List ℕ = o .kind ∷ p ∷ code ∷ m ∷ [] in
     let two : s₂ ≡ put s at (head ++ bytes4 (o .number)) =
     e₂ ∙ ap (λ (x : List ℕ). put x (at + 4) (bytes4 (o .number))) e₁ ∙ put-put s at head (bytes4 (o .number)) (at + 4) (omega arith) refl in
     e₃ ∙ ap (λ (x : List ℕ). put x (at + 8) (bytes8 (o .total))) two
     ∙ put-put s at (head ++ bytes4 (o .number)) (bytes8 (o .total)) (at + 8) (omega arith) refl
-    ∙ ap (λ (x : ℕ). put s at (o .kind ∷ x ∷ code ∷ o .lines .count ∷ (bytes4 (o .number) ++ bytes8 (o .total)))) q
+    ∙ (λ i. put s at (o .kind ∷ q i ∷ code ∷ l i ∷ (bytes4 (o .number) ++ bytes8 (o .total))))
 
 -- A NOTICE
 

@@ -30,9 +30,10 @@ use Rattle.scan.proofs.Laws.{both}
 use Rattle.rules.specs.declared.Noticed.{Noticed}
 use Rattle.rules.specs.declared.Noticed.the-variants.{Moved, Unmoved}
 use Rattle.rules.specs.Rules.{nth, judgeNotice, movedTo}
+use Rattle.rules.specs.Effects.{withState, recordsMoved}
 use Rattle.rules.proofs.Judging.{Moves, moved}
-use Rattle.rules.proofs.Kept.{withState, moved-valid}
-use Rattle.service.specs.Service.{noticeComes, noticeStored, noticeLeaves, statePlace}
+use Rattle.rules.proofs.Kept.{moved-valid}
+use Rattle.service.specs.Service.{noticeComes, noticeStored, noticeLeaves, statesAt, statePlace}
 use Rattle.service.proofs.Laws.{Held, search-held}
 use Rattle.service.proofs.Kept.{Kept, unchanged}
 
@@ -51,33 +52,33 @@ eight-at t p (suc (suc (suc (suc (suc (suc (suc (suc j)))))))) h = absurd (omega
 
 module _ (t : List ℕ) (at k s : ℕ) (small : k < 8) (fits : at + slotSize ≤ length t) where
   abbrev after : List ℕ
-  after = put t (at + 24 + k) (s ∷ [])
+  after = put t (at + statesAt + k) (s ∷ [])
 
-  byte : (j : ℕ) → j < 8 → (x : Bool) → eqb j k ≡ x → getD after (at + 24 + j) 0 ≡ getD (set (eightAt t (at + 24)) k s) j 0
+  byte : (j : ℕ) → j < 8 → (x : Bool) → eqb j k ≡ x → getD after (at + statesAt + j) 0 ≡ getD (set (eightAt t (at + statesAt)) k s) j 0
   byte j h true q =
       let e : j ≡ k = eqb-true j k q in
-      let z : at + 24 + j ≡ at + 24 + k + 0 = omega arith in
-      ap (λ (x : ℕ). getD after x 0) z ∙ get-in t (at + 24 + k) (s ∷ []) 0 (omega arith) (omega arith)
-      ∙ sym (ap (λ (x : ℕ). getD (set (eightAt t (at + 24)) k s) x 0) e ∙ getD-set-same (eightAt t (at + 24)) k s 0 small)
-  byte j h false q = other j (eqb-false j k q) ∙ sym (getD-set-other (eightAt t (at + 24)) k j s 0 (eqb-false j k q) ∙ eight-at t (at + 24) j h)
+      let z : at + statesAt + j ≡ at + statesAt + k + 0 = omega arith in
+      ap (λ (x : ℕ). getD after x 0) z ∙ get-in t (at + statesAt + k) (s ∷ []) 0 (omega arith) (omega arith)
+      ∙ sym (ap (λ (x : ℕ). getD (set (eightAt t (at + statesAt)) k s) x 0) e ∙ getD-set-same (eightAt t (at + statesAt)) k s 0 small)
+  byte j h false q = other j (eqb-false j k q) ∙ sym (getD-set-other (eightAt t (at + statesAt)) k j s 0 (eqb-false j k q) ∙ eight-at t (at + statesAt) j h)
     where
-      other : (x : ℕ) → (x ≡ k → ⊥) → getD after (at + 24 + x) 0 ≡ getD t (at + 24 + x) 0
+      other : (x : ℕ) → (x ≡ k → ⊥) → getD after (at + statesAt + x) 0 ≡ getD t (at + statesAt + x) 0
       other x ne = go (ltb x k) refl
         where
-          go : (b : Bool) → ltb x k ≡ b → getD after (at + 24 + x) 0 ≡ getD t (at + 24 + x) 0
-          go true e = get-before t (at + 24 + k) (s ∷ []) (at + 24 + x) (omega (arith, ltb-true x k e)) (omega arith)
-          go false e = get-after t (at + 24 + k) (s ∷ []) (at + 24 + x) (omega (arith, ltb-false x k e)) (omega arith)
+          go : (b : Bool) → ltb x k ≡ b → getD after (at + statesAt + x) 0 ≡ getD t (at + statesAt + x) 0
+          go true e = get-before t (at + statesAt + k) (s ∷ []) (at + statesAt + x) (omega (arith, ltb-true x k e)) (omega arith)
+          go false e = get-after t (at + statesAt + k) (s ∷ []) (at + statesAt + x) (omega (arith, ltb-false x k e)) (omega arith)
 
-  states-after : eightAt after (at + 24) ≡ set (eightAt t (at + 24)) k s
+  states-after : eightAt after (at + statesAt) ≡ set (eightAt t (at + statesAt)) k s
   states-after =
-      ext-getD 0 (eightAt after (at + 24)) (set (eightAt t (at + 24)) k s) (sym (length-set (eightAt t (at + 24)) k s))
-      (λ j h. eight-at after (at + 24) j h ∙ byte j h (eqb j k) refl)
+      ext-getD 0 (eightAt after (at + statesAt)) (set (eightAt t (at + statesAt)) k s) (sym (length-set (eightAt t (at + statesAt)) k s))
+      (λ j h. eight-at after (at + statesAt) j h ∙ byte j h (eqb j k) refl)
 
   head-same : Agree after at t at 24
-  head-same = agree-before t (at + 24 + k) (s ∷ []) at (omega arith) 24 (omega arith)
+  head-same = agree-before t (at + statesAt + k) (s ∷ []) at (omega arith) 24 (omega arith)
 
   tail-same : Agree after (at + 32) t (at + 32) 64
-  tail-same = agree-after t (at + 24 + k) (s ∷ []) (at + 32) (omega arith) 64 (omega arith)
+  tail-same = agree-after t (at + statesAt + k) (s ∷ []) (at + 32) (omega arith) 64 (omega arith)
 
   date-same : dateAt after (at + 12) ≡ dateAt t (at + 12)
   date-same = let g = on head-same 12 4 (omega arith) in cc (same2 g (omega arith), g .same 2 (omega arith), g .same 3 (omega arith))
@@ -175,11 +176,6 @@ rest-of t base n i ok h =
     both (restZero t (base + slotSize * i)) _ (sym (slot-rest t (base + slotSize * i)) ∙ slots-each t base (usedAt t base n) (parts t base n ok .slots) i h) .0
 
 -- A NOTICE
-
--- the records that it leaves
-abbrev pub recordsMoved : Bool → ℕ → List Record → Noticed → List Record
-recordsMoved executing line rs (Moved i cents) = set rs i (withState (nth rs i) (line - 1) (movedTo executing))
-recordsMoved executing line rs (Unmoved c) = rs
 
 moved-state : (executing : Bool) → (1 ≤ movedTo executing) × (movedTo executing ≤ 2)
 moved-state true = (omega arith, omega arith)

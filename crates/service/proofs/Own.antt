@@ -7,21 +7,22 @@ use native.Mathlib.Omega.{arith}
 use lib.ListN.{length, getD}
 use Rattle.words.specs.Numbers.{put}
 use Rattle.words.proofs.Laws.{Agree, on, get-before, get-in, get-after}
-use Rattle.order.specs.declared.Order.{Order}
+use Rattle.order.specs.Ordinativo.{Ordinativo}
 use Rattle.record.specs.declared.Key.{Key}
 use Rattle.record.specs.Slot.{slotSize, recordAt, recordBytes}
 use Rattle.record.proofs.Back.{same-record}
 use Rattle.body.specs.Body.{bodyOk}
 use Rattle.body.proofs.Same.{records-agree}
-use Rattle.rules.specs.declared.Judged.{Judged}
-use Rattle.rules.specs.declared.Judged.the-variants.{Accepted, Refused}
+use Rattle.rules.specs.declared.Change.{Change}
+use Rattle.rules.specs.declared.Ruling.{Ruling}
+use Rattle.rules.specs.declared.Ruling.the-variants.{Accepted, Refused}
 use Rattle.rules.specs.declared.Noticed.{Noticed}
 use Rattle.rules.specs.declared.Noticed.the-variants.{Moved, Unmoved}
-use Rattle.rules.specs.Rules.{judgeOrder, codeOf, written, judgeNotice, movedTo}
+use Rattle.rules.specs.Rules.{judgeOrder, orderCode, written, judgeNotice, movedTo}
 use Rattle.rules.proofs.Kept.{split}
 use Rattle.service.proofs.Laws.{order-low, notice-line}
 use Rattle.service.proofs.Kept.{Writables, none, more, order-kept}
-use Rattle.service.specs.Service.{orderComes, orderStored, orderLeaves, outcomeBytes, one, allLeave, allOutcomes, allAccepted, noticeComes, noticeStored, noticeLeaves}
+use Rattle.service.specs.Service.{orderComes, orderStored, orderLeaves, outcomeBytes, one, allLeave, allOutcomes, allAccepted, statesAt, noticeComes, noticeStored, noticeLeaves}
 
 -- the same bytes put at the same place
 pub put-agree : {s t : List ℕ} {p q m : ℕ} → Agree s p t q m → (k : ℕ) (v : List ℕ) → p + k ≤ length s → q + k ≤ length t → Agree (put s (p + k) v) p (put t (q + k) v) q m
@@ -40,7 +41,7 @@ put-agree {s} {t} {p} {q} a k v hs ht = record {
 -- AN ORDER
 
 module _ {s t : List ℕ} {p q : ℕ} (n : ℕ) (a : Agree s p t q (slotSize * n)) where
-  pub order-same : (year : ℕ) (o : Order) → orderComes s p n year o ≡ orderComes t q n year o
+  pub order-same : (year : ℕ) (o : Ordinativo) → orderComes s p n year o ≡ orderComes t q n year o
   unfolding orderComes
   order-same year o = ap (judgeOrder n year o) (records-agree n a)
 
@@ -48,17 +49,17 @@ module _ {s t : List ℕ} {p q : ℕ} (n : ℕ) (a : Agree s p t q (slotSize * n
   slot-same i h = same-record (on a (slotSize * i) slotSize (omega arith))
 
   module _ (hs : p + slotSize * n ≤ length s) (ht : q + slotSize * n ≤ length t) where
-    stored-same : (year : ℕ) (o : Order) (j : Judged) → ((i : ℕ) → j ≡ Accepted i → i < n) → Agree (orderStored s p year o j) p (orderStored t q year o j) q (slotSize * n)
+    stored-same : (year : ℕ) (o : Ordinativo) (j : Ruling) → ((c : Change) (i : ℕ) → j ≡ Accepted c i → i < n) → Agree (orderStored s p year o j) p (orderStored t q year o j) q (slotSize * n)
     unfolding orderStored
-    stored-same year o (Accepted i) low =
-        let l = low i refl in
-        let e : recordBytes (written year o (recordAt t (q + slotSize * i)) (o .operation)) ≡ recordBytes (written year o (recordAt s (p + slotSize * i)) (o .operation)) =
-        ap (λ r. recordBytes (written year o r (o .operation))) (sym (slot-same i l)) in
-        rw e (put-agree a (slotSize * i) (recordBytes (written year o (recordAt s (p + slotSize * i)) (o .operation))) (omega arith) (omega arith))
-    stored-same year o (Refused c) low = a
+    stored-same year o (Accepted c i) low =
+        let l = low c i refl in
+        let e : recordBytes (written year o (recordAt t (q + slotSize * i)) c) ≡ recordBytes (written year o (recordAt s (p + slotSize * i)) c) =
+        ap (λ r. recordBytes (written year o r c)) (sym (slot-same i l)) in
+        rw e (put-agree a (slotSize * i) (recordBytes (written year o (recordAt s (p + slotSize * i)) c)) (omega arith) (omega arith))
+    stored-same year o (Refused code) low = a
 
-    pub order-own : (year : ℕ) (o : Order) → Agree (orderLeaves s p n year o) p (orderLeaves t q n year o) q (slotSize * n)
-    order-own year o = rw (order-same year o) (stored-same year o (orderComes t q n year o) (λ i e. order-low t q n year o i e))
+    pub order-own : (year : ℕ) (o : Ordinativo) → Agree (orderLeaves s p n year o) p (orderLeaves t q n year o) q (slotSize * n)
+    order-own year o = rw (order-same year o) (stored-same year o (orderComes t q n year o) (order-low t q n year o))
 
     -- A NOTICE
 
@@ -71,9 +72,9 @@ module _ {s t : List ℕ} {p q : ℕ} (n : ℕ) (a : Agree s p t q (slotSize * n
     unfolding noticeStored
     moved-same executing line (Moved i cents) h =
         let l = h i cents refl in
-        let x : p + slotSize * i + 24 + (line - 1) ≡ p + (slotSize * i + 24 + (line - 1)) = omega arith in
-        let y : q + slotSize * i + 24 + (line - 1) ≡ q + (slotSize * i + 24 + (line - 1)) = omega arith in
-        rw (x, y) (put-agree a (slotSize * i + 24 + (line - 1)) (movedTo executing ∷ []) (omega arith) (omega arith))
+        let x : p + slotSize * i + statesAt + (line - 1) ≡ p + (slotSize * i + statesAt + (line - 1)) = omega arith in
+        let y : q + slotSize * i + statesAt + (line - 1) ≡ q + (slotSize * i + statesAt + (line - 1)) = omega arith in
+        rw (x, y) (put-agree a (slotSize * i + statesAt + (line - 1)) (movedTo executing ∷ []) (omega arith) (omega arith))
     moved-same executing line (Unmoved c) h = a
 
     pub notice-own : (executing : Bool) (k : Key) (line : ℕ) → bodyOk t q n ≡ true → Agree (noticeLeaves s p n executing k line) p (noticeLeaves t q n executing k line) q (slotSize * n)
@@ -84,7 +85,7 @@ module _ {s t : List ℕ} {p q : ℕ} (n : ℕ) (a : Agree s p t q (slotSize * n
 
 -- ALL ORDERS OF A FLOW
 
-pub record Same (s t : List ℕ) (p q n year : ℕ) (os : List Order) : Type 0 where
+pub record Same (s t : List ℕ) (p q n year : ℕ) (os : List Ordinativo) : Type 0 where
   pub outcomes : allOutcomes s p n year os ≡ allOutcomes t q n year os
   pub accepted : allAccepted s p n year os ≡ allAccepted t q n year os
   pub left : Agree (allLeave s p n year os) p (allLeave t q n year os) q (slotSize * n)
@@ -93,7 +94,7 @@ pub record Same (s t : List ℕ) (p q n year : ℕ) (os : List Order) : Type 0 w
 abbrev pub Ready : List ℕ → ℕ → ℕ → Type 0
 Ready t base n = (base + slotSize * n ≤ length t) × (bodyOk t base n ≡ true)
 
-pub all-own : {s t : List ℕ} {p q : ℕ} (n year : ℕ) (os : List Order) → Agree s p t q (slotSize * n) → Ready s p n → Ready t q n → Writables os → (2000 ≤ year) × (year ≤ 2099)
+pub all-own : {s t : List ℕ} {p q : ℕ} (n year : ℕ) (os : List Ordinativo) → Agree s p t q (slotSize * n) → Ready s p n → Ready t q n → Writables os → (2000 ≤ year) × (year ≤ 2099)
     → Same s t p q n year os
 unfolding allOutcomes allAccepted allLeave
 all-own n year [] a hs ht none y = record { outcomes = refl; accepted = refl; left = a }
@@ -104,7 +105,7 @@ all-own {s} {t} {p} {q} n year (o ∷ os) a hs ht (more w ws) y =
     let b = order-own n a (hs .0) (ht .0) year o in
     let r = all-own n year os b (omega (arith, ks .long, hs), ks .ok) (omega (arith, kt .long, ht), kt .ok) ws y in
     record {
-      outcomes = λ k. outcomeBytes o (codeOf (e k)) ++ r .outcomes k;
+      outcomes = λ k. outcomeBytes o (orderCode (e k)) ++ r .outcomes k;
       accepted = λ k. one (e k) + r .accepted k;
       left = r .left;
     }

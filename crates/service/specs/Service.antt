@@ -1,71 +1,56 @@
 -- Orders and notices served on one body of a table's bytes (document 01, "Answers"): the rules over its records, and the bytes they leave.
 use Prim.Native.Nat.{ℕ, zero, suc, _+_, _*_, _-_}
-use mathlib.Core.Bool.{Bool, true, false, cond}
+use mathlib.Core.Bool.{Bool}
 use mathlib.Core.List.{List, [], _∷_, _++_}
 use lib.ListN.{length}
-use lib.Dec.{ltb}
 use Rattle.words.specs.Numbers.{put, bytes4, bytes8}
 use Rattle.codes.specs.Codes.{operationNumber}
-use Rattle.ranges.specs.declared.Found.{Found}
-use Rattle.ranges.specs.declared.Found.the-variants.{At, Nothing}
-use Rattle.order.specs.declared.Order.{Order}
-use Rattle.record.specs.declared.Record.{Record}
+use Rattle.order.specs.Ordinativo.{Ordinativo}
 use Rattle.record.specs.declared.Key.{Key}
 use Rattle.record.specs.Slot.{slotSize, recordAt, recordBytes}
 use Rattle.slots.specs.Slots.{recordsAt}
-use Rattle.rules.specs.declared.Judged.{Judged}
-use Rattle.rules.specs.declared.Judged.the-variants.{Accepted, Refused}
+use Rattle.rules.specs.declared.Ruling.{Ruling}
+use Rattle.rules.specs.declared.Ruling.the-variants.{Accepted, Refused}
 use Rattle.rules.specs.declared.Noticed.{Noticed}
 use Rattle.rules.specs.declared.Noticed.the-variants.{Moved, Unmoved}
-use Rattle.rules.specs.Rules.{judgeOrder, codeOf, written, judgeNotice, movedTo}
+use Rattle.rules.specs.Rules.{judgeOrder, orderCode, written, judgeNotice, movedTo}
 
 -- A BODY of a table: where its slots begin, and how many they are. An ORDER is served in the flow's esercizio, `year`.
 
--- a search's answer among these records: the index of one of them, or nothing
-unfoldable pub foundIn : List Record → Found → Bool
-foundIn rs Nothing = true
-foundIn rs (At i) = ltb i (length rs)
-
--- "VARIAZIONE": where the search found the order
-abbrev pub atFound : Found → Judged
-atFound (At i) = Accepted i
-atFound Nothing = Refused 16
-
 -- what an order comes to
-unfoldable pub orderComes : List ℕ → ℕ → ℕ → ℕ → Order → Judged
+unfoldable pub orderComes : List ℕ → ℕ → ℕ → ℕ → Ordinativo → Ruling
 orderComes t base n year o = judgeOrder n year o (recordsAt t base n)
 
 -- the table after it: the accepted order's record in its slot, every other byte as it was
-unfoldable pub orderStored : List ℕ → ℕ → ℕ → Order → Judged → List ℕ
-orderStored t base year o (Accepted i) =
-    put t (base + slotSize * i) (recordBytes (written year o (recordAt t (base + slotSize * i)) (o .operation)))
-orderStored t base year o (Refused c) = t
+unfoldable pub orderStored : List ℕ → ℕ → ℕ → Ordinativo → Ruling → List ℕ
+orderStored t base year o (Accepted c i) = put t (base + slotSize * i) (recordBytes (written year o (recordAt t (base + slotSize * i)) c))
+orderStored t base year o (Refused code) = t
 
-abbrev pub orderLeaves : List ℕ → ℕ → ℕ → ℕ → Order → List ℕ
+abbrev pub orderLeaves : List ℕ → ℕ → ℕ → ℕ → Ordinativo → List ℕ
 orderLeaves t base n year o = orderStored t base year o (orderComes t base n year o)
 
 -- "Each writes 16 outcome bytes: 0 kind, 1 operation (1 to 4 in the field table's order), 2 code, 3 lines, 4-7 number, 8-15 total"
-unfoldable pub outcomeBytes : Order → ℕ → List ℕ
+unfoldable pub outcomeBytes : Ordinativo → ℕ → List ℕ
 outcomeBytes o code =
-    o .kind ∷ operationNumber (o .operation) ∷ code ∷ o .lines .count ∷ (bytes4 (o .number) ++ bytes8 (o .total))
+    o .kind ∷ operationNumber (o .operation) ∷ code ∷ length (o .lines) ∷ (bytes4 (o .number) ++ bytes8 (o .total))
 
 -- THE ORDERS OF A FLOW, "taken as written, each on the table the one before left"
 
-unfoldable pub allLeave : List ℕ → ℕ → ℕ → ℕ → List Order → List ℕ
+unfoldable pub allLeave : List ℕ → ℕ → ℕ → ℕ → List Ordinativo → List ℕ
 allLeave t base n year [] = t
 allLeave t base n year (o ∷ os) = allLeave (orderLeaves t base n year o) base n year os
 
-unfoldable pub allOutcomes : List ℕ → ℕ → ℕ → ℕ → List Order → List ℕ
+unfoldable pub allOutcomes : List ℕ → ℕ → ℕ → ℕ → List Ordinativo → List ℕ
 allOutcomes t base n year [] = []
 allOutcomes t base n year (o ∷ os) =
-    outcomeBytes o (codeOf (orderComes t base n year o)) ++ allOutcomes (orderLeaves t base n year o) base n year os
+    outcomeBytes o (orderCode (orderComes t base n year o)) ++ allOutcomes (orderLeaves t base n year o) base n year os
 
-abbrev pub one : Judged → ℕ
-one (Accepted i) = 1
-one (Refused c) = 0
+abbrev pub one : Ruling → ℕ
+one (Accepted c i) = 1
+one (Refused code) = 0
 
 -- "accepted (how many of them got outcome code 0)"
-unfoldable pub allAccepted : List ℕ → ℕ → ℕ → ℕ → List Order → ℕ
+unfoldable pub allAccepted : List ℕ → ℕ → ℕ → ℕ → List Ordinativo → ℕ
 allAccepted t base n year [] = 0
 allAccepted t base n year (o ∷ os) = one (orderComes t base n year o) + allAccepted (orderLeaves t base n year o) base n year os
 
@@ -74,9 +59,13 @@ allAccepted t base n year (o ∷ os) = one (orderComes t base n year o) + allAcc
 unfoldable pub noticeComes : List ℕ → ℕ → ℕ → Bool → Key → ℕ → Noticed
 noticeComes t base n executing k line = judgeNotice executing k line (recordsAt t base n)
 
--- the byte of a line's state, counted from 1: "24-31 eight line states"
+-- "24-31 eight line states"
+abbrev pub statesAt : ℕ
+statesAt = 24
+
+-- the byte of a line's state; lines are counted from 1
 abbrev pub statePlace : ℕ → ℕ → ℕ → ℕ
-statePlace base i line = base + slotSize * i + 24 + (line - 1)
+statePlace base i line = base + slotSize * i + statesAt + (line - 1)
 
 -- the table after it: one byte changes, or none
 unfoldable pub noticeStored : List ℕ → ℕ → Bool → ℕ → Noticed → List ℕ

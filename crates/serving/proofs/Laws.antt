@@ -3,7 +3,7 @@ use mathlib.Core.Path.{_≡_, refl, sym, ap, _∙_}
 use mathlib.Core.List.{List, [], _++_}
 use Prim.Native.Nat.{ℕ, zero, suc, _+_, _*_, _-_, _≤_, _<_}
 use native.Mathlib.Omega.{arith}
-use lib.ListN.{length}
+use lib.ListN.{length, length-map}
 use Rattle.words.specs.Numbers.{put}
 use Rattle.words.proofs.Laws.{put-nil, put-put}
 use Rattle.record.specs.Slot.{slotSize}
@@ -13,10 +13,11 @@ use Rattle.rows.specs.declared.Next.{Next}
 use Rattle.rows.specs.declared.Next.the-variants.{Named, Done}
 use Rattle.rows.specs.Kept.{keptFrom, nextOf}
 use Rattle.order.specs.declared.Order.{Order}
-use Rattle.orders.specs.Orders.{inRow, orderOf}
+use Rattle.order.specs.Ordinativo.{Ordinativo, ordinativo}
+use Rattle.orders.specs.Orders.{inRow, orderOf, ordersIn}
 use Rattle.orders.proofs.Laws.{row-at, orders-one, orders-end, Order-at, order-at}
-use Rattle.rules.specs.declared.Judged.{Judged}
-use Rattle.rules.specs.Rules.{codeOf}
+use Rattle.rules.specs.declared.Ruling.{Ruling}
+use Rattle.rules.specs.Rules.{orderCode}
 use Rattle.service.specs.Service.{orderComes, orderLeaves, outcomeBytes, one, allLeave, allOutcomes, allAccepted}
 use Rattle.serving.specs.Served.{ordersFrom, Rooted}
 
@@ -35,7 +36,10 @@ orders-by (suc m) f i h w = go (nextOf (inRow 5 (keptFrom FlussoOrdinativi f i))
 pub orders-few : (f : List ℕ) (i : ℕ) → i ≤ length f → length (ordersFrom f i) ≤ length f
 orders-few f i w = omega (arith, orders-by (suc (length f - i)) f i (omega arith) w)
 
-pub outcome-length : (o : Order) (code : ℕ) → length (outcomeBytes o code) ≡ 16
+pub orders-count : (f : List ℕ) (i : ℕ) {n : ℕ} → n ≡ length (ordersIn f (keptFrom FlussoOrdinativi f i)) → n ≡ length (ordersFrom f i)
+orders-count f i e = e ∙ sym (length-map (ordersIn f (keptFrom FlussoOrdinativi f i)) ordinativo)
+
+pub outcome-length : (o : Ordinativo) (code : ℕ) → length (outcomeBytes o code) ≡ 16
 unfolding outcomeBytes
 outcome-length o code = refl
 
@@ -73,8 +77,8 @@ module _ (f past : List ℕ) (base n year : ℕ) (t₀ out₀ : List ℕ) (from 
       pub serving-room : to + 16 ≤ length out
       serving-room = let h : to + 16 * suc (length (ordersFrom f (k .child .after))) ≤ length out = rw (serving-order .rest) at (s .room) in omega arith
 
-      pub serving-step : {o : Order} {j : Judged} {code a : ℕ} {t′ out′ : List ℕ} → o ≡ orderOf f k → j ≡ orderComes t base n year o → t′ ≡ orderLeaves t base n year o → length t′ ≡ length t
-          → code ≡ codeOf j → out′ ≡ put out to (outcomeBytes o code) → length out′ ≡ length out → a ≡ one j → a ≤ 1
+      pub serving-step : {o : Order} {j : Ruling} {code a : ℕ} {t′ out′ : List ℕ} → o ≡ orderOf f k → j ≡ orderComes t base n year (ordinativo o) → t′ ≡ orderLeaves t base n year (ordinativo o) → length t′ ≡ length t
+          → code ≡ orderCode j → out′ ≡ put out to (outcomeBytes (ordinativo o) code) → length out′ ≡ length out → a ≡ one j → a ≤ 1
           → Serving f past base n year t₀ out₀ from t′ out′ (k .child .after) (to + 16) (accepted + a)
       unfolding allAccepted allLeave allOutcomes
       serving-step {o} {j} {code} {a} {t′} {out′} eo ej et lt ec eu lu ea la =
@@ -84,13 +88,13 @@ module _ (f past : List ℕ) (base n year : ℕ) (t₀ out₀ : List ℕ) (from 
           let v = s .slots in
           let w = s .few in
           let h : to + 16 * suc (length os) ≤ length out = rw (q .rest) at (s .room) in
-          let c : accepted + (one (orderComes t base n year (orderOf f k)) + allAccepted (orderLeaves t base n year (orderOf f k)) base n year os) ≡ allAccepted t₀ base n year (ordersFrom f from) = rw (q .rest) at (s .counted) in
-          let m : allLeave (orderLeaves t base n year (orderOf f k)) base n year os ≡ allLeave t₀ base n year (ordersFrom f from) = rw (q .rest) at (s .leaves) in
-          let p : put out to (outcomeBytes (orderOf f k) (codeOf (orderComes t base n year (orderOf f k))) ++ allOutcomes (orderLeaves t base n year (orderOf f k)) base n year os) ≡ put out₀ 0 (allOutcomes t₀ base n year (ordersFrom f from)) = rw (q .rest) at (s .outcomes) in
-          let tt : t′ ≡ orderLeaves t base n year (orderOf f k) = et ∙ ap (orderLeaves t base n year) eo in
-          let jj : j ≡ orderComes t base n year (orderOf f k) = ej ∙ ap (orderComes t base n year) eo in
-          let aa : a ≡ one (orderComes t base n year (orderOf f k)) = ea ∙ ap one jj in
-          let uu : out′ ≡ put out to (outcomeBytes (orderOf f k) (codeOf (orderComes t base n year (orderOf f k)))) = rw (← eo, ← ej, ← ec) eu in
+          let c : accepted + (one (orderComes t base n year (ordinativo (orderOf f k))) + allAccepted (orderLeaves t base n year (ordinativo (orderOf f k))) base n year os) ≡ allAccepted t₀ base n year (ordersFrom f from) = rw (q .rest) at (s .counted) in
+          let m : allLeave (orderLeaves t base n year (ordinativo (orderOf f k))) base n year os ≡ allLeave t₀ base n year (ordersFrom f from) = rw (q .rest) at (s .leaves) in
+          let p : put out to (outcomeBytes (ordinativo (orderOf f k)) (orderCode (orderComes t base n year (ordinativo (orderOf f k)))) ++ allOutcomes (orderLeaves t base n year (ordinativo (orderOf f k))) base n year os) ≡ put out₀ 0 (allOutcomes t₀ base n year (ordersFrom f from)) = rw (q .rest) at (s .outcomes) in
+          let tt : t′ ≡ orderLeaves t base n year (ordinativo (orderOf f k)) = et ∙ ap (λ (x : Order). orderLeaves t base n year (ordinativo x)) eo in
+          let jj : j ≡ orderComes t base n year (ordinativo (orderOf f k)) = ej ∙ ap (λ (x : Order). orderComes t base n year (ordinativo x)) eo in
+          let aa : a ≡ one (orderComes t base n year (ordinativo (orderOf f k))) = ea ∙ ap one jj in
+          let uu : out′ ≡ put out to (outcomeBytes (ordinativo (orderOf f k)) (orderCode (orderComes t base n year (ordinativo (orderOf f k))))) = rw (← eo, ← ej, ← ec) eu in
           record {
             rooted = record { within = l .within; holds = q .on; noted = s .rooted .noted };
             slots = omega arith;
@@ -100,5 +104,5 @@ module _ (f past : List ℕ) (base n year : ℕ) (t₀ out₀ : List ℕ) (from 
             same-out = lu ∙ s .same-out;
             counted = rw (tt, aa) (omega arith);
             leaves = rw tt m;
-            outcomes = rw (tt, uu) (put-put out to (outcomeBytes (orderOf f k) (codeOf (orderComes t base n year (orderOf f k)))) _ (to + 16) (omega arith) (ap (λ (x : ℕ). to + x) (outcome-length (orderOf f k) _)) ∙ p);
+            outcomes = rw (tt, uu) (put-put out to (outcomeBytes (ordinativo (orderOf f k)) (orderCode (orderComes t base n year (ordinativo (orderOf f k))))) _ (to + 16) (omega arith) (ap (λ (x : ℕ). to + x) (outcome-length (ordinativo (orderOf f k)) _)) ∙ p);
           }

@@ -2,18 +2,18 @@
 use Prim.Native.Nat.{ℕ, _≤_}
 use mathlib.Core.Path.{_≡_}
 use mathlib.Core.Bool.{true}
-use mathlib.Core.List.{List}
+use mathlib.Core.List.{List, map}
 use lib.ListN.{length}
 use Rattle.markup.specs.Noted.{Noted}
 use Rattle.rows.specs.declared.Parent.the-variants.{FlussoOrdinativi}
 use Rattle.rows.specs.Kept.{keptFrom}
 use Rattle.structure.specs.Structure.{all, keptHolds, fitsAt}
-use Rattle.order.specs.declared.Order.{Order}
+use Rattle.order.specs.Ordinativo.{Ordinativo, ordinativo}
 use Rattle.orders.specs.Orders.{ordersIn}
 
 -- the orders of the root's children from a place on
-abbrev pub ordersFrom : List ℕ → ℕ → List Order
-ordersFrom f from = ordersIn f (keptFrom FlussoOrdinativi f from)
+abbrev pub ordersFrom : List ℕ → ℕ → List Ordinativo
+ordersFrom f from = map ordinativo (ordersIn f (keptFrom FlussoOrdinativi f from))
 
 -- the root's children from a place on each hold what their row says, and the notes are true
 pub record Rooted (f past : List ℕ) (from : ℕ) : Type 0 where

@@ -1,32 +1,32 @@
 // A flow's orders served one after another, each on the table that the one before left, and its outcome written.
 use rows::Next;
 use rows::Parent;
-use rules::Judged;
+use rules::Ruling;
 ghost use mathlib.Core.Path.{_≡_};
 ghost use Prim.Native.Nat.{_+_, _*_, _≤_};
 ghost use lib.ListN.{length};
 ghost use Rattle.words.specs.Numbers.{put};
 ghost use Rattle.record.specs.Slot.{slotSize};
-ghost use Rattle.rules.specs.Rules.{codeOf};
+ghost use Rattle.rules.specs.Rules.{orderCode};
 ghost use Rattle.service.specs.Service.{one, allLeave, allOutcomes, allAccepted};
 ghost use Rattle.serving.specs.Served.{ordersFrom, Rooted};
 
 // An order's code, for its outcome bytes.
-fn code_of(j: Judged) -> u8
-    ensures { λ r. ⌜ r ≡ codeOf j ⌝ }
+fn code_of(j: Ruling) -> u8
+    ensures { λ r. ⌜ r ≡ orderCode j ⌝ }
 {
     match j {
-        Judged::Accepted(_) => 0,
-        Judged::Refused(c) => c,
+        Ruling::Accepted(_, _) => 0,
+        Ruling::Refused(c) => c,
     }
 }
 
-fn one_of(j: Judged) -> usize
+fn one_of(j: Ruling) -> usize
     ensures { λ r. ⌜ (r ≡ one j) × (r ≤ 1) ⌝ }
 {
     match j {
-        Judged::Accepted(_) => 1,
-        Judged::Refused(_) => 0,
+        Ruling::Accepted(_, _) => 1,
+        Ruling::Refused(_) => 0,
     }
 }
 

@@ -2,14 +2,14 @@
 use mathlib.Core.Path.{_≡_, refl, sym, ap, _∙_}
 use mathlib.Core.List.{List, [], _∷_}
 use mathlib.Core.Bool.{Bool, true, false, cond, _&&_, and-true, and-false, and-assoc}
-use Prim.Native.Nat.{ℕ, zero, suc, _+_, _-_, _≤_, _<_}
+use Prim.Native.Nat.{ℕ, zero, suc, _+_, _*_, _/_, _-_, _≤_, _<_}
 use native.Mathlib.Nat.{add-zero}
 use native.Mathlib.Numerals.{add-one}
 use native.Mathlib.Omega.{arith}
-use lib.ListN.{length, drop, drop-of-length-le}
+use lib.ListN.{length, getD, drop, drop-of-length-le}
 use lib.Dec.{eqb, leb}
 use borrow.Author.Tests.{eq-eqb, ne-eqb, le-leb, lt-leb, leb-true, leb-false}
-use Rattle.scan.specs.Bytes.{run}
+use Rattle.scan.specs.Bytes.{between, run}
 use Rattle.tokens.specs.Tokens.{whiteAt}
 use Rattle.children.specs.declared.Child.{Child}
 use Rattle.rows.specs.declared.Parent.{Parent}
@@ -24,31 +24,34 @@ use Rattle.rows.proofs.Laws.{next-at, next-done}
 use Rattle.children.proofs.Laws.{Lies, children-end, children-one}
 use Rattle.structure.specs.Structure.{isNil, all, Range, ranges, takes, allows, rowsOf, isRow, inOrder, textOnly, keptHolds, fitBy, fitsAt}
 use Rattle.structure.proofs.Laws.{kept-row}
-use Rattle.structure.specs.Walk.{upTo, filledBy, filledFrom, countedOf}
+use Rattle.structure.specs.Walk.{paired, filledBy, filledFrom, countedOf}
 
--- ROWS up to the last, a way out of the code at a time
-pub allows-beyond : (last most row n : ℕ) → last < row → allows (upTo last most) row n ≡ false
-allows-beyond zero most zero n h = absurd (omega arith)
-allows-beyond zero most (suc row) n h = refl
-allows-beyond (suc last) most zero n h = absurd (omega arith)
-allows-beyond (suc last) most (suc row) n h = allows-beyond last most row n (omega arith)
+-- PAIRS of bytes, a way out of the code at a time
+paired-short : (ps : List ℕ) (row n : ℕ) → length ps ≤ 2 * row + 1 → allows (paired ps) row n ≡ false
+paired-short [] row n h = refl
+paired-short (a ∷ []) row n h = refl
+paired-short (a ∷ b ∷ t) zero n h = absurd (omega arith)
+paired-short (a ∷ b ∷ t) (suc row) n h = paired-short t row n (omega arith)
 
-pub allows-none : (last most row n : ℕ) → n < 1 → allows (upTo last most) row n ≡ false
-allows-none zero most zero n h = rw (lt-leb 1 n h)
-allows-none zero most (suc row) n h = refl
-allows-none (suc last) most zero n h = rw (lt-leb 1 n h)
-allows-none (suc last) most (suc row) n h = allows-none last most row n h
+paired-at : (ps : List ℕ) (row n : ℕ) → 2 * row + 1 < length ps → allows (paired ps) row n ≡ between (getD ps (2 * row) 0) (getD ps (2 * row + 1) 0) n
+paired-at [] row n h = absurd (omega arith)
+paired-at (a ∷ []) row n h = absurd (omega arith)
+paired-at (a ∷ b ∷ t) zero n h = refl
+paired-at (a ∷ b ∷ t) (suc row) n h =
+    let x : 2 * suc row ≡ suc (suc (2 * row)) = omega arith in
+    let y : 2 * suc row + 1 ≡ suc (suc (2 * row + 1)) = omega arith in
+    rw (y, x) (paired-at t row n (omega arith))
 
-pub allows-before : (last most row n : ℕ) → 1 ≤ n → row < last → allows (upTo last most) row n ≡ leb n 1
-allows-before zero most row n k h = absurd (omega arith)
-allows-before (suc last) most zero n k h = rw (le-leb 1 n k)
-allows-before (suc last) most (suc row) n k h = allows-before last most row n k (omega arith)
+module _ (ps : List ℕ) (row n : ℕ) where
+  pub pairs-beyond : length ps / 2 ≤ row → false ≡ allows (paired ps) row n
+  pairs-beyond h = sym (paired-short ps row n (omega arith))
 
-pub allows-last : (last most row n : ℕ) → 1 ≤ n → row ≡ last → allows (upTo last most) row n ≡ leb n most
-allows-last zero most zero n k h = rw (le-leb 1 n k)
-allows-last zero most (suc row) n k h = absurd (omega arith)
-allows-last (suc last) most zero n k h = absurd (omega arith)
-allows-last (suc last) most (suc row) n k h = allows-last last most row n k (omega arith)
+  module _ (h : row < length ps / 2) where
+    pub pairs-less : n < getD ps (2 * row) 0 → false ≡ allows (paired ps) row n
+    pairs-less k = sym (paired-at ps row n (omega arith) ∙ rw (lt-leb (getD ps (2 * row) 0) n k))
+
+    pub pairs-most : getD ps (2 * row) 0 ≤ n → leb n (getD ps (2 * row + 1) 0) ≡ allows (paired ps) row n
+    pairs-most k = sym (paired-at ps row n (omega arith) ∙ rw (le-leb (getD ps (2 * row) 0) n k))
 
 pub some-row : (p : Parent) → 0 < length (ranges (table p))
 some-row FlussoOrdinativi = omega arith
@@ -180,9 +183,9 @@ unfoldable pub goesOn : List Range → (Kept → Bool) → ℕ → ℕ → List 
 goesOn rs f row n ks = inOrderFrom (drop row rs) row n (rowsOf ks) && all f ks
 
 -- a child's part, and the others' in the order of the rows
-between : (a b c : Bool) → (a && (b && c)) ≡ (b && (a && c))
-between true b c = refl
-between false b c = sym (and-false b)
+and-swap : (a b c : Bool) → (a && (b && c)) ≡ (b && (a && c))
+and-swap true b c = refl
+and-swap false b c = sym (and-false b)
 
 module _ (rs : List Range) (f : Kept → Bool) (row n : ℕ) (ks : List Kept) where
   pub goes-end : ks ≡ [] → row < length rs → goesOn rs f row n ks ≡ filledFrom rs row n (length rs)
@@ -196,7 +199,7 @@ module _ (rs : List Range) (f : Kept → Bool) (row n : ℕ) (ks : List Kept) wh
 
     pub goes-on : filledFrom rs row n (k .row) ≡ true → goesOn rs f row n ks ≡ (f k && goesOn rs f (k .row) (countedOf row n (k .row)) t)
     unfolding goesOn rowsOf all
-    goes-on g = rw (e, order-step rs row n (k .row) (rowsOf t), g) (between (inOrderFrom (drop (k .row) rs) (k .row) (countedOf row n (k .row)) (rowsOf t)) (f k) (all f t))
+    goes-on g = rw (e, order-step rs row n (k .row) (rowsOf t), g) (and-swap (inOrderFrom (drop (k .row) rs) (k .row) (countedOf row n (k .row)) (rowsOf t)) (f k) (all f t))
 
 -- ONE LEVEL
 -- what the level below says of a parent's content

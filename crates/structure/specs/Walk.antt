@@ -5,10 +5,11 @@ use mathlib.Core.Bool.{Bool, true, cond, _&&_}
 use lib.Dec.{eqb, leb}
 use Rattle.structure.specs.Structure.{Range, allows}
 
--- the rows of a table: one element in each of the first, 1 to `most` in row `last`
-abbrev pub upTo : ℕ → ℕ → List Range
-upTo zero most = record { least = 1; most = most } ∷ []
-upTo (suc last) most = record { least = 1; most = 1 } ∷ upTo last most
+-- a table's rows, where the least and the most of each are a pair of bytes
+abbrev pub paired : List ℕ → List Range
+paired [] = []
+paired (a ∷ []) = []
+paired (a ∷ b ∷ t) = record { least = a; most = b } ∷ paired t
 
 -- d rows from `row` on, n elements of the first and none of the others counted, take what they have
 unfoldable pub filledBy : ℕ → List Range → ℕ → ℕ → Bool

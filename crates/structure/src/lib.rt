@@ -7,37 +7,43 @@ ghost use lib.ListN.{length};
 ghost use Rattle.markup.specs.Noted.{Noted};
 ghost use Rattle.rows.specs.Table.{table};
 ghost use Rattle.structure.specs.Structure.{ranges, allows, textOnly};
-ghost use Rattle.structure.specs.Walk.{upTo, filledFrom, countedOf};
+ghost use Rattle.structure.specs.Walk.{paired, filledFrom, countedOf};
 
-// Whether n elements may stand in a row, where one stands in each row before the last and 1 to `most` in that.
-fn row_allows(row: usize, n: usize, last: usize, most: usize) -> bool
-    ensures { λ r. ⌜ r ≡ allows (upTo last most) row n ⌝ }
+// HOW MANY elements each row of a parent takes: for each row the least and the most.
+const FLUSSO_ORDINATIVI: [u8; 12] = *b"\x01\x01\x01\x01\x01\x01\x01\x01\x01\x01\x01\x40";
+
+const MANDATO: [u8; 10] = *b"\x01\x01\x01\x01\x01\x01\x01\x01\x01\x08";
+
+const REVERSALE: [u8; 10] = *b"\x01\x01\x01\x01\x01\x01\x01\x01\x01\x08";
+
+const INFORMAZIONI_BENEFICIARIO: [u8; 6] = *b"\x01\x01\x01\x01\x01\x01";
+
+const INFORMAZIONI_VERSANTE: [u8; 6] = *b"\x01\x01\x01\x01\x01\x01";
+
+const BENEFICIARIO: [u8; 2] = *b"\x01\x01";
+
+const VERSANTE: [u8; 2] = *b"\x01\x01";
+
+// A byte as a number.
+fn wide(b: u8) -> usize
+    ensures { λ r. ⌜ r ≡ b ⌝ }
 {
-    if last < row {
-        return false;
-    }
-    if n < 1 {
-        return false;
-    }
-    if row < last {
-        return n <= 1;
-    }
-    n <= most
+    b as usize
 }
 
-// Whether n elements may stand in a row of the parent.
-fn allowed(parent: Parent, row: usize, n: usize) -> bool
-    ensures { λ r. ⌜ r ≡ allows (ranges (table parent)) row n ⌝ }
+// Whether n elements may stand in a row, where the least and the most of each row are a pair of bytes.
+fn row_allows(row: usize, n: usize, pairs: &[u8]) -> bool
+    ensures { λ r. ⌜ r ≡ allows (paired (now (pairs .entry))) row n ⌝ }
 {
-    match parent {
-        Parent::FlussoOrdinativi => row_allows(row, n, 5, 64),
-        Parent::Mandato => row_allows(row, n, 4, 8),
-        Parent::Reversale => row_allows(row, n, 4, 8),
-        Parent::InformazioniBeneficiario => row_allows(row, n, 2, 1),
-        Parent::InformazioniVersante => row_allows(row, n, 2, 1),
-        Parent::Beneficiario => row_allows(row, n, 0, 1),
-        Parent::Versante => row_allows(row, n, 0, 1),
+    if pairs.len() / 2 <= row {
+        return false;
     }
+    let i = 2 * row;
+    let j = i + 1;
+    if n < wide(pairs[i]) {
+        return false;
+    }
+    n <= wide(pairs[j])
 }
 
 pub fn rows(parent: Parent) -> usize
@@ -55,8 +61,8 @@ pub fn rows(parent: Parent) -> usize
 }
 
 // Whether `to` is no earlier row than `row`, and the rows from that, with n elements so far, up to `to` have what they take.
-pub fn filled(parent: Parent, row: usize, n: usize, to: usize) -> bool
-    ensures { λ r. ⌜ r ≡ filledFrom (ranges (table parent)) row n to ⌝ }
+fn filled_in(row: usize, n: usize, to: usize, pairs: &[u8]) -> bool
+    ensures { λ r. ⌜ r ≡ filledFrom (paired (now (pairs .entry))) row n to ⌝ }
 {
     if to < row {
         return false;
@@ -64,13 +70,49 @@ pub fn filled(parent: Parent, row: usize, n: usize, to: usize) -> bool
     let mut i = row;
     let mut m = n;
     while i < to {
-        if !allowed(parent, i, m) {
+        if !row_allows(i, m, pairs) {
             return false;
         }
         i += 1;
         m = 0;
     }
     true
+}
+
+// The same of the parent's rows.
+pub fn filled(parent: Parent, row: usize, n: usize, to: usize) -> bool
+    ensures { λ r. ⌜ r ≡ filledFrom (ranges (table parent)) row n to ⌝ }
+{
+    match parent {
+        Parent::FlussoOrdinativi => {
+            let pairs = FLUSSO_ORDINATIVI;
+            filled_in(row, n, to, &pairs)
+        }
+        Parent::Mandato => {
+            let pairs = MANDATO;
+            filled_in(row, n, to, &pairs)
+        }
+        Parent::Reversale => {
+            let pairs = REVERSALE;
+            filled_in(row, n, to, &pairs)
+        }
+        Parent::InformazioniBeneficiario => {
+            let pairs = INFORMAZIONI_BENEFICIARIO;
+            filled_in(row, n, to, &pairs)
+        }
+        Parent::InformazioniVersante => {
+            let pairs = INFORMAZIONI_VERSANTE;
+            filled_in(row, n, to, &pairs)
+        }
+        Parent::Beneficiario => {
+            let pairs = BENEFICIARIO;
+            filled_in(row, n, to, &pairs)
+        }
+        Parent::Versante => {
+            let pairs = VERSANTE;
+            filled_in(row, n, to, &pairs)
+        }
+    }
 }
 
 // How many elements of row `to` there are with one more, after n of `row`.

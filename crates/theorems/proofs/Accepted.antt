@@ -10,10 +10,10 @@ use borrow.Author.Tests.{eqb-true}
 use lib.ListN.{length, drop}
 use Rattle.words.specs.Numbers.{put}
 use Rattle.slots.specs.Slots.{recordsAt}
-use Rattle.order.specs.declared.Order.{Order}
-use Rattle.rules.specs.declared.Judged.{Judged}
-use Rattle.rules.specs.declared.Judged.the-variants.{Accepted, Refused}
-use Rattle.rules.specs.Rules.{codeOf, judgeOrder}
+use Rattle.order.specs.Ordinativo.{Ordinativo}
+use Rattle.rules.specs.declared.Ruling.{Ruling}
+use Rattle.rules.specs.declared.Ruling.the-variants.{Accepted, Refused}
+use Rattle.rules.specs.Rules.{orderCode, judgeOrder}
 use Rattle.service.specs.Service.{orderComes, orderLeaves, outcomeBytes, allOutcomes, allAccepted, one}
 use Rattle.desk.specs.declared.FlowAnswer.{FlowAnswer}
 use Rattle.desk.specs.Desk.{Reading, refused, served, flowReads, flowAnswer, FlowPromise, flowReply, flowCode}
@@ -26,23 +26,23 @@ use Rattle.theorems.proofs.Codes.{Coded, order-coded, judged-codes}
 never : _≡_ {A = Bool} false true → ⊥
 never z = let y : _≡_ {A = ℕ} 0 1 = cc in omega arith
 
-judged-one : (j : Judged) → Coded j → one j ≡ cond (eqb (codeOf j) 0) 1 0
-judged-one (Accepted i) h = refl
-judged-one (Refused c) h = go (eqb c 0) refl
+judged-one : (j : Ruling) → Coded j → one j ≡ cond (eqb (orderCode j) 0) 1 0
+judged-one (Accepted c i) h = refl
+judged-one (Refused code) h = go (eqb code 0) refl
   where
-    go : (u : Bool) → eqb c 0 ≡ u → _≡_ {A = ℕ} 0 (cond u 1 0)
+    go : (u : Bool) → eqb code 0 ≡ u → _≡_ {A = ℕ} 0 (cond u 1 0)
     go false e = refl
-    go true e = absurd (never (sym (ap (oneOf orderRefusals) (eqb-true c 0 e)) ∙ h))
+    go true e = absurd (never (sym (ap (oneOf orderRefusals) (eqb-true code 0 e)) ∙ h))
 
 module _ (base n year : ℕ) where
   -- the outcome bytes have the rules' codes
-  written : (t : List ℕ) (os : List Order) (rest : List ℕ) → outcomeCodes (length os) (allOutcomes t base n year os ++ rest) ≡ inTurn t base n year os
+  written : (t : List ℕ) (os : List Ordinativo) (rest : List ℕ) → outcomeCodes (length os) (allOutcomes t base n year os ++ rest) ≡ inTurn t base n year os
   unfolding allOutcomes outcomeBytes orderComes
   written t [] rest = refl
-  written t (o ∷ os) rest = ap (λ (cs : List ℕ). codeOf (judgeOrder n year o (recordsAt t base n)) ∷ cs) (written (orderLeaves t base n year o) os rest)
+  written t (o ∷ os) rest = ap (λ (cs : List ℕ). orderCode (judgeOrder n year o (recordsAt t base n)) ∷ cs) (written (orderLeaves t base n year o) os rest)
 
   -- which are numbered ones, and of which as many are 0 as orders are accepted
-  numbered : (t : List ℕ) (os : List Order) → each (oneOf orderCodes) (inTurn t base n year os) ≡ true
+  numbered : (t : List ℕ) (os : List Ordinativo) → each (oneOf orderCodes) (inTurn t base n year os) ≡ true
   numbered t [] = refl
   numbered t (o ∷ os) =
       let rs = recordsAt t base n in
@@ -50,7 +50,7 @@ module _ (base n year : ℕ) where
       let d = numbered (orderLeaves t base n year o) os in
       λ i. e i && d i
 
-  counted : (t : List ℕ) (os : List Order) → allAccepted t base n year os ≡ zeroCodes (inTurn t base n year os)
+  counted : (t : List ℕ) (os : List Ordinativo) → allAccepted t base n year os ≡ zeroCodes (inTurn t base n year os)
   unfolding allAccepted orderComes
   counted t [] = refl
   counted t (o ∷ os) =
@@ -61,7 +61,7 @@ module _ (base n year : ℕ) where
 
 -- THE THEOREMS, about what keeps the promise of a flow
 module _ (t f out : List ℕ) (a : FlowAnswer) (t′ out′ : List ℕ) (p : FlowPromise t f out a t′ out′) where
-  pub orders-in-turn : (base n year : ℕ) (os : List Order) → flowReads t f (length out) ≡ served base n year os
+  pub orders-in-turn : (base n year : ℕ) (os : List Ordinativo) → flowReads t f (length out) ≡ served base n year os
       → (flowReply a .orders ≡ length os) × (outcomeCodes (length os) out′ ≡ inTurn t base n year os)
   unfolding put
   orders-in-turn base n year os e =
@@ -71,7 +71,7 @@ module _ (t f out : List ℕ) (a : FlowAnswer) (t′ out′ : List ℕ) (p : Flo
       )
 
   -- a flow taken was served
-  taken : {P : Type 0} → flowCode a ≡ 0 → ((base n year : ℕ) (os : List Order) → flowReads t f (length out) ≡ served base n year os → P) → P
+  taken : {P : Type 0} → flowCode a ≡ 0 → ((base n year : ℕ) (os : List Ordinativo) → flowReads t f (length out) ≡ served base n year os → P) → P
   taken {P} z k = go (flowReads t f (length out)) refl (read t f (length out) .coding) (p .0)
     where
       go : (g : Reading) → flowReads t f (length out) ≡ g → Coding g → a ≡ flowAnswer t (flowReads t f (length out)) → P

@@ -12,18 +12,20 @@ use Rattle.ranges.specs.declared.Found.the-variants.{At, Nothing}
 use Rattle.codes.specs.declared.Operation.{Operation}
 use Rattle.codes.specs.declared.Operation.the-variants.{Inserimento, Variazione, Annullo, Sostituzione}
 use Rattle.order.specs.declared.Line.{Line}
-use Rattle.order.specs.declared.Order.{Order}
+use Rattle.order.specs.Ordinativo.{Ordinativo}
 use Rattle.record.specs.declared.Key.{Key}
 use Rattle.record.specs.declared.Record.{Record}
 use Rattle.slots.specs.Slots.{findIn, recordsAt}
-use Rattle.lines.specs.Lines.{numberedFrom, sumOf, linesOf, lineCode}
+use Rattle.lines.specs.Lines.{numberedFrom, sumOf, lineCode}
 use Rattle.rules.specs.declared.Situation.{Situation}
 use Rattle.rules.specs.declared.Situation.the-variants.{Absent, Annulled, Waiting, Executed}
-use Rattle.rules.specs.declared.Judged.{Judged}
-use Rattle.rules.specs.declared.Judged.the-variants.{Accepted, Refused}
+use Rattle.rules.specs.declared.Change.{Change}
+use Rattle.rules.specs.declared.Change.the-variants.{Insert, Vary, Annul}
+use Rattle.rules.specs.declared.Ruling.{Ruling}
+use Rattle.rules.specs.declared.Ruling.the-variants.{Accepted, Refused}
 use Rattle.rules.specs.declared.Noticed.{Noticed}
 use Rattle.rules.specs.declared.Noticed.the-variants.{Moved, Unmoved}
-use Rattle.rules.specs.Rules.{situationOf, stepOf, nth, sameOrder, placed, unless, stepped, sostituzione, keyFor, judgeOrder, codeOf, lineMoves, moveOr, noticeIn, noticeAt, judgeNotice, noticeCode}
+use Rattle.rules.specs.Rules.{asksOf, situationOf, stepCode, nth, sameOrder, placed, unless, stepped, judgeChange, judgeAsked, keyFor, judgeOrder, orderCode, lineMoves, moveOr, noticeIn, noticeAt, judgeNotice, noticeCode}
 use Rattle.service.specs.Service.{noticeComes}
 use Rattle.address.specs.declared.Addressed.{Addressed}
 use Rattle.address.specs.declared.Addressed.the-variants.{Invalid, Unknown, Body}
@@ -45,23 +47,17 @@ abbrev Or : List ℕ → ℕ → Type 0
 Or xs c = (c ≡ 0) ⊎ (oneOf xs c ≡ true)
 
 -- AN ORDER: accepted, or refused with one of the codes
-abbrev pub Coded : Judged → Type 0
-Coded (Accepted i) = Unit
-Coded (Refused c) = oneOf orderRefusals c ≡ true
+abbrev pub Coded : Ruling → Type 0
+Coded (Accepted c i) = Unit
+Coded (Refused code) = oneOf orderRefusals code ≡ true
 
 later : (c : ℕ) → Or orderRefusals (suc c) → oneOf orderRefusals (suc c) ≡ true
 later c (inl e) = absurd (omega arith)
 later c (inr e) = e
 
-unless-coded : (c : ℕ) (j : Judged) → Or orderRefusals c → Coded j → Coded (unless c j)
+unless-coded : (c : ℕ) (j : Ruling) → Or orderRefusals c → Coded j → Coded (unless c j)
 unless-coded zero j h k = k
 unless-coded (suc c) j h k = later c h
-
-sostituzione-coded : (o : Operation) → Or orderRefusals (sostituzione o)
-sostituzione-coded Inserimento = inl refl
-sostituzione-coded Variazione = inl refl
-sostituzione-coded Annullo = inl refl
-sostituzione-coded Sostituzione = inr refl
 
 lines-coded : (ls : List Line) (total : ℕ) → Or orderRefusals (lineCode ls total)
 unfolding lineCode
@@ -72,48 +68,52 @@ lines-coded ls total = go (numberedFrom 1 ls) (eqb (sumOf ls) total)
     go true false = inr refl
     go false b = inr refl
 
-step-coded : (o : Operation) (s : Situation) → Or orderRefusals (stepOf o s)
-step-coded Inserimento Absent = inl refl
-step-coded Inserimento Annulled = inr refl
-step-coded Inserimento Waiting = inr refl
-step-coded Inserimento Executed = inr refl
-step-coded Variazione Absent = inr refl
-step-coded Variazione Annulled = inr refl
-step-coded Variazione Waiting = inl refl
-step-coded Variazione Executed = inr refl
-step-coded Annullo Absent = inr refl
-step-coded Annullo Annulled = inr refl
-step-coded Annullo Waiting = inl refl
-step-coded Annullo Executed = inr refl
-step-coded Sostituzione Absent = inl refl
-step-coded Sostituzione Annulled = inl refl
-step-coded Sostituzione Waiting = inl refl
-step-coded Sostituzione Executed = inl refl
+step-coded : (c : Change) (s : Situation) → Or orderRefusals (stepCode c s)
+step-coded Insert Absent = inl refl
+step-coded Insert Annulled = inr refl
+step-coded Insert Waiting = inr refl
+step-coded Insert Executed = inr refl
+step-coded Vary Absent = inr refl
+step-coded Vary Annulled = inr refl
+step-coded Vary Waiting = inl refl
+step-coded Vary Executed = inr refl
+step-coded Annul Absent = inr refl
+step-coded Annul Annulled = inr refl
+step-coded Annul Waiting = inl refl
+step-coded Annul Executed = inr refl
 
-or-else : (b : Bool) (i c : ℕ) → oneOf orderRefusals c ≡ true → Coded (cond b (Accepted i) (Refused c))
-or-else true i c e = tt
-or-else false i c e = e
+or-else : (b : Bool) (c : Change) (i code : ℕ) → oneOf orderRefusals code ≡ true → Coded (cond b (Accepted c i) (Refused code))
+or-else true c i code e = tt
+or-else false c i code e = e
 
-placed-coded : (slots : ℕ) (o : Order) (rs : List Record) (op : Operation) (f : Found) → Coded (placed slots o rs op f)
+placed-coded : (slots : ℕ) (o : Ordinativo) (rs : List Record) (c : Change) (f : Found) → Coded (placed slots o rs c f)
 unfolding placed
-placed-coded slots o rs Inserimento f = or-else (ltb (length rs) slots) (length rs) 15 refl
-placed-coded slots o rs Variazione (At i) = tt
-placed-coded slots o rs Variazione Nothing = refl
-placed-coded slots o rs Annullo (At i) = or-else (sameOrder o (nth rs i)) i 19 refl
-placed-coded slots o rs Annullo Nothing = refl
-placed-coded slots o rs Sostituzione f = refl
+placed-coded slots o rs Insert f = or-else (ltb (length rs) slots) Insert (length rs) 15 refl
+placed-coded slots o rs Vary (At i) = tt
+placed-coded slots o rs Vary Nothing = refl
+placed-coded slots o rs Annul (At i) = or-else (sameOrder o (nth rs i)) Annul i 19 refl
+placed-coded slots o rs Annul Nothing = refl
 
-pub order-coded : (slots year : ℕ) (o : Order) (rs : List Record) → Coded (judgeOrder slots year o rs)
-unfolding judgeOrder stepped
-order-coded slots year o rs =
+change-coded : (slots year : ℕ) (o : Ordinativo) (rs : List Record) (c : Change) → Coded (judgeChange slots year o rs c)
+unfolding stepped
+change-coded slots year o rs c =
     let f = findIn rs 0 (keyFor year o) in
-    unless-coded (sostituzione (o .operation)) _ (sostituzione-coded (o .operation))
-    (unless-coded (lineCode (linesOf (o .lines)) (o .total)) _ (lines-coded (linesOf (o .lines)) (o .total))
-    (unless-coded (stepOf (o .operation) (situationOf rs f)) _ (step-coded (o .operation) (situationOf rs f)) (placed-coded slots o rs (o .operation) f)))
+    unless-coded (lineCode (o .lines) (o .total)) _ (lines-coded (o .lines) (o .total))
+    (unless-coded (stepCode c (situationOf rs f)) _ (step-coded c (situationOf rs f)) (placed-coded slots o rs c f))
+
+pub order-coded : (slots year : ℕ) (o : Ordinativo) (rs : List Record) → Coded (judgeOrder slots year o rs)
+unfolding judgeOrder
+order-coded slots year o rs = go (o .operation)
+  where
+    go : (p : Operation) → Coded (judgeAsked slots year o rs (asksOf p))
+    go Inserimento = change-coded slots year o rs Insert
+    go Variazione = change-coded slots year o rs Vary
+    go Annullo = change-coded slots year o rs Annul
+    go Sostituzione = refl
 
 -- so an outcome's code is 0 where the order is accepted, and there alone
-pub never-zero : (j : Judged) → Coded j → (codeOf j ≡ 0 → (i : ℕ) × (j ≡ Accepted i))
-never-zero (Accepted i) h e = (i, refl)
+pub never-zero : (j : Ruling) → Coded j → (orderCode j ≡ 0 → (c : Change) × (i : ℕ) × (j ≡ Accepted c i))
+never-zero (Accepted c i) h e = (c, i, refl)
 never-zero (Refused c) h e = absurd (let z : _≡_ {A = Bool} false true = sym (ap (oneOf orderRefusals) e) ∙ h in no z)
   where
     no : _≡_ {A = Bool} false true → ⊥
@@ -123,8 +123,8 @@ or-true : (b : Bool) {c : Bool} → c ≡ true → b || c ≡ true
 or-true true e = refl
 or-true false e = e
 
-pub judged-codes : (j : Judged) → Coded j → oneOf orderCodes (codeOf j) ≡ true
-judged-codes (Accepted i) h = refl
+pub judged-codes : (j : Ruling) → Coded j → oneOf orderCodes (orderCode j) ≡ true
+judged-codes (Accepted c i) h = refl
 judged-codes (Refused c) h = or-true (eqb c 0) h
 
 -- OPENING
@@ -167,7 +167,7 @@ unfolding noticeAt
 at-coded executing line rs Nothing = both-have executing .0
 at-coded executing line rs (At i) = in-coded executing line i (nth rs i)
 
-noticed-code : (m : Noticed) → noticeCodeOf (noticed m) ≡ noticeCode m
+pub noticed-code : (m : Noticed) → noticeCodeOf (noticed m) ≡ noticeCode m
 noticed-code (Moved i cents) = refl
 noticed-code (Unmoved c) = refl
 

@@ -3,13 +3,13 @@ use Prim.Native.Nat.{ℕ}
 use mathlib.Core.Path.{_≡_, refl, ap, _∙_}
 use mathlib.Core.Bool.{Bool}
 use mathlib.Core.List.{List}
-use Rattle.order.specs.declared.Order.{Order}
+use Rattle.order.specs.Ordinativo.{Ordinativo}
 use Rattle.record.specs.declared.Key.{Key}
-use Rattle.rules.specs.declared.Judged.{Judged}
-use Rattle.rules.specs.declared.Judged.the-variants.{Accepted, Refused}
+use Rattle.rules.specs.declared.Ruling.{Ruling}
+use Rattle.rules.specs.declared.Ruling.the-variants.{Accepted, Refused}
 use Rattle.rules.specs.declared.Noticed.{Noticed}
 use Rattle.rules.specs.declared.Noticed.the-variants.{Moved, Unmoved}
-use Rattle.rules.specs.Rules.{codeOf}
+use Rattle.rules.specs.Rules.{orderCode}
 use Rattle.service.specs.Service.{orderComes, orderStored, noticeComes, noticeStored}
 use Rattle.address.specs.declared.Addressed.{Addressed}
 use Rattle.address.specs.declared.Addressed.the-variants.{Invalid, Unknown, Body}
@@ -24,9 +24,9 @@ use Rattle.theorems.proofs.Steps.{answer, after, steps}
 use Rattle.theorems.proofs.Codes.{open-codes, call-codes}
 use Rattle.theorems.proofs.Accepted.{outcomes-coded}
 
-stored : (t : List ℕ) (base year : ℕ) (o : Order) (j : Judged) → (codeOf j ≡ 0 → ⊥) → orderStored t base year o j ≡ t
+stored : (t : List ℕ) (base year : ℕ) (o : Ordinativo) (j : Ruling) → (orderCode j ≡ 0 → ⊥) → orderStored t base year o j ≡ t
 unfolding orderStored
-stored t base year o (Accepted i) f = absurd (f refl)
+stored t base year o (Accepted c i) f = absurd (f refl)
 stored t base year o (Refused c) f = refl
 
 moved : (t : List ℕ) (base : ℕ) (executing : Bool) (line : ℕ) (m : Noticed) → (noticeCodeOf (noticed m) ≡ 0 → ⊥) → noticeStored t base executing line m ≡ t

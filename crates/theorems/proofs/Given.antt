@@ -12,7 +12,7 @@ use Rattle.ranges.specs.declared.Found.{Found}
 use Rattle.ranges.specs.declared.Found.the-variants.{At, Nothing}
 use Rattle.entries.specs.Entry.{slotsOf, placeOf}
 use Rattle.table.specs.Table.{tableOk, abiOf, bodyOf, entryOf}
-use Rattle.order.specs.declared.Order.{Order}
+use Rattle.order.specs.Ordinativo.{Ordinativo}
 use Rattle.orders.specs.Orders.{Header}
 use Rattle.flow.specs.declared.Verdict.{Verdict}
 use Rattle.flow.specs.declared.Verdict.the-variants.{MarkupBreaks, StructureBreaks, FieldBreaks, Stands}
@@ -35,16 +35,16 @@ module _ (t f : List ℕ) (room : ℕ) where
     pub place : flowReply (flowAnswer t g) .place ≡ cond (eqb (flowCode (flowAnswer t g)) 5) p 0
     pub coding : Coding g
 
-  by-room : (base n year : ℕ) (os : List Order) (u : Bool) → Given (firstOf ((8, not u) ∷ [])) 0 (cond u (served base n year os) (refused NoRoom))
+  by-room : (base n year : ℕ) (os : List Ordinativo) (u : Bool) → Given (firstOf ((8, not u) ∷ [])) 0 (cond u (served base n year os) (refused NoRoom))
   by-room base n year os true = record { code = refl; place = refl; coding = tt }
   by-room base n year os false = record { code = refl; place = refl; coding = λ e. omega arith }
 
-  by-body : (year : ℕ) (os : List Order) (x : Found)
+  by-body : (year : ℕ) (os : List Ordinativo) (x : Found)
       → Given (firstOf ((7, isNothing x) ∷ (8, not (leb (16 * length os) room)) ∷ [])) 0 (forBody room year os (bodyAt t x))
   by-body year os Nothing = record { code = refl; place = refl; coding = λ e. omega arith }
   by-body year os (At b) = by-room (placeOf t (entryOf b)) (slotsOf t (entryOf b)) year os (leb (16 * length os) room)
 
-  by-bank : (h : Header) (os : List Order) (u : Bool)
+  by-bank : (h : Header) (os : List Ordinativo) (u : Bool)
       → Given (firstOf ((6, not u) ∷ (7, isNothing (bodyOf t (h .ente))) ∷ (8, not (leb (16 * length os) room)) ∷ [])) 0
       (cond u (forBody room (h .esercizio) os (bodyAt t (bodyOf t (h .ente)))) (refused OtherBank))
   by-bank h os true = by-body (h .esercizio) os (bodyOf t (h .ente))

@@ -16,14 +16,15 @@ use Rattle.body.proofs.Same.{records-agree}
 use Rattle.body.proofs.Slots.{parts, empty-records}
 use Rattle.entries.specs.Entry.{slotsOf, placeOf}
 use Rattle.table.specs.Table.{bodies, tableOk, bodyOf, entryOf}
-use Rattle.order.specs.declared.Order.{Order}
+use Rattle.order.specs.Ordinativo.{Ordinativo}
 use Rattle.rules.specs.declared.Noticed.{Noticed}
 use Rattle.rules.specs.declared.Noticed.the-variants.{Moved, Unmoved}
 use Rattle.rules.specs.Rules.{judgeNotice}
 use Rattle.rules.proofs.Judging.{moved}
 use Rattle.service.specs.Service.{noticeComes}
-use Rattle.service.proofs.Kept.{allRecords, all-records}
-use Rattle.service.proofs.Moved.{recordsMoved, notice-records}
+use Rattle.rules.specs.Effects.{allRecords, recordsMoved}
+use Rattle.service.proofs.Kept.{all-records}
+use Rattle.service.proofs.Moved.{notice-records}
 use Rattle.notices.specs.Notices.{noticed, noticeBy, noticeTableBy}
 use Rattle.request.specs.Request.{requestOk}
 use Rattle.opening.specs.Opening.{opened}
@@ -35,7 +36,8 @@ use Rattle.theorems.specs.History.{Weight, ofExecution, ofReversal, exec
 use Rattle.theorems.proofs.Steps.{answer, after, one-step}
 use Rattle.theorems.proofs.Good.{Good, fresh, base, size, inside, find-is, place-is, slots-is, ready, owned-alike}
 use Rattle.theorems.proofs.Named.{Names, stray, body, names, Reads, refuses, shuts, serves, reads}
-use Rattle.theorems.proofs.Condition2.{condition2, found-valid}
+use Rattle.theorems.proofs.Condition2.{condition2}
+use Rattle.theorems.proofs.Exactly.{found-valid}
 use Rattle.theorems.proofs.Condition3.{laws, found-at, OpenedBy, answered-0, open-valid}
 use Rattle.theorems.proofs.Worth.{orders-worth, execute-worth, reverse-worth, cents-worth, one-most}
 
@@ -52,7 +54,7 @@ module _ (E : Engine) (t₀ : List ℕ) (r : tableOk t₀ ≡ true) (cs : List C
 
 -- a number that a body's records tell: no order moves it, and a notice moves it by what its answer weighs
 pub record Weighs (w : Weight) (h : List Record → ℕ) : Type 0 where
-  pub orders : (slots year : ℕ) (os : List Order) (rs : List Record) → h (allRecords slots year os rs) ≡ h rs
+  pub orders : (slots year : ℕ) (os : List Ordinativo) (rs : List Record) → h (allRecords slots year os rs) ≡ h rs
   pub executes : (t : List ℕ) (at n : ℕ) → bodyOk t at n ≡ true → (k : Key) (line : ℕ) (m : Noticed) → judgeNotice true k line (recordsAt t at n) ≡ m
       → h (recordsMoved true line (recordsAt t at n) m) ≡ h (recordsAt t at n) + w k line (noticed m)
   pub reverses : (t : List ℕ) (at n : ℕ) → bodyOk t at n ≡ true → (k : Key) (line : ℕ) (m : Noticed) → judgeNotice false k line (recordsAt t at n) ≡ m

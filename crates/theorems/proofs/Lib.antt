@@ -11,3 +11,4 @@ pub mod Condition3
 pub mod History
 pub mod NoSecond
 pub mod Condition1
+pub mod Exactly

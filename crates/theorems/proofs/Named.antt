@@ -12,8 +12,7 @@ use Rattle.ranges.specs.declared.Found.{Found}
 use Rattle.ranges.specs.declared.Found.the-variants.{At, Nothing}
 use Rattle.table.specs.Table.{bodies, abiOf, tableOk, bodyOf, entryOf}
 use Rattle.table.proofs.Bodies.{found-body}
-use Rattle.order.specs.declared.Line.{Line}
-use Rattle.order.specs.declared.Order.{Order}
+use Rattle.order.specs.Ordinativo.{Ordinativo}
 use Rattle.orders.specs.Orders.{Header}
 use Rattle.flow.specs.declared.Verdict.{Verdict}
 use Rattle.flow.specs.declared.Verdict.the-variants.{MarkupBreaks, StructureBreaks, FieldBreaks, Stands}
@@ -46,22 +45,14 @@ pub data Reads (t₀ f out : List ℕ) : Option ℕ → Type 0 where
   -- body b's, with no room for its outcomes
   shuts : (b : ℕ) → b < bodies t₀ → Always t₀ f out (refused NoRoom) → Reads t₀ f out (some b)
   -- body b's, served
-  serves : (b : ℕ) → b < bodies t₀ → (year : ℕ) (os : List Order) → Writables os → (2000 ≤ year) × (year ≤ 2099) → Always t₀ f out (served (base t₀ b) (size t₀ b) year os)
+  serves : (b : ℕ) → b < bodies t₀ → (year : ℕ) (os : List Ordinativo) → Writables os → (2000 ≤ year) × (year ≤ 2099) → Always t₀ f out (served (base t₀ b) (size t₀ b) year os)
       → Reads t₀ f out (some b)
 
 -- THE ORDERS OF A FLOW THAT STANDS
-writable : (o : Order) → OrderOk o → Writable o
-writable o h = record {
-  kind = h .kind;
-  number = h .number;
-  date = h .date;
-  total = h .total;
-  count = h .count;
-  eight = h .size;
-  rest = λ k l. ap (λ (x : Line). x .amount) (h .beyond k l);
-}
+writable : (o : Ordinativo) → OrderOk o → Writable o
+writable o h = record { kind = h .kind; number = h .number; date = h .date; total = h .total; count = h .count }
 
-writables : (os : List Order) → Each OrderOk os → Writables os
+writables : (os : List Ordinativo) → Each OrderOk os → Writables os
 writables [] h = none
 writables (o ∷ os) h = more (writable o (h .0)) (writables os (h .1))
 
@@ -104,7 +95,7 @@ module _ (t₀ : List ℕ) (r : tableOk t₀ ≡ true) where
         abbrev h : Header
         h = headerOf f at
 
-        abbrev os : List Order
+        abbrev os : List Ordinativo
         os = flowOrders f at
 
         bank-reads : (u : Bool) → textIs (abiOf t₀) (h .abi) ≡ u → (t : List ℕ) → Good t₀ t

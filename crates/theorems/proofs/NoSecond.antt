@@ -4,8 +4,10 @@ use mathlib.Core.Path.{_≡_, sym, ap, _∙_}
 use mathlib.Core.List.{List}
 use Rattle.opening.specs.declared.Opened.{Opened}
 use Rattle.opening.specs.Opening.{openCode, openTable, OpenPromise}
-use Rattle.notices.specs.Notices.{noticeCodeOf, noticeCentsOf}
-use Rattle.desk.specs.Desk.{FlowReply, flowReply}
+use Rattle.notices.specs.declared.NoticeAnswer.{NoticeAnswer}
+use Rattle.notices.specs.Notices.{noticeReply, noticeCodeOf}
+use Rattle.desk.specs.declared.FlowReply.{FlowReply}
+use Rattle.desk.specs.Desk.{flowReply}
 use Rattle.theorems.specs.NoSecond.{NoSecond}
 
 -- what equals one thing is one thing
@@ -25,15 +27,18 @@ no-second = record {
   flow = λ t f out a b u v x y m n. (one (m .0) (n .0), one (m .1) (n .1), one (m .2) (n .2));
   notice = λ t executing code k line a b u v m n. (one (m .0) (n .0), one (m .1) (n .1));
   totals = λ t code a b m n. one m n;
+  field = λ s place a b m n. one m n;
+  name = λ s place a b m n. one m n;
+  text = λ s place a b m n. one m n;
   open-replies = λ q t m n u v x y. let e = one-open q t (x .0) (y .0) u v (x .1) (y .1) in (same openCode (e .0) (x .2) (y .2), e .1);
   flow-replies = λ t f out m n u v x y p q.
       let e = ap flowReply (one (p .1 .0) (q .1 .0)) in
-      let code = same (λ (r : FlowReply). r .code) e (p .2) (q .2) in
-      let place = same (λ (r : FlowReply). r .place) e (p .3) (q .3) in
-      let orders = same (λ (r : FlowReply). r .orders) e (p .4) (q .4) in
-      let accepted = same (λ (r : FlowReply). r .accepted) e (p .5) (q .5) in
+      let code = same (λ (r : FlowReply). r .code) e (p .2 .0) (q .2 .0) in
+      let place = same (λ (r : FlowReply). r .place) e (p .2 .1) (q .2 .1) in
+      let orders = same (λ (r : FlowReply). r .orders) e (p .2 .2) (q .2 .2) in
+      let accepted = same (λ (r : FlowReply). r .accepted) e (p .2 .3) (q .2 .3) in
       (λ i. record { code = code i; place = place i; orders = orders i; accepted = accepted i }, one (p .1 .1) (q .1 .1), one (p .1 .2) (q .1 .2));
   notice-replies = λ t executing code k line m n cents dents u v x y.
       let e = one (x .1 .0) (y .1 .0) in
-      (same noticeCodeOf e (x .2) (y .2), same noticeCentsOf e (x .3) (y .3), one (x .1 .1) (y .1 .1));
+      (same noticeCodeOf e (x .2) (y .2), same (λ (a : NoticeAnswer). noticeReply a .cents) e (x .3) (y .3), one (x .1 .1) (y .1 .1));
 }

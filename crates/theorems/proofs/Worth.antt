@@ -5,9 +5,9 @@ use mathlib.Core.Path.{_≡_, refl, sym, ap, _∙_}
 use mathlib.Core.Bool.{Bool, true, false, cond, _||_}
 use mathlib.Core.List.{List, [], _∷_, _++_}
 use native.Mathlib.Omega.{arith}
-use lib.ListN.{length, getD, set, drop-of-length-le}
-use lib.Seq.{set-split, take-all}
-use lib.Dec.{eqb, ltb}
+use lib.ListN.{length, getD, set, replicate}
+use lib.Seq.{set-split}
+use lib.Dec.{eqb}
 use borrow.Author.Tests.{eqb-true, ne-eqb}
 use Rattle.scan.proofs.Laws.{both}
 use Rattle.ranges.specs.Ranges.{isNothing}
@@ -18,39 +18,24 @@ use Rattle.slots.specs.Slots.{findIn, distinct}
 use Rattle.slots.proofs.Search.{found-below, found-key}
 use Rattle.body.specs.Body.{executedIn, centsOf}
 use Rattle.valid.proofs.Valid.{Valid, ok-bounds}
-use Rattle.order.specs.declared.Order.{Order}
-use Rattle.rules.specs.declared.Judged.{Judged}
-use Rattle.rules.specs.declared.Judged.the-variants.{Accepted, Refused}
+use Rattle.order.specs.Ordinativo.{Ordinativo}
+use Rattle.rules.specs.declared.Change.{Change}
+use Rattle.rules.specs.declared.Ruling.{Ruling}
+use Rattle.rules.specs.declared.Ruling.the-variants.{Accepted, Refused}
 use Rattle.ranges.specs.declared.Found.the-variants.{At}
 use Rattle.rules.specs.declared.Noticed.the-variants.{Moved}
-use Rattle.rules.specs.Rules.{waitingFor, waiting, anyExecuted, keyFor, nth, noRecord, judgeOrder, written, lineMoves, movedTo, judgeNotice}
+use Rattle.rules.specs.Rules.{anyExecuted, keyFor, nth, noRecord, eight, judgeOrder, written, lineMoves, movedTo, judgeNotice}
+use Rattle.rules.specs.Effects.{storedAt, recordsBy, allRecords, withState}
 use Rattle.rules.proofs.Judging.{Stands, inserting, varying, annulling, accepted, Moves, moved}
-use Rattle.rules.proofs.Kept.{withState}
-use Rattle.service.proofs.Kept.{storedAt, recordsBy, allRecords}
+use Rattle.rules.proofs.Kept.{waiting-all}
+use Rattle.service.proofs.Kept.{stored-end}
 use Rattle.theorems.specs.History.{Which, Value, worthIn, worth, ofKind, itsCents, withKey, onLine}
 
 -- WHERE AN ORDER'S RECORD STANDS: in place of the one at i, or after the last
 stored-set : (rs : List Record) (i : ℕ) (r : Record) → i < length rs → storedAt rs i r ≡ set rs i r
 stored-set rs i r h = sym (set-split rs i r h)
 
-stored-end : (rs : List Record) (i : ℕ) (r : Record) → i ≡ length rs → storedAt rs i r ≡ rs ++ r ∷ []
-stored-end rs i r e =
-    let a = take-all i rs (omega arith) in
-    let b = drop-of-length-le rs {i = suc i} (omega arith) in
-    λ k. a k ++ r ∷ b k
-
 -- LINES THAT WAIT
-not-two : (n k : ℕ) → eqb (waitingFor n k) 2 ≡ false
-not-two n k = go (ltb k n)
-  where
-    go : (b : Bool) → eqb (cond b 1 0) 2 ≡ false
-    go true = refl
-    go false = refl
-
-waiting-none : (n : ℕ) → anyExecuted (waiting n) ≡ false
-unfolding anyExecuted
-waiting-none n = rw (not-two n 0, not-two n 1, not-two n 2, not-two n 3, not-two n 4, not-two n 5, not-two n 6, not-two n 7)
-
 none-paid : (v : Value) (n : ℕ) (states amounts : List ℕ) → anyExecuted states ≡ false → worthIn v n states amounts ≡ 0
 unfolding anyExecuted worthIn
 none-paid v n [] amounts e = refl
@@ -129,29 +114,29 @@ module _ (p : Which) (v : Value) where
   none-in r e = cond-none (p (keyOf r)) e
 
   -- AN ORDER
-  module _ (slots year : ℕ) (o : Order) (rs : List Record) where
-    by-stand : (i : ℕ) → Stands slots year o rs i → worth p v (recordsBy year o rs (Accepted i)) ≡ worth p v rs
+  module _ (slots year : ℕ) (o : Ordinativo) (rs : List Record) where
+    by-stand : (c : Change) (i : ℕ) → Stands slots year o rs c i → worth p v (recordsBy year o rs (Accepted c i)) ≡ worth p v rs
     unfolding written
-    by-stand i (inserting y f q l) =
-        let new : Record = written year o (nth rs i) (o .operation) in
-        let z : lines new ≡ 0 = rw y (none-paid v 1 (waiting (o .lines .count)) _ (waiting-none (o .lines .count))) in
+    by-stand c i (inserting y f q l) =
+        let new : Record = written year o (nth rs i) c in
+        let z : lines new ≡ 0 = rw y (none-paid v 1 (eight (replicate (length (o .lines)) 1)) _ (waiting-all (length (o .lines)))) in
         ap (worth p v) (stored-end rs i new q) ∙ omega (arith, add-worth rs new, none-in new z)
-    by-stand i (varying y f w) =
+    by-stand c i (varying y f w) =
         let h = found-below rs (keyFor year o) i noRecord f in
-        let new : Record = written year o (nth rs i) (o .operation) in
-        let z : lines new ≡ 0 = rw y (none-paid v 1 (waiting (o .lines .count)) _ (waiting-none (o .lines .count))) in
+        let new : Record = written year o (nth rs i) c in
+        let z : lines new ≡ 0 = rw y (none-paid v 1 (eight (replicate (length (o .lines)) 1)) _ (waiting-all (length (o .lines)))) in
         ap (worth p v) (stored-set rs i new h) ∙ omega (arith, set-worth rs i new h, none-in new z, none-in (nth rs i) (none-paid v 1 (nth rs i .states) _ (w .waits)))
-    by-stand i (annulling y f w s) =
+    by-stand c i (annulling y f w s) =
         let h = found-below rs (keyFor year o) i noRecord f in
-        let new : Record = written year o (nth rs i) (o .operation) in
+        let new : Record = written year o (nth rs i) c in
         let z : lines new ≡ 0 = rw y (none-paid v 1 (nth rs i .states) _ (w .waits)) in
         ap (worth p v) (stored-set rs i new h) ∙ omega (arith, set-worth rs i new h, none-in new z, none-in (nth rs i) (none-paid v 1 (nth rs i .states) _ (w .waits)))
 
-    order-worth : (j : Judged) → judgeOrder slots year o rs ≡ j → worth p v (recordsBy year o rs j) ≡ worth p v rs
-    order-worth (Accepted i) e = by-stand i (accepted slots year o rs i e)
-    order-worth (Refused c) e = refl
+    order-worth : (j : Ruling) → judgeOrder slots year o rs ≡ j → worth p v (recordsBy year o rs j) ≡ worth p v rs
+    order-worth (Accepted c i) e = by-stand c i (accepted slots year o rs c i e)
+    order-worth (Refused code) e = refl
 
-  pub orders-worth : (slots year : ℕ) (os : List Order) (rs : List Record) → worth p v (allRecords slots year os rs) ≡ worth p v rs
+  pub orders-worth : (slots year : ℕ) (os : List Ordinativo) (rs : List Record) → worth p v (allRecords slots year os rs) ≡ worth p v rs
   unfolding allRecords
   orders-worth slots year [] rs = refl
   orders-worth slots year (o ∷ os) rs =

@@ -4,8 +4,8 @@ use mathlib.Core.Path.{_≡_}
 use mathlib.Core.Bool.{Bool, true}
 use mathlib.Core.List.{List}
 use Rattle.record.specs.declared.Key.{Key}
-use Rattle.order.specs.declared.Order.{Order}
-use Rattle.rules.specs.Rules.{codeOf}
+use Rattle.order.specs.Ordinativo.{Ordinativo}
+use Rattle.rules.specs.Rules.{orderCode}
 use Rattle.service.specs.Service.{orderComes, orderLeaves}
 use Rattle.opening.specs.declared.Opened.{Opened}
 use Rattle.opening.specs.Opening.{openCode, OpenPromise}
@@ -28,7 +28,7 @@ pub record Condition1 : Type 0 where
   -- "A refused flow changes neither table nor outcome buffer;"
   pub refused-flow : (t f out : List ℕ) (a : FlowAnswer) (t′ out′ : List ℕ) → FlowPromise t f out a t′ out′ → (flowCode a ≡ 0 → ⊥) → (t′ ≡ t) × (out′ ≡ out)
   -- "a refused order or notice changes no record." No byte of the table
-  pub refused-order : (t : List ℕ) (base n year : ℕ) (o : Order) → (codeOf (orderComes t base n year o) ≡ 0 → ⊥) → orderLeaves t base n year o ≡ t
+  pub refused-order : (t : List ℕ) (base n year : ℕ) (o : Ordinativo) → (orderCode (orderComes t base n year o) ≡ 0 → ⊥) → orderLeaves t base n year o ≡ t
   pub refused-notice : (t : List ℕ) (executing : Bool) (code : List ℕ) (k : Key) (line : ℕ) (a : NoticeAnswer) (t′ : List ℕ)
       → NoticePromise t executing code k line a t′ → (noticeCodeOf a ≡ 0 → ⊥) → t′ ≡ t
   -- and of opening, in document 01's words: "Codes 1 to 10 change no buffer"

@@ -5,7 +5,7 @@ use mathlib.Core.Bool.{true}
 use mathlib.Core.List.{List, [], _∷_, _++_}
 use lib.ListN.{length, take}
 use lib.Dec.{leb}
-use Rattle.order.specs.declared.Order.{Order}
+use Rattle.order.specs.Ordinativo.{Ordinativo}
 use Rattle.orders.specs.Orders.{Header, inRow, textIn as ordersTextIn, inside, lineOf, linesOf, eight, linesIn, orderOf, ordersOf}
 use Rattle.codes.specs.declared.Operation.the-variants.{Variazione, Annullo}
 use Rattle.flow.specs.declared.Verdict.the-variants.{FieldBreaks, Stands}
@@ -33,7 +33,7 @@ use Rattle.structure.specs.Structure.{all as structureAll, rowsOf, inOrder, tex
 use Rattle.standing.specs.Readings.{fieldsBy, fieldsAt, firstBad}
 
 -- a flow that stands, with its header and its orders
-pub record ReadAs (f : List ℕ) (h : Header) (os : List Order) : Type 0 where
+pub record ReadAs (f : List ℕ) (h : Header) (os : List Ordinativo) : Type 0 where
   pub at : ℕ
   pub short : leb (length f) maxFlow ≡ true
   pub stands : verdictOf f ≡ Stands at
@@ -68,7 +68,7 @@ flows = record {
 }
 
 -- what such a flow comes to on a valid table
-pub reads : {f : List ℕ} {h : Header} {os : List Order} (t : List ℕ) (room : ℕ) → ReadAs f h os → tableOk t ≡ true → flowReads t f room ≡ forBank t room h os
+pub reads : {f : List ℕ} {h : Header} {os : List Ordinativo} (t : List ℕ) (room : ℕ) → ReadAs f h os → tableOk t ≡ true → flowReads t f room ≡ forBank t room h os
 unfolding flowReads
 reads t room r e = rw (e, r .short, r .stands) (λ i. forBank t room (r .header i) (r .orders i))
 

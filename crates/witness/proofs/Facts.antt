@@ -8,8 +8,9 @@ use Rattle.scan.specs.Bytes.{bytes, part, isLetter, isDigit, isAlnum, all, star
 use Rattle.words.specs.Numbers.{put, be2, be4, be8}
 use Rattle.ranges.specs.declared.Found.the-variants.{At}
 use Rattle.table.specs.Table.{bodies, entryOf, headOk, entryOk, layoutOk, bodiesOk, tableOk}
-use Rattle.order.specs.declared.Order.{Order}
-use Rattle.rules.specs.declared.Judged.the-variants.{Accepted}
+use Rattle.order.specs.Ordinativo.{Ordinativo}
+use Rattle.rules.specs.declared.Change.the-variants.{Insert, Vary}
+use Rattle.rules.specs.declared.Ruling.the-variants.{Accepted}
 use Rattle.rules.specs.declared.Situation.the-variants.{Waiting}
 use Rattle.service.specs.Service.{orderComes, orderStored, orderLeaves, outcomeBytes, allLeave, allOutcomes, allAccepted, noticeComes}
 use Rattle.notices.specs.declared.NoticeAnswer.the-variants.{Done, Declined}
@@ -37,16 +38,16 @@ use Rattle.lines.specs.Lines.{numberedFrom, sumOf, lineCode}
 use Rattle.rules.specs.Rules.{keyFor, nth, amountsOf, anyExecuted, situationIn, situationOf, sameList, sameOrder, placed, stepped, judgeOrder, written, lineMoves, noticeIn, noticeAt, judgeNotice}
 
 -- THE ORDERS, as they are served: 000471's slots begin at byte 80, 471's at 464, four of 96 bytes each; at 80 and 176 where each has one slot
-abbrev pub one : List Order
+abbrev pub one : List Ordinativo
 one = order 1 ∷ []
 
-abbrev pub both : List Order
+abbrev pub both : List Ordinativo
 both = order 1 ∷ order 2 ∷ []
 
-abbrev pub change : Order
+abbrev pub change : Ordinativo
 change = orderTo Variazione 1
 
-abbrev pub annul : Order
+abbrev pub annul : Ordinativo
 annul = orderTo Annullo 1
 
 -- mandato 1 of 2021
@@ -88,7 +89,7 @@ pub record Facts : Type 0 where
   pub slots-used : getD (part (flowTable sampleTable (served 464 4 2021 one)) 464 848) 0 0 ≡ 1
   pub slots-empty : getD (part sampleTable 464 848) 0 0 ≡ 0
   -- the change of an order of two lines to one of one, and its second amount
-  pub comes-change : orderComes twoLined 464 4 2021 change ≡ Accepted 0
+  pub comes-change : orderComes twoLined 464 4 2021 change ≡ Accepted Vary 0
   pub amount-old : getD (recordAt twoLined 464 .amounts) 1 0 ≡ 5000
   pub amount-new : getD (recordAt (flowTable twoLined (served 464 4 2021 (change ∷ []))) 464 .amounts) 1 0 ≡ 0
   -- an ANNULLO of its number, rightly numbered and summed up
@@ -96,7 +97,7 @@ pub record Facts : Type 0 where
   pub found : findIn (recordsAt twoLined 464 4) 0 (keyFor 2021 annul) ≡ At 0
   pub waits : situationIn (nth (recordsAt twoLined 464 4) 0) ≡ Waiting
   -- 000471 has filled its slots, 471 has not
-  pub comes-crowd : orderComes crowd 176 1 2021 (order 1) ≡ Accepted 0
+  pub comes-crowd : orderComes crowd 176 1 2021 (order 1) ≡ Accepted Insert 0
   pub crowd-bodies : bodies crowd ≡ 2
   pub crowd-place : placeOf crowd (entryOf 0) ≡ 80
   pub crowd-full : usedAt crowd (placeOf crowd (entryOf 0)) (slotsOf crowd (entryOf 0)) ≡ slotsOf crowd (entryOf 0)

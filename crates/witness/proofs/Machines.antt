@@ -16,11 +16,11 @@ use Rattle.entries.specs.Entry.{slotsOf, placeOf}
 use Rattle.table.specs.Table.{headSize, entryOf}
 use Rattle.request.specs.Request.{asked, slotsAsked, needed}
 use Rattle.opening.specs.Opening.{headBytes, entryBytes, entriesBytes, opened}
-use Rattle.order.specs.declared.Order.{Order}
-use Rattle.rules.specs.declared.Judged.{Judged}
-use Rattle.rules.specs.declared.Judged.the-variants.{Refused}
+use Rattle.order.specs.Ordinativo.{Ordinativo}
+use Rattle.rules.specs.declared.Ruling.{Ruling}
+use Rattle.rules.specs.declared.Ruling.the-variants.{Refused}
 use Rattle.lines.specs.Lines.{numberedFrom, sumOf, lineCode}
-use Rattle.rules.specs.Rules.{codeOf, amountsOf, anyExecuted, situationIn, situationOf, placed, stepped, judgeOrder, written}
+use Rattle.rules.specs.Rules.{orderCode, amountsOf, anyExecuted, situationIn, situationOf, placed, stepped, judgeOrder, written}
 use Rattle.service.specs.Service.{orderComes, orderStored, orderLeaves}
 use Rattle.isolation.specs.Machine.{Machine, Isolated, whose, stateAfter, log}
 use Rattle.isolation.specs.Order.{mine}
@@ -33,23 +33,23 @@ base b = placeOf small (entryOf b)
 abbrev size : ℕ → ℕ
 size b = slotsOf small (entryOf b)
 
-abbrev comes : List ℕ → ℕ → Order → Judged
+abbrev comes : List ℕ → ℕ → Ordinativo → Ruling
 comes t b o = orderComes t (base b) (size b) 2021 o
 
-abbrev leaves : List ℕ → ℕ → Order → List ℕ
+abbrev leaves : List ℕ → ℕ → Ordinativo → List ℕ
 leaves t b o = orderLeaves t (base b) (size b) 2021 o
 
 -- how an order is judged, and the table that it leaves
-abbrev engine : (List ℕ → ℕ → Order → Judged) → (List ℕ → ℕ → Order → List ℕ) → Machine
+abbrev engine : (List ℕ → ℕ → Ordinativo → Ruling) → (List ℕ → ℕ → Ordinativo → List ℕ) → Machine
 engine judge next = record {
   State = List ℕ;
-  Call = ℕ × Order;
+  Call = ℕ × Ordinativo;
   Answer = ℕ;
   Part = List ℕ;
   Rest = List ℕ;
   count = 2;
   who = λ c. cond (ltb (c .0) 2) (some (c .0)) none;
-  answer = λ c t. codeOf (judge t (c .0) (c .1));
+  answer = λ c t. orderCode (judge t (c .0) (c .1));
   next = λ c t. next t (c .0) (c .1);
   part = λ b t. part t (base b) (base b + slotSize * size b);
   rest = λ t. part t 0 headSize;
@@ -75,17 +75,17 @@ abbrev stamping : Machine
 stamping = engine comes (λ t b o. put (leaves t b o) 15 (1 ∷ []))
 
 -- THREE SEQUENCES: each body inserts an order; the first inserts two; one order
-abbrev each : List (ℕ × Order)
+abbrev each : List (ℕ × Ordinativo)
 each = (0, order 1) ∷ (1, order 1) ∷ []
 
-abbrev twice : List (ℕ × Order)
+abbrev twice : List (ℕ × Ordinativo)
 twice = (0, order 1) ∷ (0, order 2) ∷ []
 
-abbrev once : List (ℕ × Order)
+abbrev once : List (ℕ × Ordinativo)
 once = (0, order 1) ∷ []
 
 -- the first of the answers in a log
-abbrev told : List ((ℕ × Order) × ℕ) → ℕ
+abbrev told : List ((ℕ × Ordinativo) × ℕ) → ℕ
 told ls = getD (map (λ l. l .1) ls) 0 99
 
 -- WHAT IS COMPUTED, in one place

@@ -13,7 +13,8 @@ use Rattle.notices.specs.declared.TotalsAnswer.{TotalsAnswer}
 use Rattle.notices.specs.Notices.{noticeCodeOf}
 use Rattle.desk.specs.declared.FlowAnswer.{FlowAnswer}
 use Rattle.desk.specs.declared.FlowAnswer.the-variants.{Taken}
-use Rattle.desk.specs.Desk.{Reading, flowReads, flowAnswer, flowTable, flowOutcomes, Gives, FlowPromise, FlowReply, flowReply, FlowReplies}
+use Rattle.desk.specs.declared.FlowReply.{FlowReply}
+use Rattle.desk.specs.Desk.{Reading, flowReads, flowAnswer, flowTable, flowOutcomes, Gives, FlowPromise, flowReply, FlowReplies}
 use Rattle.theorems.proofs.Condition2.{condition2}
 use Rattle.marked.specs.Flows.{requestOf, sampleTable, single, room}
 use Rattle.witness.specs.Flows.{two, broken, changing, annulling, order, first, second, twoLined, crowd}
@@ -42,7 +43,7 @@ pub taken-reply : (n : FlowReply) (t′ out′ : List ℕ) → FlowReplies sampl
     → (n .code ≡ 0) × (n .place ≡ 0) × (n .orders ≡ 1) × (n .accepted ≡ 1)
 taken-reply n t′ out′ p =
     let e = ap flowReply (taken (p .0) t′ out′ (p .1)) in
-    (p .2 ∙ ap (λ (x : FlowReply). x .code) e, p .3 ∙ ap (λ (x : FlowReply). x .place) e, p .4 ∙ ap (λ (x : FlowReply). x .orders) e, p .5 ∙ ap (λ (x : FlowReply). x .accepted) e)
+    (p .2 .0 ∙ ap (λ (x : FlowReply). x .code) e, p .2 .1 ∙ ap (λ (x : FlowReply). x .place) e, p .2 .2 ∙ ap (λ (x : FlowReply). x .orders) e, p .2 .3 ∙ ap (λ (x : FlowReply). x .accepted) e)
 
 -- taken again on the table that it left: its order is refused (14)
 pub taken-again : (a : FlowAnswer) (t′ out′ : List ℕ) → FlowPromise second (single "471") (room 1) a t′ out′ → a ≡ Taken 1 0

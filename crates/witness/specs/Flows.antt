@@ -1,15 +1,15 @@
 -- Flows for document 01's table (bodies 000471 and 471), as bytes; what they are to be read as; and the tables that orders leave.
 use Prim.Native.Nat.{ℕ}
 use Prim.Native.String.{String}
-use mathlib.Core.List.{List, _∷_, _++_}
-use lib.ListN.{replicate}
+use mathlib.Core.List.{List, [], _∷_, _++_}
+use lib.ListN.{length}
 use Rattle.scan.specs.Bytes.{bytes}
 use Rattle.codes.specs.declared.Operation.{Operation}
 use Rattle.codes.specs.declared.Operation.the-variants.{Inserimento}
 use Rattle.opening.specs.Opening.{opened}
-use Rattle.order.specs.declared.Order.{Order}
-use Rattle.orders.specs.Orders.{Header, noLine}
-use Rattle.lines.specs.Lines.{linesOf, lineCode}
+use Rattle.order.specs.Ordinativo.{Ordinativo}
+use Rattle.orders.specs.Orders.{Header}
+use Rattle.lines.specs.Lines.{lineCode}
 use Rattle.service.specs.Service.{orderLeaves}
 use Rattle.marked.specs.Flows.{requestOf, sampleTable, mandatoFor, mandato, flowOf}
 
@@ -33,36 +33,36 @@ abbrev pub headerFor : String → Header
 headerFor code = record { abi = bytes "01234"; ente = bytes code; esercizio = 2021 }
 
 -- of 1.00 in one line
-abbrev pub orderTo : Operation → ℕ → Order
+abbrev pub orderTo : Operation → ℕ → Ordinativo
 orderTo op n = record {
   kind = 1;
   operation = op;
   number = n;
   date = record { year = 2021; month = 3; day = 1 };
   total = 100;
-  lines = record { count = 1; each = record { progressivo = 1; amount = 100 } ∷ replicate 7 noLine };
+  lines = record { progressivo = 1; amount = 100 } ∷ [];
 }
 
-abbrev pub order : ℕ → Order
+abbrev pub order : ℕ → Ordinativo
 order = orderTo Inserimento
 
 -- of 150.00 in lines of 100.00 and 50.00
-abbrev pub twoLines : ℕ → Order
+abbrev pub twoLines : ℕ → Ordinativo
 twoLines n = record {
   kind = 1;
   operation = Inserimento;
   number = n;
   date = record { year = 2021; month = 3; day = 1 };
   total = 15000;
-  lines = record { count = 2; each = record { progressivo = 1; amount = 10000 } ∷ record { progressivo = 2; amount = 5000 } ∷ replicate 6 noLine };
+  lines = record { progressivo = 1; amount = 10000 } ∷ record { progressivo = 2; amount = 5000 } ∷ [];
 }
 
 -- how many lines an order has, and what the line check says of them
-abbrev pub lineCount : Order → ℕ
-lineCount o = o .lines .count
+abbrev pub lineCount : Ordinativo → ℕ
+lineCount o = length (o .lines)
 
-abbrev pub linesCode : Order → ℕ
-linesCode o = lineCode (linesOf (o .lines)) (o .total)
+abbrev pub linesCode : Ordinativo → ℕ
+linesCode o = lineCode (o .lines) (o .total)
 
 -- TABLES: document 01's after mandato 1 for 000471, and after mandato 1 for 471
 abbrev pub first : List ℕ

@@ -20,18 +20,20 @@ use Rattle.request.specs.Request.{firstBody, asked}
 use Rattle.opening.specs.declared.Opened.{Opened}
 use Rattle.opening.specs.declared.Opened.the-variants.{WrongRequest}
 use Rattle.opening.specs.Opening.{OpenPromise}
-use Rattle.order.specs.declared.Order.{Order}
+use Rattle.order.specs.Ordinativo.{Ordinativo}
 use Rattle.flow.specs.declared.Verdict.the-variants.{FieldBreaks, Stands}
 use Rattle.flow.specs.Flow.{verdictOf, headerOf, flowOrders}
 use Rattle.rules.specs.declared.Situation.the-variants.{Waiting}
-use Rattle.rules.specs.declared.Judged.the-variants.{Accepted}
+use Rattle.rules.specs.declared.Change.the-variants.{Insert, Vary}
+use Rattle.rules.specs.declared.Ruling.the-variants.{Accepted}
 use Rattle.rules.specs.Rules.{keyFor, nth, situationIn}
 use Rattle.service.specs.Service.{orderComes, orderLeaves}
 use Rattle.notices.specs.declared.NoticeAnswer.{NoticeAnswer}
 use Rattle.notices.specs.declared.TotalsAnswer.{TotalsAnswer}
 use Rattle.notices.specs.Notices.{NoticePromise, TotalsPromise}
 use Rattle.desk.specs.declared.FlowAnswer.{FlowAnswer}
-use Rattle.desk.specs.Desk.{served, flowReads, FlowPromise, FlowReply, flowReply}
+use Rattle.desk.specs.declared.FlowReply.{FlowReply}
+use Rattle.desk.specs.Desk.{served, flowReads, FlowPromise, flowReply}
 use Rattle.theorems.specs.Engine.{recordsOf}
 use Rattle.theorems.specs.Codes.{outcomeCodes, zeroCodes}
 use Rattle.witness.specs.Flows.{lineCount, linesCode}
@@ -66,7 +68,7 @@ module _ (T : Taker) where
 
   -- "one that serves a flow's first order and only writes outcomes for the others"
   abbrev pub FirstOnly : Type 0
-  FirstOnly = (t f out : List ℕ) (base n year : ℕ) (o : Order) (os : List Order) → flowReads t f (length out) ≡ served base n year (o ∷ os)
+  FirstOnly = (t f out : List ℕ) (base n year : ℕ) (o : Ordinativo) (os : List Ordinativo) → flowReads t f (length out) ≡ served base n year (o ∷ os)
       → T .table t f out ≡ orderLeaves t base n year o
 
   -- "one that invents `accepted`": answers 0 and somewhere an `accepted` that isn't how many of the outcomes it wrote have code 0
@@ -83,20 +85,20 @@ module _ (T : Taker) where
 
   -- "A changed order keeping old amounts in lines it no longer has"
   abbrev pub KeepsAmounts : Type 0
-  KeepsAmounts = (t f out : List ℕ) (base n year i k : ℕ) (o : Order) → flowReads t f (length out) ≡ served base n year (o ∷ [])
-      → o .operation ≡ Variazione → orderComes t base n year o ≡ Accepted i → lineCount o ≤ k
+  KeepsAmounts = (t f out : List ℕ) (base n year i k : ℕ) (o : Ordinativo) → flowReads t f (length out) ≡ served base n year (o ∷ [])
+      → o .operation ≡ Variazione → orderComes t base n year o ≡ Accepted Vary i → lineCount o ≤ k
       → getD (recordAt (T .table t f out) (base + slotSize * i) .amounts) k 0 ≡ getD (recordAt t (base + slotSize * i) .amounts) k 0
 
   -- "ANNULLO by number alone, where the school meant another order": it is accepted where an order of that key is there, with every line waiting
   abbrev pub AnnulsByNumber : Type 0
-  AnnulsByNumber = (t f out : List ℕ) (base n year i : ℕ) (o : Order) → flowReads t f (length out) ≡ served base n year (o ∷ [])
+  AnnulsByNumber = (t f out : List ℕ) (base n year i : ℕ) (o : Ordinativo) → flowReads t f (length out) ≡ served base n year (o ∷ [])
       → o .operation ≡ Annullo → linesCode o ≡ 0 → findIn (recordsAt t base n) 0 (keyFor year o) ≡ At i
       → situationIn (nth (recordsAt t base n) i) ≡ Waiting → reply t f out .accepted ≡ 1
 
   -- "'No slot' answered because another body filled its own", to an order that the rules accept
   abbrev pub NoSlotForOthers : Type 0
-  NoSlotForOthers = (t f out : List ℕ) (base n year i b : ℕ) (o : Order) → flowReads t f (length out) ≡ served base n year (o ∷ [])
-      → o .operation ≡ Inserimento → orderComes t base n year o ≡ Accepted i → b < bodies t → (placeOf t (entryOf b) ≡ base → ⊥)
+  NoSlotForOthers = (t f out : List ℕ) (base n year i b : ℕ) (o : Ordinativo) → flowReads t f (length out) ≡ served base n year (o ∷ [])
+      → o .operation ≡ Inserimento → orderComes t base n year o ≡ Accepted Insert i → b < bodies t → (placeOf t (entryOf b) ≡ base → ⊥)
       → usedAt t (placeOf t (entryOf b)) (slotsOf t (entryOf b)) ≡ slotsOf t (entryOf b) → getD (T .outcomes t f out) 2 0 ≡ 15
 
   -- "A flow half applied before a late field broke": it leaves what the flow leaves that ends before the order with that field
@@ -106,7 +108,7 @@ module _ (T : Taker) where
 
   -- a body served on another body's slots: whatever it writes elsewhere, the slots of the flow's own body stay as they were
   abbrev pub ServesElsewhere : Type 0
-  ServesElsewhere = (t f out : List ℕ) (base n year : ℕ) (os : List Order) → flowReads t f (length out) ≡ served base n year os
+  ServesElsewhere = (t f out : List ℕ) (base n year : ℕ) (os : List Ordinativo) → flowReads t f (length out) ≡ served base n year os
       → part (T .table t f out) base (base + slotSize * n) ≡ part t base (base + slotSize * n)
 
 -- NOTICES, TOTALS AND OPENING

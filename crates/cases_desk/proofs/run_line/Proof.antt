@@ -1,4 +1,3 @@
-use borrow.Author.Needs.{needs}
 use mathlib.Core.Path.{sym}
 use native.Mathlib.Omega.{arith}
 use lib.Seq.{length-take-le}
@@ -7,10 +6,9 @@ use Rattle.cases_desk.proofs.run_line.Statement.{statement}
 use Rattle.cases_desk.proofs.run_line.Tie as tie
 use Rattle.cases_desk.proofs.run_line.Reads as reads
 use Rattle.cases_desk.proofs.run_line.Lts as lts
+use Rattle.casebook.proofs.bytes.Reads as bytes-reads
 use Rattle.casebook.proofs.find.Reads as find-reads
-use Rattle.casebook.proofs.unescape.Reads as unescape-reads
-use Rattle.cases_desk.proofs.column.Reads as column-reads
-use Rattle.cases_desk.proofs.number.Reads as number-reads
+use Rattle.casebook.proofs.number.Reads as number-reads
 use Rattle.cases_desk.proofs.run_call.Reads as run-call-reads
 use Rattle.cases_desk.proofs.run_open.Reads as run-open-reads
 use Rattle.scan.proofs.same.Reads as same-reads
@@ -57,17 +55,11 @@ same-length c = search needs
 returns : tie.Need-returns
 returns c = search needs
 
-column-requires : tie.Need-column-requires
-column-requires c κs = search needs
+slice-aggregate-bytes : tie.Need-slice-aggregate-bytes
+slice-aggregate-bytes c = search needs
 
-find-requires-2 : tie.Need-find-requires-2
-find-requires-2 c κs = search needs
-
-slice-aggregate-unescape : tie.Need-slice-aggregate-unescape
-slice-aggregate-unescape c = search needs
-
-unescape-requires : tie.Need-unescape-requires
-unescape-requires c κs = search needs
+bytes-requires : tie.Need-bytes-requires
+bytes-requires c κs = search needs
 
 number-requires : tie.Need-number-requires
 number-requires c κs = search needs
@@ -105,10 +97,8 @@ run-line-spec =
     run-call-requires
     same-length
     returns
-    column-requires
-    find-requires-2
-    slice-aggregate-unescape
-    unescape-requires
+    slice-aggregate-bytes
+    bytes-requires
     number-requires
     array-share-prefix-request
     slice-aggregate-run-open

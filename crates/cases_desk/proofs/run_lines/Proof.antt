@@ -7,25 +7,33 @@ use Rattle.cases_desk.proofs.run_lines.Statement.{statement}
 use Rattle.cases_desk.proofs.run_lines.Tie as tie
 use Rattle.cases_desk.proofs.run_lines.Reads as reads
 use Rattle.cases_desk.proofs.run_lines.Lts as lts
-use Rattle.casebook.proofs.find.Reads as find-reads
+use Rattle.casebook.proofs.line_end.Reads as line-end-reads
+use Rattle.casebook.proofs.next_line.Reads as next-line-reads
+use Rattle.casebook.proofs.say.Reads as say-reads
+use Rattle.casebook.proofs.say_column.Reads as say-column-reads
 use Rattle.cases_desk.proofs.run_line.Reads as run-line-reads
 use Rattle.cases_desk.proofs.say_expected.Reads as say-expected-reads
-use Rattle.cases_desk.proofs.say_name.Reads as say-name-reads
 
 abbrev Inv-loop : tie.InvT-loop
-Inv-loop s t₀ at₀ len₀ t at len = (at ≤ length s) × (len ≤ length t) × (length t ≡ length t₀)
+Inv-loop s t₀ at₀ len₀ t6 t at len = (at ≤ length s) × (len ≤ length t) × (length t ≡ length t₀)
 
 abbrev μ-loop : tie.MeasureT-loop
-μ-loop s t₀ at₀ len₀ t at len = length s - at
+μ-loop s t₀ at₀ len₀ t6 t at len = length s - at
 
 loop-holds : tie.Need-loop-holds Inv-loop μ-loop
 loop-holds c = (omega arith, omega arith, refl)
 
-find-requires : tie.Need-find-requires Inv-loop μ-loop
-find-requires c κs = search needs
+line-end-requires : tie.Need-line-end-requires Inv-loop μ-loop
+line-end-requires c κs = search needs
 
-say-name-requires : tie.Need-say-name-requires Inv-loop μ-loop
-say-name-requires c κs = search needs
+say-column-requires : tie.Need-say-column-requires Inv-loop μ-loop
+say-column-requires c κs = search needs
+
+slice-aggregate-say : tie.Need-slice-aggregate-say Inv-loop μ-loop
+slice-aggregate-say c = search needs
+
+say-requires : tie.Need-say-requires Inv-loop μ-loop
+say-requires c κs = search needs
 
 run-line-requires : tie.Need-run-line-requires Inv-loop μ-loop
 run-line-requires c κs = search needs
@@ -33,14 +41,8 @@ run-line-requires c κs = search needs
 say-expected-requires : tie.Need-say-expected-requires Inv-loop μ-loop
 say-expected-requires c κs = search needs
 
-same-length : tie.Need-same-length Inv-loop μ-loop
-same-length c = search needs
-
-returns : tie.Need-returns Inv-loop μ-loop
-returns c = search needs
-
-add-at : tie.Need-add-at Inv-loop μ-loop
-add-at c = search needs
+next-line-requires : tie.Need-next-line-requires Inv-loop μ-loop
+next-line-requires c κs = search needs
 
 loop-less : tie.Need-loop-less Inv-loop μ-loop
 loop-less c = search needs
@@ -48,11 +50,11 @@ loop-less c = search needs
 loop-again : tie.Need-loop-again Inv-loop μ-loop
 loop-again c = search needs
 
-same-length-2 : tie.Need-same-length-2 Inv-loop μ-loop
-same-length-2 c = c .before .loop .inv .2
+same-length : tie.Need-same-length Inv-loop μ-loop
+same-length c = search needs
 
-returns-2 : tie.Need-returns-2 Inv-loop μ-loop
-returns-2 c = search needs
+returns : tie.Need-returns Inv-loop μ-loop
+returns c = search needs
 
 pub run-lines-spec : {M : Type 1} → statement M
 run-lines-spec =
@@ -61,14 +63,14 @@ run-lines-spec =
     Inv-loop
     μ-loop
     loop-holds
-    find-requires
-    say-name-requires
+    line-end-requires
+    say-column-requires
+    slice-aggregate-say
+    say-requires
     run-line-requires
     say-expected-requires
-    same-length
-    returns
-    add-at
+    next-line-requires
     loop-less
     loop-again
-    same-length-2
-    returns-2)
+    same-length
+    returns)

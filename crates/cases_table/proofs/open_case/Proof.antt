@@ -5,7 +5,6 @@ use Rattle.cases_table.proofs.open_case.Statement.{statement}
 use Rattle.cases_table.proofs.open_case.Tie as tie
 use Rattle.cases_table.proofs.open_case.Reads as reads
 use Rattle.cases_table.proofs.open_case.Lts as lts
-use Rattle.cases_table.proofs.bytes.Reads as bytes-reads
 use Rattle.cases_table.proofs.damage.Reads as damage-reads
 use Rattle.cases_table.proofs.mark.Reads as mark-reads
 use Rattle.cases_table.proofs.say_opened.Reads as say-opened-reads
@@ -24,7 +23,7 @@ array-share-prefix-q : tie.Need-array-share-prefix-q
 array-share-prefix-q c = search needs
 
 slice-aggregate-open-table : tie.Need-slice-aggregate-open-table
-slice-aggregate-open-table c = sym (length-take-le _ _ (c .before .before .before .before .before .before .bytes .ensures))
+slice-aggregate-open-table c = sym (length-take-le _ _ (c .before .before .before .before .before .before .bytes .ensures .0))
 
 open-table-requires : tie.Need-open-table-requires
 open-table-requires c κs = search needs

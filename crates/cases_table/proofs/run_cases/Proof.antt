@@ -1,12 +1,13 @@
-use Prim.Native.Nat.{_≤_, _-_}
-use mathlib.Core.Path.{_≡_}
-use lib.ListN.{length}
 use borrow.Author.Needs.{needs}
+use mathlib.Core.Path.{_≡_}
+use Prim.Native.Nat.{_≤_, _-_}
+use lib.ListN.{length}
 use Rattle.cases_table.proofs.run_cases.Statement.{statement}
 use Rattle.cases_table.proofs.run_cases.Tie as tie
 use Rattle.cases_table.proofs.run_cases.Reads as reads
 use Rattle.cases_table.proofs.run_cases.Lts as lts
-use Rattle.casebook.proofs.find.Reads as find-reads
+use Rattle.casebook.proofs.line_end.Reads as line-end-reads
+use Rattle.casebook.proofs.next_line.Reads as next-line-reads
 use Rattle.cases_table.proofs.run_within.Reads as run-within-reads
 
 abbrev Inv-loop : tie.InvT-loop
@@ -18,20 +19,14 @@ abbrev μ-loop : tie.MeasureT-loop
 loop-holds : tie.Need-loop-holds Inv-loop μ-loop
 loop-holds c = search needs
 
-find-requires : tie.Need-find-requires Inv-loop μ-loop
-find-requires c κs = search needs
+line-end-requires : tie.Need-line-end-requires Inv-loop μ-loop
+line-end-requires c κs = search needs
 
 run-within-requires : tie.Need-run-within-requires Inv-loop μ-loop
 run-within-requires c κs = search needs
 
-same-length : tie.Need-same-length Inv-loop μ-loop
-same-length c = search needs
-
-returns : tie.Need-returns Inv-loop μ-loop
-returns c = search needs
-
-add-at : tie.Need-add-at Inv-loop μ-loop
-add-at c = search needs
+next-line-requires : tie.Need-next-line-requires Inv-loop μ-loop
+next-line-requires c κs = search needs
 
 loop-less : tie.Need-loop-less Inv-loop μ-loop
 loop-less c = search needs
@@ -39,11 +34,11 @@ loop-less c = search needs
 loop-again : tie.Need-loop-again Inv-loop μ-loop
 loop-again c = search needs
 
-same-length-2 : tie.Need-same-length-2 Inv-loop μ-loop
-same-length-2 c = search needs
+same-length : tie.Need-same-length Inv-loop μ-loop
+same-length c = search needs
 
-returns-2 : tie.Need-returns-2 Inv-loop μ-loop
-returns-2 c = search needs
+returns : tie.Need-returns Inv-loop μ-loop
+returns c = search needs
 
 pub run-cases-spec : {M : Type 1} → statement M
 run-cases-spec =
@@ -52,12 +47,10 @@ run-cases-spec =
     Inv-loop
     μ-loop
     loop-holds
-    find-requires
+    line-end-requires
     run-within-requires
-    same-length
-    returns
-    add-at
+    next-line-requires
     loop-less
     loop-again
-    same-length-2
-    returns-2)
+    same-length
+    returns)

@@ -5,7 +5,6 @@ use Rattle.cases_table.proofs.show_case.Statement.{statement}
 use Rattle.cases_table.proofs.show_case.Tie as tie
 use Rattle.cases_table.proofs.show_case.Reads as reads
 use Rattle.cases_table.proofs.show_case.Lts as lts
-use Rattle.cases_table.proofs.bytes.Reads as bytes-reads
 use Rattle.cases_table.proofs.say_table.Reads as say-table-reads
 
 slice-aggregate-bytes : tie.Need-slice-aggregate-bytes
@@ -24,13 +23,13 @@ array-share-prefix-c : tie.Need-array-share-prefix-c
 array-share-prefix-c c = search needs
 
 slice-aggregate-say-table : tie.Need-slice-aggregate-say-table
-slice-aggregate-say-table c = sym (length-take-le _ _ (c .before .before .before .before .before .bytes .ensures))
+slice-aggregate-say-table c = sym (length-take-le _ _ (c .before .before .before .before .before .bytes .ensures .0))
 
 array-share-prefix-x : tie.Need-array-share-prefix-x
 array-share-prefix-x c = search needs
 
 slice-aggregate-say-table-2 : tie.Need-slice-aggregate-say-table-2
-slice-aggregate-say-table-2 c = sym (length-take-le _ _ (c .before .before .before .bytes2 .ensures))
+slice-aggregate-say-table-2 c = sym (length-take-le _ _ (c .before .before .before .bytes2 .ensures .0))
 
 say-table-requires : tie.Need-say-table-requires
 say-table-requires c κs = search needs

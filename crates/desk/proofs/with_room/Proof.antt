@@ -1,6 +1,6 @@
 use native.Mathlib.Omega.{arith}
 use Rattle.serving.specs.Served.{ordersFrom}
-use Rattle.serving.proofs.Laws.{orders-few}
+use Rattle.serving.proofs.Laws.{orders-few, orders-count}
 use Rattle.desk.specs.Steps.{headerFrom}
 use Rattle.desk.proofs.Laws.{room-none, room-served}
 use borrow.Author.Needs.{needs}
@@ -18,20 +18,23 @@ count-orders-requires c κs = search needs
 mul-if1 : tie.Need-mul-if1
 mul-if1 c =
     let n = orders-few (c .before .before .before .before .before .args .f .now) (c .before .before .before .before .before .args .from) (c .before .before .before .before .before .pre .1 .within) in
-    let e = c .count-orders .ensures in
+    let e = orders-count (c .before .before .before .before .before .args .f .now) (c .before .before .before .before .before .args .from) (c .count-orders .ensures) in
     let l = c .before .before .before .before .before .pre .2 in
     omega arith
 
 returns : tie.Need-returns
 returns c =
     let a = c .before .before .before .before .before .before .args in
-    room-none (a .t .now) (a .out .now) (headerFrom (a .f .now) (a .from)) (ordersFrom (a .f .now) (a .from)) (a .base) (a .n) (c .before .count-orders .ensures) (c .if1 .taken)
+    room-none (a .t .now) (a .out .now) (headerFrom (a .f .now) (a .from)) (ordersFrom (a .f .now) (a .from)) (a .base) (a .n) (orders-count (a .f .now) (a .from) (c .before .count-orders .ensures)) (c .if1 .taken)
 
 year-of-requires : tie.Need-year-of-requires
 year-of-requires c κs = search needs
 
 serve-all-requires : tie.Need-serve-all-requires
-serve-all-requires c κs = search needs
+serve-all-requires c κs =
+    let e = orders-count (c .before .before .before .before .before .before .before .before .before .args .f .now) (c .before .before .before .before .before .before .before .before .before .args .from) (c .before .before .before .before .count-orders .ensures) in
+    let g = c .before .before .before .if1 .left in
+    (c .before .before .before .before .before .before .before .before .before .pre .0, c .before .before .before .before .before .before .before .before .before .pre .1, omega arith)
 
 same-length : tie.Need-same-length
 same-length c = search needs
@@ -42,7 +45,7 @@ same-length-2 c = search needs
 returns-2 : tie.Need-returns-2
 returns-2 c =
     let a = c .before .before .before .before .before .before .before .before .before .before .before .before .before .before .args in
-    room-served (a .t .now) (a .out .now) (headerFrom (a .f .now) (a .from)) (ordersFrom (a .f .now) (a .from)) (a .base) (a .n) (c .before .before .before .before .before .before .before .before .before .count-orders .ensures) (c .before .before .before .before .before .before .before .before .if1 .left) (c .before .before .before .before .before .before .before .year-of .ensures) (c .before .before .before .before .serve-all .ensures .0) (c .before .before .before .before .serve-all .ensures .1) (c .before .before .before .before .serve-all .ensures .2)
+    room-served (a .t .now) (a .out .now) (headerFrom (a .f .now) (a .from)) (ordersFrom (a .f .now) (a .from)) (a .base) (a .n) (orders-count (a .f .now) (a .from) (c .before .before .before .before .before .before .before .before .before .count-orders .ensures)) (c .before .before .before .before .before .before .before .before .if1 .left) (c .before .before .before .before .before .before .before .year-of .ensures) (c .before .before .before .before .serve-all .ensures .0) (c .before .before .before .before .serve-all .ensures .1) (c .before .before .before .before .serve-all .ensures .2)
 
 pub with-room-spec : {M : Type 1} → statement M
 with-room-spec =

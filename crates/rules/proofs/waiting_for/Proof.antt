@@ -1,6 +1,8 @@
 use borrow.Author.Tests.{lt-ltb, le-ltb}
 use Rattle.rules.proofs.waiting_for.Statement.{statement}
 use Rattle.rules.proofs.waiting_for.Tie as tie
+use Rattle.rules.proofs.waiting_for.Reads as reads
+use Rattle.rules.proofs.waiting_for.Lts as lts
 
 returns : tie.Need-returns
 returns c = rw (lt-ltb (c .before .args .k) (c .before .args .n) (c .if1 .taken))

@@ -1,8 +1,14 @@
 use mathlib.Core.Path.{sym, ap, _∙_}
+use Rattle.order.specs.Ordinativo.{ordinativo}
 use Rattle.rules.specs.Rules.{written}
 use borrow.Author.Needs.{needs}
 use Rattle.rules.proofs.written_by.Statement.{statement}
 use Rattle.rules.proofs.written_by.Tie as tie
+use Rattle.rules.proofs.written_by.Reads as reads
+use Rattle.rules.proofs.written_by.Lts as lts
+use Rattle.rules.proofs.annulled_of.Reads as annulled-of-reads
+use Rattle.rules.proofs.inserted_by.Reads as inserted-by-reads
+use Rattle.rules.proofs.varied_by.Reads as varied-by-reads
 
 enum-told : tie.Need-enum-told
 enum-told c = search needs
@@ -22,24 +28,17 @@ enum-told-3 c = search needs
 annulled-of-requires : tie.Need-annulled-of-requires
 annulled-of-requires c κs = search needs
 
-enum-told-4 : tie.Need-enum-told-4
-enum-told-4 c = search needs
-
 returns : tie.Need-returns
 unfolding written
-returns c = c .inserted-by .ensures ∙ sym (ap (written (c .before .before .before .args .year) (c .before .before .before .args .o) (c .before .before .before .args .r)) (c .before .enum-told .given .1))
+returns c = c .inserted-by .ensures ∙ sym (ap (written (c .before .before .before .args .year) (ordinativo (c .before .before .before .args .o)) (c .before .before .before .args .r)) (c .before .enum-told .given .1))
 
 returns-2 : tie.Need-returns-2
 unfolding written
-returns-2 c = c .varied-by .ensures ∙ sym (ap (written (c .before .before .before .args .year) (c .before .before .before .args .o) (c .before .before .before .args .r)) (c .before .enum-told2 .given .1))
+returns-2 c = c .varied-by .ensures ∙ sym (ap (written (c .before .before .before .args .year) (ordinativo (c .before .before .before .args .o)) (c .before .before .before .args .r)) (c .before .enum-told2 .given .1))
 
 returns-3 : tie.Need-returns-3
 unfolding written
-returns-3 c = c .annulled-of .ensures ∙ sym (ap (written (c .before .before .before .args .year) (c .before .before .before .args .o) (c .before .before .before .args .r)) (c .before .enum-told3 .given .1))
-
-returns-4 : tie.Need-returns-4
-unfolding written
-returns-4 c = sym (ap (written (c .before .before .args .year) (c .before .before .args .o) (c .before .before .args .r)) (c .enum-told4 .given .1))
+returns-3 c = c .annulled-of .ensures ∙ sym (ap (written (c .before .before .before .args .year) (ordinativo (c .before .before .before .args .o)) (c .before .before .before .args .r)) (c .before .enum-told3 .given .1))
 
 pub written-by-spec : {M : Type 1} → statement M
 written-by-spec =
@@ -51,8 +50,6 @@ written-by-spec =
     varied-by-requires
     enum-told-3
     annulled-of-requires
-    enum-told-4
     returns
     returns-2
-    returns-3
-    returns-4)
+    returns-3)

@@ -1,9 +1,11 @@
 use mathlib.Core.Path.{sym}
-use borrow.Author.Needs.{needs}
 use Rattle.service.proofs.Laws.{first-there, first-full}
 use borrow.Author.Needs.{needs}
 use Rattle.service.proofs.first_empty.Statement.{statement}
 use Rattle.service.proofs.first_empty.Tie as tie
+use Rattle.service.proofs.first_empty.Reads as reads
+use Rattle.service.proofs.first_empty.Lts as lts
+use Rattle.slots.proofs.used_slots.Reads as used-slots-reads
 
 used-slots-requires : tie.Need-used-slots-requires
 used-slots-requires c κs = search needs

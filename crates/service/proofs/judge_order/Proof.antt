@@ -1,44 +1,39 @@
 use mathlib.Core.Path.{sym, _∙_}
-use borrow.Author.Needs.{needs}
-use Rattle.rules.specs.Rules.{keyFor}
-use Rattle.service.proofs.Laws.{search-in, comes-first, comes-lines, comes-stepped}
+use Rattle.order.specs.Ordinativo.{ordinativo}
+use Rattle.service.proofs.Laws.{comes-by}
 use borrow.Author.Needs.{needs}
 use Rattle.service.proofs.judge_order.Statement.{statement}
 use Rattle.service.proofs.judge_order.Tie as tie
+use Rattle.service.proofs.judge_order.Reads as reads
+use Rattle.service.proofs.judge_order.Lts as lts
+use Rattle.rules.proofs.asks_of.Reads as asks-of-reads
+use Rattle.service.proofs.judge_change.Reads as judge-change-reads
 
-unsupported-requires : tie.Need-unsupported-requires
-unsupported-requires c κs = search needs
+asks-of-requires : tie.Need-asks-of-requires
+asks-of-requires c κs = search needs
+
+enum-known-c : tie.Need-enum-known-c
+enum-known-c c = search needs
+
+judge-change-requires : tie.Need-judge-change-requires
+judge-change-requires c κs = search needs
+
+enum-known-code : tie.Need-enum-known-code
+enum-known-code c = search needs
 
 returns : tie.Need-returns
-returns c = sym (comes-first (c .before .before .before .args .t .now) (c .before .before .before .args .base) (c .before .before .before .args .n) (c .before .before .before .args .year) (c .before .before .before .args .o) (c .before .unsupported .ensures) (c .if1 .taken))
-
-check-lines-requires : tie.Need-check-lines-requires
-check-lines-requires c κs = search needs
+returns c = c .judge-change .ensures ∙ sym (comes-by (c .before .before .before .before .before .before .args .t .now) (c .before .before .before .before .before .before .args .base) (c .before .before .before .before .before .before .args .n) (c .before .before .before .before .before .before .args .year) (ordinativo (c .before .before .before .before .before .before .args .o)) (c .before .before .before .before .asks-of .ensures) (c .before .before .c .given .1))
 
 returns-2 : tie.Need-returns-2
-returns-2 c = sym (comes-lines (c .before .before .before .before .before .before .args .t .now) (c .before .before .before .before .before .before .args .base) (c .before .before .before .before .before .before .args .n) (c .before .before .before .before .before .before .args .year) (c .before .before .before .before .before .before .args .o) (c .before .before .before .before .unsupported .ensures) (c .before .before .before .if1 .left) (c .before .check-lines .ensures) (c .if2 .taken))
-
-cast-t12 : tie.Need-cast-t12
-cast-t12 c = search needs
-
-find-requires : tie.Need-find-requires
-find-requires c κs = search needs
-
-stepped-at-requires : tie.Need-stepped-at-requires
-stepped-at-requires c κs = (c .before .before .before .before .before .before .before .before .pre .0, search-in (c .before .before .before .before .before .before .before .before .args .t .now) (c .before .before .before .before .before .before .before .before .args .base) (c .before .before .before .before .before .before .before .before .args .n) (keyFor (c .before .before .before .before .before .before .before .before .args .year) (c .before .before .before .before .before .before .before .before .args .o)) (c .find .ensures))
-
-returns-3 : tie.Need-returns-3
-returns-3 c = c .stepped-at .ensures ∙ sym (comes-stepped (c .before .before .before .before .before .before .before .before .before .args .t .now) (c .before .before .before .before .before .before .before .before .before .args .base) (c .before .before .before .before .before .before .before .before .before .args .n) (c .before .before .before .before .before .before .before .before .before .args .year) (c .before .before .before .before .before .before .before .before .before .args .o) (c .before .before .before .before .before .before .before .unsupported .ensures) (c .before .before .before .before .before .before .if1 .left) (c .before .before .before .before .check-lines .ensures) (c .before .before .before .if2 .left) (c .before .find .ensures))
+returns-2 c = sym (comes-by (c .before .before .before .before .before .args .t .now) (c .before .before .before .before .before .args .base) (c .before .before .before .before .before .args .n) (c .before .before .before .before .before .args .year) (ordinativo (c .before .before .before .before .before .args .o)) (c .before .before .before .asks-of .ensures) (c .before .code .given .1))
 
 pub judge-order-spec : {M : Type 1} → statement M
 judge-order-spec =
     tie.close
     (tie.spec
-    unsupported-requires
+    asks-of-requires
+    enum-known-c
+    judge-change-requires
+    enum-known-code
     returns
-    check-lines-requires
-    returns-2
-    cast-t12
-    find-requires
-    stepped-at-requires
-    returns-3)
+    returns-2)

@@ -1,9 +1,10 @@
 use mathlib.Core.Path.{sym, ap}
-use borrow.Author.Needs.{needs}
-use Rattle.service.specs.Service.{atFound}
+use Rattle.service.specs.Inner.{atFound}
 use borrow.Author.Needs.{needs}
 use Rattle.service.proofs.varied_at.Statement.{statement}
 use Rattle.service.proofs.varied_at.Tie as tie
+use Rattle.service.proofs.varied_at.Reads as reads
+use Rattle.service.proofs.varied_at.Lts as lts
 
 enum-known-f : tie.Need-enum-known-f
 enum-known-f c = search needs

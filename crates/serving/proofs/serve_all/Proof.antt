@@ -51,7 +51,7 @@ order-of-requires c κs =
     (serving-order (a .f .now) (a .past .now) (a .base) (a .n) (a .year) (a .t .now) (a .out .now) (a .from) _ _ _ _ _ s k e .shaped, s .rooted .noted)
 
 serve-order-requires : tie.Need-serve-order-requires Inv-loop μ-loop
-serve-order-requires c κs = (c .before .before .before .before .before .before .before .loop .inv .slots, c .before .order-of .ensures .1)
+serve-order-requires c κs = c .before .before .before .before .before .before .before .loop .inv .slots
 
 code-of-requires : tie.Need-code-of-requires Inv-loop μ-loop
 code-of-requires c κs = search needs
@@ -62,7 +62,7 @@ put-outcome-requires c κs =
     let s = c .before .before .before .before .before .before .before .before .before .before .before .before .loop .inv in
     let k = c .before .before .before .before .before .before .before .before .before .k .given .0 .0 in
     let e : nextOf (inRow 5 (keptFrom FlussoOrdinativi (a .f .now) (c .before .before .before .before .before .before .before .before .before .before .before .before .loop .i))) ≡ Named k = sym (c .before .before .before .before .before .before .before .before .before .before .before .next-row .ensures) ∙ c .before .before .before .before .before .before .before .before .before .k .given .1 in
-    (serving-room (a .f .now) (a .past .now) (a .base) (a .n) (a .year) (a .t .now) (a .out .now) (a .from) _ _ _ _ _ s k e, c .before .before .before .before .before .before .order-of .ensures .1)
+    serving-room (a .f .now) (a .past .now) (a .base) (a .n) (a .year) (a .t .now) (a .out .now) (a .from) _ _ _ _ _ s k e
 
 one-of-requires : tie.Need-one-of-requires Inv-loop μ-loop
 one-of-requires c κs = search needs

@@ -1,74 +1,123 @@
-use mathlib.Core.Path.{_≡_, refl, sym, _∙_}
-use Prim.Native.Nat.{_-_, _≤_}
-use native.Mathlib.Omega.{arith}
 use borrow.Author.Needs.{needs}
-use borrow.Author.Tests.{not-true, not-false}
-use Rattle.rows.specs.Table.{table}
-use Rattle.structure.specs.Structure.{ranges}
-use Rattle.structure.specs.Walk.{filledFrom}
-use Rattle.structure.proofs.Walk.{filled-back, filled-end, filled-not, filled-more}
 use Rattle.structure.proofs.filled.Statement.{statement}
 use Rattle.structure.proofs.filled.Tie as tie
+use Rattle.structure.proofs.filled.Reads as reads
+use Rattle.structure.proofs.filled.Lts as lts
+use Rattle.structure.proofs.filled_in.Reads as filled-in-reads
 
-abbrev Inv-loop : tie.InvT-loop
-Inv-loop parent row n to i₀ m₀ i m = (i ≤ to) × (filledFrom (ranges (table parent)) row n to ≡ filledFrom (ranges (table parent)) i m to)
+enum-told : tie.Need-enum-told
+enum-told c = search needs
 
-abbrev μ-loop : tie.MeasureT-loop
-μ-loop parent row n to i₀ m₀ i m = to - i
+slice-aggregate-filled-in : tie.Need-slice-aggregate-filled-in
+slice-aggregate-filled-in c = search needs
 
-returns : tie.Need-returns Inv-loop μ-loop
-returns c = sym (filled-back (ranges (table (c .before .args .parent))) (c .before .args .row) (c .before .args .n) (c .before .args .to) (c .if1 .taken))
+filled-in-requires : tie.Need-filled-in-requires
+filled-in-requires c κs = search needs
 
-loop-holds : tie.Need-loop-holds Inv-loop μ-loop
-loop-holds c = (c .if1 .left, refl)
+enum-told-2 : tie.Need-enum-told-2
+enum-told-2 c = search needs
 
-allowed-requires : tie.Need-allowed-requires Inv-loop μ-loop
-allowed-requires c κs = search needs
+slice-aggregate-filled-in-2 : tie.Need-slice-aggregate-filled-in-2
+slice-aggregate-filled-in-2 c = search needs
 
-returns-2 : tie.Need-returns-2 Inv-loop μ-loop
-returns-2 c =
-    let rs = ranges (table (c .before .before .before .before .before .args .parent)) in
-    let i = c .before .before .before .loop .i in
-    let m = c .before .before .before .loop .m in
-    let to = c .before .before .before .before .before .args .to in
-    let inv = c .before .before .before .loop .inv .1 in
-    sym (inv ∙ filled-not rs i m to (c .before .before .loop-test .taken) (sym (c .before .allowed .ensures) ∙ not-true _ (c .if2 .taken)))
+filled-in-requires-2 : tie.Need-filled-in-requires-2
+filled-in-requires-2 c κs = search needs
 
-add-i : tie.Need-add-i Inv-loop μ-loop
-add-i c = omega arith
+enum-told-3 : tie.Need-enum-told-3
+enum-told-3 c = search needs
 
-loop-less : tie.Need-loop-less Inv-loop μ-loop
-loop-less c = omega arith
+slice-aggregate-filled-in-3 : tie.Need-slice-aggregate-filled-in-3
+slice-aggregate-filled-in-3 c = search needs
 
-loop-again : tie.Need-loop-again Inv-loop μ-loop
-loop-again c =
-    let rs = ranges (table (c .before .before .before .before .before .args .parent)) in
-    let i = c .before .before .before .loop .i in
-    let m = c .before .before .before .loop .m in
-    let to = c .before .before .before .before .before .args .to in
-    let inv = c .before .before .before .loop .inv .1 in
-    (omega arith, inv ∙ filled-more rs i m to (c .before .before .loop-test .taken) (sym (c .before .allowed .ensures) ∙ not-false _ (c .if2 .left)))
+filled-in-requires-3 : tie.Need-filled-in-requires-3
+filled-in-requires-3 c κs = search needs
 
-returns-3 : tie.Need-returns-3 Inv-loop μ-loop
-returns-3 c =
-    let rs = ranges (table (c .before .before .before .args .parent)) in
-    let i = c .before .loop .i in
-    let m = c .before .loop .m in
-    let to = c .before .before .before .args .to in
-    let inv = c .before .loop .inv .1 in
-    sym (inv ∙ filled-end rs i m to (c .before .loop .inv .0) (c .loop-test .left))
+enum-told-4 : tie.Need-enum-told-4
+enum-told-4 c = search needs
+
+slice-aggregate-filled-in-4 : tie.Need-slice-aggregate-filled-in-4
+slice-aggregate-filled-in-4 c = search needs
+
+filled-in-requires-4 : tie.Need-filled-in-requires-4
+filled-in-requires-4 c κs = search needs
+
+enum-told-5 : tie.Need-enum-told-5
+enum-told-5 c = search needs
+
+slice-aggregate-filled-in-5 : tie.Need-slice-aggregate-filled-in-5
+slice-aggregate-filled-in-5 c = search needs
+
+filled-in-requires-5 : tie.Need-filled-in-requires-5
+filled-in-requires-5 c κs = search needs
+
+enum-told-6 : tie.Need-enum-told-6
+enum-told-6 c = search needs
+
+slice-aggregate-filled-in-6 : tie.Need-slice-aggregate-filled-in-6
+slice-aggregate-filled-in-6 c = search needs
+
+filled-in-requires-6 : tie.Need-filled-in-requires-6
+filled-in-requires-6 c κs = search needs
+
+enum-told-7 : tie.Need-enum-told-7
+enum-told-7 c = search needs
+
+slice-aggregate-filled-in-7 : tie.Need-slice-aggregate-filled-in-7
+slice-aggregate-filled-in-7 c = search needs
+
+filled-in-requires-7 : tie.Need-filled-in-requires-7
+filled-in-requires-7 c κs = search needs
+
+returns : tie.Need-returns
+returns c = rw (c .before .before .enum-told .given .1) (c .filled-in .ensures)
+
+returns-2 : tie.Need-returns-2
+returns-2 c = rw (c .before .before .enum-told2 .given .1) (c .filled-in2 .ensures)
+
+returns-3 : tie.Need-returns-3
+returns-3 c = rw (c .before .before .enum-told3 .given .1) (c .filled-in3 .ensures)
+
+returns-4 : tie.Need-returns-4
+returns-4 c = rw (c .before .before .enum-told4 .given .1) (c .filled-in4 .ensures)
+
+returns-5 : tie.Need-returns-5
+returns-5 c = rw (c .before .before .enum-told5 .given .1) (c .filled-in5 .ensures)
+
+returns-6 : tie.Need-returns-6
+returns-6 c = rw (c .before .before .enum-told6 .given .1) (c .filled-in6 .ensures)
+
+returns-7 : tie.Need-returns-7
+returns-7 c = rw (c .before .before .enum-told7 .given .1) (c .filled-in7 .ensures)
 
 pub filled-spec : {M : Type 1} → statement M
 filled-spec =
     tie.close
     (tie.spec
-    Inv-loop
-    μ-loop
+    enum-told
+    slice-aggregate-filled-in
+    filled-in-requires
+    enum-told-2
+    slice-aggregate-filled-in-2
+    filled-in-requires-2
+    enum-told-3
+    slice-aggregate-filled-in-3
+    filled-in-requires-3
+    enum-told-4
+    slice-aggregate-filled-in-4
+    filled-in-requires-4
+    enum-told-5
+    slice-aggregate-filled-in-5
+    filled-in-requires-5
+    enum-told-6
+    slice-aggregate-filled-in-6
+    filled-in-requires-6
+    enum-told-7
+    slice-aggregate-filled-in-7
+    filled-in-requires-7
     returns
-    loop-holds
-    allowed-requires
     returns-2
-    add-i
-    loop-less
-    loop-again
-    returns-3)
+    returns-3
+    returns-4
+    returns-5
+    returns-6
+    returns-7)

@@ -1,0 +1,65 @@
+//! A field's own words.
+
+use crate::{Refusal, ffi};
+
+/// An element of a flow: its name and its text, as the parts of the flow themselves. The text's references are not replaced.
+///
+/// ```
+/// use hondivole::{Field, field_at};
+///
+/// let flow = b"<esercizio>1999</esercizio>";
+/// assert_eq!(field_at(flow, 0), Some(Field { name: "esercizio", text: "1999" }));
+/// ```
+#[derive(Clone, Copy, Debug, PartialEq, Eq)]
+pub struct Field<'f> {
+    /// The element's name.
+    pub name: &'f str,
+    /// What stands between its tags.
+    pub text: &'f str,
+}
+
+/// The element whose `<` stands at a place of a flow, counted from 0; `None` where none does.
+///
+/// ```
+/// use hondivole::field_at;
+///
+/// let flow = b"<a><b>1</b></a>";
+/// assert_eq!(field_at(flow, 3).unwrap().text, "1");
+/// assert_eq!(field_at(flow, 4), None);
+/// assert_eq!(field_at(flow, 1_000), None);
+/// ```
+pub fn field_at(flow: &[u8], place: usize) -> Option<Field<'_>> {
+    let (mut name, mut name_len, mut text, mut text_len) = (0, 0, 0, 0);
+    // SAFETY: the pointer and length are those of a slice, the others point at numbers that live here.
+    unsafe {
+        ffi::hondivole_field_at(flow.as_ptr(), flow.len(), place as u64, &mut name, &mut name_len, &mut text, &mut text_len);
+    }
+    if name_len == 0 {
+        return None;
+    }
+    let part = |at: u64, len: u64| flow.get(at as usize..)?.get(..len as usize).and_then(|bytes| str::from_utf8(bytes).ok());
+    Some(Field { name: part(name, name_len)?, text: part(text, text_len)? })
+}
+
+impl Refusal {
+    /// The field that a flow was refused for; `None` for a refusal that names no field.
+    ///
+    /// ```
+    /// use hondivole::{Refusal, Table};
+    ///
+    /// # let run = include_str!("run.xml");
+    /// let flow = run.replace("<importo_mandato>150.00", "<importo_mandato>00150.00");
+    /// let mut table = Table::open("01234", &[("000471", 4)])?;
+    /// let refusal = table.flow(flow.as_bytes(), &mut [0; 32]).unwrap_err();
+    /// let field = refusal.field(flow.as_bytes()).unwrap();
+    /// assert_eq!((field.name, field.text), ("importo_mandato", "00150.00"));
+    /// assert_eq!(Refusal::MarkupBreaks.field(flow.as_bytes()), None);
+    /// # Ok::<(), Refusal>(())
+    /// ```
+    pub fn field<'f>(&self, flow: &'f [u8]) -> Option<Field<'f>> {
+        match self {
+            Refusal::FieldBreaks { place } => field_at(flow, *place),
+            _ => None,
+        }
+    }
+}

@@ -1,0 +1,247 @@
+// Why a flow or an order is refused, in a sentence for the school: the rule of document 01, and for a field that breaks its name, its text
+// and the form that document 01 asks of it.
+use fields::Form;
+use printing::say;
+use printing::say_number;
+use rows::Holds;
+use rows::Parent;
+use rows::Spot;
+use scan::Walk;
+ghost use lib.ListN.{length};
+ghost use Rattle.io.specs.Counts.{Counts};
+
+// The form that document 01 asks of an element, if it names it as a field.
+enum Wanted {
+    By(Form),
+    Nothing,
+}
+
+// What document 01's field table says of a form.
+fn say_form(f: Form) -> bool {
+    match f {
+        Form::CodiceAbi => say(b"five digits"),
+        Form::Identificativo => say(b"1 to 35 of letters, digits, - _ ."),
+        Form::DataOra => say(
+            b"YYYY-MM-DDThh:mm:ss, a real date of the years 2000 to 2099, hh 00 to 23, mm and ss 00 to 59",
+        ),
+        Form::CodiceEnte => say(b"1 to 16 letters and digits"),
+        Form::Esercizio => say(b"four digits, 2000 to 2099"),
+        Form::TipoOperazione => say(b"INSERIMENTO, VARIAZIONE, ANNULLO or SOSTITUZIONE"),
+        Form::Numero => say(b"1 to 7 digits, value 1 to 9,999,999"),
+        Form::Data => say(b"YYYY-MM-DD, a real date of the years 2000 to 2099"),
+        Form::Importo => say(
+            b"1 to 9 digits, a point, two digits; no zero in front unless it is the only digit there; no sign",
+        ),
+        Form::Progressivo => say(b"1 to 3 digits"),
+        Form::Anagrafica => say(b"1 to 140 bytes, counted after the five references are replaced"),
+    }
+}
+
+fn wanted_in(name: &[u8], parent: Parent) -> Wanted {
+    let Spot::At(_, holds) = rows::spot_of(name, 0, name.len(), parent) else {
+        return Wanted::Nothing;
+    };
+    match holds {
+        Holds::Text(f) => Wanted::By(f),
+        Holds::Rows(_) => Wanted::Nothing,
+    }
+}
+
+fn parent_at(i: usize) -> Parent {
+    match i {
+        0 => Parent::FlussoOrdinativi,
+        1 => Parent::Mandato,
+        2 => Parent::Reversale,
+        3 => Parent::InformazioniBeneficiario,
+        4 => Parent::InformazioniVersante,
+        5 => Parent::Beneficiario,
+        _ => Parent::Versante,
+    }
+}
+
+// A name has one form, whichever parent names it.
+fn wanted_of(name: &[u8]) -> Wanted {
+    for i in 0..7 {
+        match wanted_in(name, parent_at(i)) {
+            Wanted::By(f) => {
+                return Wanted::By(f);
+            }
+            Wanted::Nothing => {}
+        }
+    }
+    Wanted::Nothing
+}
+
+// A control character would spoil the line.
+fn shown(b: u8) -> u8 {
+    if b < 32 {
+        46
+    } else if b == 127 {
+        46
+    } else {
+        b
+    }
+}
+
+fn show(t: &[u8], out: &mut [u8]) -> usize
+    ensures { λ r. ⌜ Counts r (now (out .exit)) ⌝ }
+{
+    let mut n: usize = 0;
+    while n < out.len() {
+        if t.len() <= n {
+            return n;
+        }
+        out[n] = shown(t[n]);
+        n += 1;
+    }
+    n
+}
+
+// A text between quotes, its first 160 bytes.
+fn say_text(t: &[u8]) -> bool {
+    let mut out = [0u8; 160];
+    let n = show(t, &mut out);
+    say(b" '") && say(&out[..n]) && say(b"'")
+}
+
+fn say_wanted(name: &[u8]) -> bool {
+    match wanted_of(name) {
+        Wanted::By(f) => say(b"; its form: ") && say_form(f),
+        Wanted::Nothing => true,
+    }
+}
+
+fn say_field(flow: &[u8], place: u64) -> bool {
+    let name = children::name_at(flow, place as usize);
+    let text = children::text_at(flow, place as usize);
+    say(b"  5, a field breaks: ")
+        && say(name)
+        && say_text(text)
+        && say(b" at byte")
+        && say_number(place)
+        && say_wanted(name)
+        && say(b"\n")
+}
+
+fn say_markup(flow: &[u8]) -> bool {
+    match markup::markup_of(flow) {
+        Walk::Past(_) => true,
+        Walk::Broken(p) => {
+            say(b"  3, the markup breaks at byte") && say_number(p as u64) && say(b"\n")
+        }
+    }
+}
+
+// Whether these bytes stand somewhere in a flow.
+fn occurs(s: &[u8], x: &[u8]) -> bool {
+    let mut i: usize = 0;
+    while i < s.len() {
+        if scan::has(s, i, x) {
+            return true;
+        }
+        i += 1;
+    }
+    false
+}
+
+// Says so of a start tag that stands nowhere in a flow.
+fn say_lack(flow: &[u8], tag: &[u8]) -> bool {
+    if occurs(flow, tag) {
+        return true;
+    }
+    say(b"; no ") && say(tag)
+}
+
+fn say_header_lacks(flow: &[u8]) -> bool {
+    say_lack(flow, b"<flusso_ordinativi>")
+        && say_lack(flow, b"<codice_ABI_BT>")
+        && say_lack(flow, b"<identificativo_flusso>")
+        && say_lack(flow, b"<data_ora_creazione_flusso>")
+        && say_lack(flow, b"<codice_ente_BT>")
+        && say_lack(flow, b"<esercizio>")
+        && say_lack(flow, b"<tipo_operazione>")
+}
+
+fn say_mandato_lacks(flow: &[u8]) -> bool {
+    say_lack(flow, b"<numero_mandato>")
+        && say_lack(flow, b"<data_mandato>")
+        && say_lack(flow, b"<importo_mandato>")
+        && say_lack(flow, b"<informazioni_beneficiario>")
+        && say_lack(flow, b"<progressivo_beneficiario>")
+        && say_lack(flow, b"<importo_beneficiario>")
+        && say_lack(flow, b"<beneficiario>")
+        && say_lack(flow, b"<anagrafica_beneficiario>")
+}
+
+fn say_reversale_lacks(flow: &[u8]) -> bool {
+    say_lack(flow, b"<numero_reversale>")
+        && say_lack(flow, b"<data_reversale>")
+        && say_lack(flow, b"<importo_reversale>")
+        && say_lack(flow, b"<informazioni_versante>")
+        && say_lack(flow, b"<progressivo_versante>")
+        && say_lack(flow, b"<importo_versante>")
+        && say_lack(flow, b"<versante>")
+        && say_lack(flow, b"<anagrafica_versante>")
+}
+
+// The elements that a flow of mandati, of reversali or of both cannot do without.
+fn say_order_lacks(flow: &[u8]) -> bool {
+    if occurs(flow, b"<mandato>") {
+        if !say_mandato_lacks(flow) {
+            return false;
+        }
+        if occurs(flow, b"<reversale>") {
+            return say_reversale_lacks(flow);
+        }
+        return true;
+    }
+    if occurs(flow, b"<reversale>") {
+        return say_reversale_lacks(flow);
+    }
+    say(b"; no <mandato> or <reversale>")
+}
+
+// The markup stands here, so that a start tag is one: what stands nowhere is missing.
+fn say_structure(flow: &[u8]) -> bool {
+    say(
+        b"  4, the structure breaks: an element of docs/FORMAT.md is missing, twice there or out of its order, or holds what it may not",
+    )
+        && say_header_lacks(flow)
+        && say_order_lacks(flow)
+        && say(b"\n")
+}
+
+// Why a flow is refused. (Of the table and the outcome buffer the school knows nothing.)
+pub fn of_flow(flow: &[u8], code: u64, place: u64) -> bool {
+    match code {
+        0 => true,
+        1 => say(b"  1, the table is not valid\n"),
+        2 => say(b"  2, the flow is longer than 32,768 bytes\n"),
+        3 => say_markup(flow),
+        4 => say_structure(flow),
+        5 => say_field(flow, place),
+        6 => say(b"  6, codice_ABI_BT is not the bank that this table is for\n"),
+        7 => say(
+            b"  7, no body of this table has this codice_ente_BT: codes are compared byte by byte, zeros in front too\n",
+        ),
+        _ => say(b"  8, the outcome buffer has under 16 bytes per order\n"),
+    }
+}
+
+// Why an order is refused.
+pub fn of_order(code: u8) -> bool {
+    match code {
+        0 => true,
+        11 => say(b"  11, SOSTITUZIONE is not taken\n"),
+        12 => say(b"  12, the order's lines are not numbered 1, 2, 3 and so on\n"),
+        13 => say(b"  13, the order's line amounts do not sum to its total\n"),
+        14 => say(b"  14, the body already has an order of this kind, esercizio and number\n"),
+        15 => say(b"  15, the body has no empty slot\n"),
+        16 => say(b"  16, the body has no order of this kind, esercizio and number\n"),
+        17 => say(b"  17, the order is annulled, and stays so\n"),
+        18 => say(b"  18, a line of the order is executed: it has to be reversed first\n"),
+        _ => say(
+            b"  19, ANNULLO: total, number of lines or a line amount differs from the record\n",
+        ),
+    }
+}

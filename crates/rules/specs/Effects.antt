@@ -1,0 +1,45 @@
+-- What orders and notices do to a body's records: the list of records afterwards. The table's bytes follow it (crates/service/proofs).
+use Prim.Native.Nat.{ℕ, suc, _-_}
+use mathlib.Core.Bool.{Bool}
+use mathlib.Core.List.{List, [], _∷_, _++_}
+use lib.ListN.{set, take, drop}
+use Rattle.order.specs.Ordinativo.{Ordinativo}
+use Rattle.record.specs.declared.Record.{Record}
+use Rattle.rules.specs.declared.Ruling.{Ruling}
+use Rattle.rules.specs.declared.Ruling.the-variants.{Accepted, Refused}
+use Rattle.rules.specs.declared.Noticed.{Noticed}
+use Rattle.rules.specs.declared.Noticed.the-variants.{Moved, Unmoved}
+use Rattle.rules.specs.Rules.{nth, judgeOrder, written, movedTo}
+
+-- a record in place of the one at i, or after the last
+abbrev pub storedAt : List Record → ℕ → Record → List Record
+storedAt rs i r = take i rs ++ r ∷ drop (suc i) rs
+
+-- an order: "Accepted, INSERIMENTO fills the body's first empty slot ..; VARIAZIONE replaces ..; ANNULLO sets the state only"
+abbrev pub recordsBy : ℕ → Ordinativo → List Record → Ruling → List Record
+recordsBy year o rs (Accepted c i) = storedAt rs i (written year o (nth rs i) c)
+recordsBy year o rs (Refused code) = rs
+
+-- the orders of a flow, "taken as written, each on the table the one before left"
+unfoldable pub allRecords : ℕ → ℕ → List Ordinativo → List Record → List Record
+allRecords slots year [] rs = rs
+allRecords slots year (o ∷ os) rs = allRecords slots year os (recordsBy year o rs (judgeOrder slots year o rs))
+
+-- a record with the state s at line k, counted from 0
+abbrev pub withState : Record → ℕ → ℕ → Record
+withState r k s = record {
+  kind = r .kind;
+  state = r .state;
+  lines = r .lines;
+  esercizio = r .esercizio;
+  number = r .number;
+  date = r .date;
+  total = r .total;
+  states = set (r .states) k s;
+  amounts = r .amounts;
+}
+
+-- a notice: "Execution sets the line executed; reversal sets it waiting again"
+abbrev pub recordsMoved : Bool → ℕ → List Record → Noticed → List Record
+recordsMoved executing line rs (Moved i cents) = set rs i (withState (nth rs i) (line - 1) (movedTo executing))
+recordsMoved executing line rs (Unmoved c) = rs

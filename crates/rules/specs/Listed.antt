@@ -1,0 +1,81 @@
+-- THE LISTED REFUSALS (document 01, "Answers"), each by what it says, with no thought of the order in which they are looked for. An order or a notice is
+-- accepted exactly when none of them applies (crates/theorems/proofs/Exactly.antt).
+use Prim.Native.Nat.{ℕ, _+_, _-_, _≤_, _<_}
+use mathlib.Core.Path.{_≡_}
+use mathlib.Core.Bool.{Bool, true, false}
+use mathlib.Core.List.{List, map, List·Memᴰ}
+use lib.ListN.{length, getD}
+use Rattle.codes.specs.declared.Operation.{Operation}
+use Rattle.codes.specs.declared.Operation.the-variants.{Inserimento, Variazione, Annullo, Sostituzione}
+use Rattle.order.specs.declared.Line.{Line}
+use Rattle.order.specs.Ordinativo.{Ordinativo}
+use Rattle.record.specs.declared.Record.{Record}
+use Rattle.record.specs.declared.Key.{Key}
+use Rattle.record.specs.Slot.{keyOf}
+use Rattle.lines.specs.Lines.{sumOf}
+use Rattle.rules.specs.Rules.{keyFor, eight, amountsOf}
+
+-- r is one of the records, the one of this kind, esercizio and number
+pub record Has (rs : List Record) (k : Key) (r : Record) : Type 0 where
+  pub among : List·Memᴰ r rs
+  pub key : keyOf r ≡ k
+
+abbrev pub HasNone : List Record → Key → Type 0
+HasNone rs k = (r : Record) → Has rs k r → ⊥
+
+-- "state (1 acquired, 2 annulled)"
+abbrev pub IsAnnulled : Record → Type 0
+IsAnnulled r = r .state ≡ 2
+
+-- "line states (.. 1 waiting, 2 executed)": line k, counted from 0
+abbrev pub IsExecuted : Record → ℕ → Type 0
+IsExecuted r k = getD (r .states) k 0 ≡ 2
+
+-- AN ORDER
+
+-- "numbered 1, 2, 3 and so on"
+abbrev pub Numbered : List Line → Type 0
+Numbered ls = (k : ℕ) → k < length ls → getD (map (λ (l : Line). l .progressivo) ls) k 0 ≡ k + 1
+
+-- "total, number of lines or a line amount differs from the record"
+pub data Differs (o : Ordinativo) (r : Record) : Type 0 where
+  total : (o .total ≡ r .total → ⊥) → Differs o r
+  count : (length (o .lines) ≡ r .lines → ⊥) → Differs o r
+  amounts : (eight (amountsOf (o .lines)) ≡ r .amounts → ⊥) → Differs o r
+
+-- the operations on an order that is there
+pub data OnRecord : Operation → Type 0 where
+  variazione : OnRecord Variazione
+  annullo : OnRecord Annullo
+
+-- the refusals of an order in the esercizio `year`, for a body with so many slots and these records
+pub data Applies (slots year : ℕ) (o : Ordinativo) (rs : List Record) : ℕ → Type 0 where
+  -- "11 SOSTITUZIONE"
+  sostituzione : o .operation ≡ Sostituzione → Applies slots year o rs 11
+  -- "12 lines not numbered 1, 2, 3 and so on"
+  misnumbered : (Numbered (o .lines) → ⊥) → Applies slots year o rs 12
+  -- "13 line amounts don't sum to the total"
+  missummed : (sumOf (o .lines) ≡ o .total → ⊥) → Applies slots year o rs 13
+  -- INSERIMENTO of an order that is there, whatever its situation
+  present : o .operation ≡ Inserimento → (r : Record) → Has rs (keyFor year o) r → Applies slots year o rs 14
+  -- "15 (INSERIMENTO: the body has no empty slot)"
+  full : o .operation ≡ Inserimento → slots ≤ length rs → Applies slots year o rs 15
+  -- VARIAZIONE or ANNULLO of an order that is absent, annulled, or has an executed line
+  absent : OnRecord (o .operation) → HasNone rs (keyFor year o) → Applies slots year o rs 16
+  annulled : OnRecord (o .operation) → (r : Record) → Has rs (keyFor year o) r → IsAnnulled r → Applies slots year o rs 17
+  executed : OnRecord (o .operation) → (r : Record) → Has rs (keyFor year o) r → (IsAnnulled r → ⊥) → (k : ℕ) → IsExecuted r k → Applies slots year o rs 18
+  -- "19 (ANNULLO: total, number of lines or a line amount differs from the record)"
+  differs : o .operation ≡ Annullo → (r : Record) → Has rs (keyFor year o) r → Differs o r → Applies slots year o rs 19
+
+-- A NOTICE of execution (true) or reversal (false) for line `line`, counted from 1, of the order with this key
+pub data NoticeApplies (executing : Bool) (k : Key) (line : ℕ) (rs : List Record) : ℕ → Type 0 where
+  -- "16 (no such order)"
+  unknown : HasNone rs k → NoticeApplies executing k line rs 16
+  -- "17"
+  closed : (r : Record) → Has rs k r → IsAnnulled r → NoticeApplies executing k line rs 17
+  -- "20 (no such line)": "Line 0 or past the order's lines"
+  zeroth : line ≡ 0 → NoticeApplies executing k line rs 20
+  past : (r : Record) → Has rs k r → r .lines < line → NoticeApplies executing k line rs 20
+  -- "for execution 21 (already executed), for reversal 22 (not executed)"
+  already : executing ≡ true → (r : Record) → Has rs k r → IsExecuted r (line - 1) → NoticeApplies executing k line rs 21
+  notYet : executing ≡ false → (r : Record) → Has rs k r → (IsExecuted r (line - 1) → ⊥) → NoticeApplies executing k line rs 22

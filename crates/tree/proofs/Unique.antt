@@ -1,0 +1,49 @@
+-- A tree says one header and one list of orders.
+use mathlib.Core.Path.{_≡_, refl}
+use mathlib.Core.Logic.{inl, inr}
+use mathlib.Core.List.{List}
+use Prim.Native.Nat.{ℕ}
+use Prim.Native.String.{String}
+use native.Mathlib.Omega.{arith}
+use Rattle.digits.specs.declared.Number.the-variants.{Value}
+use Rattle.order.specs.declared.Line.{Line}
+use Rattle.orders.specs.Orders.{Header}
+use Rattle.tree.specs.Tree.{Tree, Trees}
+use Rattle.tree.specs.Orders.{OneText, OneValue, Each, each-none, each-next, HeaderIn, Words, mandato, reversale, LineIn, OrderIn, AnOrder, OrdersIn}
+use Rattle.order.specs.Ordinativo.{Ordinativo}
+
+text-one : {x : String} {ts : Trees} {t u : List ℕ} → OneText x ts t → OneText x ts u → t ≡ u
+text-one a b = let y = a .alone in let z = b .alone in cc
+
+value-one : {A : Type 0} {x : String} {form : List ℕ → A} {ts : Trees} {v w : A} → OneValue x form ts v → OneValue x form ts w → v ≡ w
+value-one a b = let y = a .is in let z = b .is in let e = text-one (a .one) (b .one) in cc
+
+number-one : {x : String} {form : List ℕ → _} {ts : Trees} {v w : ℕ} → OneValue x form ts (Value v) → OneValue x form ts (Value w) → v ≡ w
+number-one a b = let e = value-one a b in cc
+
+pub header-one : (ts : Trees) (h g : Header) → HeaderIn ts h → HeaderIn ts g → h ≡ g
+header-one ts h g a b = λ i. record { abi = text-one (a .abi) (b .abi) i; ente = text-one (a .ente) (b .ente) i; esercizio = number-one (a .esercizio) (b .esercizio) i }
+
+each-one : {A : Type 0} {Is : Tree → A → Type 0} → ((t : Tree) (a b : A) → Is t a → Is t b → a ≡ b) → {ts : List Tree} {vs ws : List A} → Each Is ts vs → Each Is ts ws → vs ≡ ws
+each-one u each-none each-none = refl
+each-one u (each-next {t = t} {a = a} x xs) (each-next {a = b} y ys) = let e = u t a b x y in let f = each-one u xs ys in cc
+
+module _ (w : Words) where
+  line-one : (t : Tree) (l m : Line) → LineIn w t l → LineIn w t m → l ≡ m
+  line-one t l m a b = λ i. record { progressivo = number-one (a .progressivo) (b .progressivo) i; amount = number-one (a .amount) (b .amount) i }
+
+  order-one : (t : Tree) (o q : Ordinativo) → OrderIn w t o → OrderIn w t q → o ≡ q
+  order-one t o q a b =
+      let k : o .kind ≡ q .kind = let y = a .kind in let z = b .kind in cc in
+      let x : o .operation ≡ q .operation = let y = value-one (a .operation) (b .operation) in cc in
+      let d : o .date ≡ q .date = let y = value-one (a .date) (b .date) in cc in
+      λ i. record { kind = k i; operation = x i; number = number-one (a .number) (b .number) i; date = d i; total = number-one (a .total) (b .total) i; lines = each-one line-one (a .lines) (b .lines) i }
+
+an-order-one : (t : Tree) (o q : Ordinativo) → AnOrder t o → AnOrder t q → o ≡ q
+an-order-one t o q (inl a) (inl b) = order-one mandato t o q a b
+an-order-one t o q (inl a) (inr b) = let y = a .name in let z = b .name in let e : _≡_ {A = ℕ} 109 114 = cc in absurd (omega arith)
+an-order-one t o q (inr a) (inl b) = let y = a .name in let z = b .name in let e : _≡_ {A = ℕ} 109 114 = cc in absurd (omega arith)
+an-order-one t o q (inr a) (inr b) = order-one reversale t o q a b
+
+pub orders-one : (ts : Trees) (os qs : List Ordinativo) → OrdersIn ts os → OrdersIn ts qs → os ≡ qs
+orders-one ts os qs a b = each-one an-order-one a b

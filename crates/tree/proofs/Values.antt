@@ -1,0 +1,319 @@
+-- Where structure and fields stand, the header and the orders by name (specs/Orders.antt) are there, and are those of proofs/Levels.antt.
+use mathlib.Core.Path.{_≡_, refl, sym, ap, _∙_}
+use mathlib.Core.Logic.{inl, inr}
+use mathlib.Core.List.{List, [], _∷_, _++_, map}
+use mathlib.Core.Bool.{Bool, true, false, cond, _&&_, _||_}
+use Prim.Native.Nat.{ℕ, zero, suc, _+_, _≤_, _<_}
+use Prim.Native.String.{String}
+use native.Mathlib.Nat.{add-zero}
+use native.Mathlib.Omega.{arith}
+use lib.ListN.{length, take, drop, replicate}
+use lib.Seq.{take-append-le, take-length}
+use lib.Dec.{eqb, leb}
+use borrow.Author.Tests.{eqb-true, ne-eqb, leb-true}
+use Rattle.scan.specs.Bytes.{bytes, between, run, textIs}
+use Rattle.scan.proofs.Laws.{both}
+use Rattle.codes.specs.declared.Asked.{Asked}
+use Rattle.codes.specs.declared.Asked.the-variants.{Operazione, NoOperation}
+use Rattle.codes.specs.Codes.{tipoOperazione}
+use Rattle.digits.specs.declared.Number.{Number}
+use Rattle.digits.specs.declared.Number.the-variants.{Value, NoNumber}
+use Rattle.digits.specs.Digits.{esercizio, numero, importo, progressivo}
+use Rattle.dates.specs.declared.Day.{Day}
+use Rattle.dates.specs.declared.Day.the-variants.{On, NoDay}
+use Rattle.dates.specs.Dates.{dataOf}
+use Rattle.fields.specs.declared.Form.{Form}
+use Rattle.fields.specs.declared.Form.the-variants.{Esercizio, TipoOperazione, Numero, Data, Importo, Progressivo}
+use Rattle.fields.specs.declared.Judged.the-variants.{Stands}
+use Rattle.fields.specs.Fields.{isNumber, isDay, isOperation, fieldStands}
+use Rattle.order.specs.declared.Line.{Line}
+use Rattle.rows.specs.declared.Parent.{Parent}
+use Rattle.rows.specs.declared.Parent.the-variants.{FlussoOrdinativi, Mandato, Reversale, InformazioniBeneficiario, InformazioniVersante}
+use Rattle.rows.specs.declared.Holds.{Holds}
+use Rattle.rows.specs.declared.Holds.the-variants.{Text, Rows}
+use Rattle.rows.specs.declared.Spot.the-variants.{At, Passed}
+use Rattle.rows.specs.Table.{_is_, Row, once, many, table}
+use Rattle.structure.specs.Structure.{Range, ranges, takes, isRow, inOrder}
+use Rattle.orders.specs.Orders.{valueOf, dateOf, operationOf, noLine, eight}
+use Rattle.tree.specs.Tree.{Tree, tree, says, holds, Trees, none, more, nameOf, heldOf, kidsIn}
+use Rattle.tree.specs.Orders.{childrenNamed, OneText, OneValue, Each, each-none, each-next, HeaderIn, Words, mandato, reversale, LineIn, OrderIn, AnOrder, OrdersIn}
+use Rattle.order.specs.Ordinativo.{Ordinativo, ordinativo}
+use Rattle.tree.proofs.Levels.{KeptTree, keepTree, keptTrees, rowsOfTrees, allTrees, keptFits, fitsTree, fieldsHeld, fieldsOfTrees, fieldsTree, firstText, textNamed, headerTree, lineTree, linesTree, orderTree, ordersTree, inPlaces, allInPlaces}
+use Rattle.tree.proofs.Names.{text-same, HasRow, has-names, inRowTrees, pick, asKept, row-picked}
+use Rattle.tree.proofs.Orders.{one-name, all-row, Spelled, spelled-mandato, spelled-reversale, orderNames}
+use Rattle.tree.proofs.Stand.{stand, allStand, Right, stand-both, stand-is}
+
+-- HOW MANY A ROW HAS
+abbrev countRow : ℕ → List ℕ → ℕ
+countRow m [] = 0
+countRow m (k ∷ ks) = cond (eqb k m) (suc (countRow m ks)) (countRow m ks)
+
+module _ (n : ℕ) where
+  -- of the row at the front
+  count-here : (ks : List ℕ) → countRow n ks ≡ run (isRow n) ks + countRow n (drop (run (isRow n) ks) ks)
+  unfolding run
+  count-here [] = refl
+  count-here (k ∷ ks) = go (eqb k n) refl (count-here ks)
+    where
+      go : (b : Bool) → eqb k n ≡ b → countRow n ks ≡ run (isRow n) ks + countRow n (drop (run (isRow n) ks) ks)
+          → cond b (suc (countRow n ks)) (countRow n ks) ≡ cond b (suc (run (isRow n) ks)) 0 + countRow n (drop (cond b (suc (run (isRow n) ks)) 0) (k ∷ ks))
+      go true e i = omega arith
+      go false e i = rw e (omega arith)
+
+  -- of another
+  count-other : (m : ℕ) → (n ≡ m → ⊥) → (ks : List ℕ) → countRow m ks ≡ countRow m (drop (run (isRow n) ks) ks)
+  unfolding run
+  count-other m h [] = refl
+  count-other m h (k ∷ ks) = go (eqb k n) refl (count-other m h ks)
+    where
+      go : (b : Bool) → eqb k n ≡ b → countRow m ks ≡ countRow m (drop (run (isRow n) ks) ks) → countRow m (k ∷ ks) ≡ countRow m (drop (cond b (suc (run (isRow n) ks)) 0) (k ∷ ks))
+      go true e i = let z = eqb-true k n e in rw (z, ne-eqb n m h) i
+      go false e i = refl
+
+-- rows before n are not there
+count-earlier : (rs : List Range) (n m : ℕ) (ks : List ℕ) → m < n → inOrder rs n ks ≡ true → countRow m ks ≡ 0
+unfolding inOrder
+count-earlier [] n m [] l e = refl
+count-earlier [] n m (k ∷ ks) l e = let z : _≡_ {A = ℕ} 0 1 = cc in absurd (omega arith)
+count-earlier (r ∷ rs) n m ks l e =
+    let b = both (takes r (run (isRow n) ks)) (inOrder rs (suc n) (drop (run (isRow n) ks) ks)) e in
+    count-other n m (λ z. omega arith) ks ∙ count-earlier rs (suc n) m (drop (run (isRow n) ks) ks) (omega arith) (b .1)
+
+row-count : (rs : List Row) (n j : ℕ) (r : Row) (others : List Row) (ks : List ℕ) → drop j rs ≡ r ∷ others → inOrder (ranges rs) n ks ≡ true → between (r .least) (r .most) (countRow (n + j) ks) ≡ true
+unfolding inOrder
+row-count [] n zero r others ks z e = let y : _≡_ {A = ℕ} 0 1 = cc in absurd (omega arith)
+row-count [] n (suc j) r others ks z e = let y : _≡_ {A = ℕ} 0 1 = cc in absurd (omega arith)
+row-count (x ∷ rs) n zero r others ks z e =
+    let m = run (isRow n) ks in
+    let b = both (between (x .least) (x .most) m) (inOrder (ranges rs) (suc n) (drop m ks)) e in
+    let c = count-earlier (ranges rs) (suc n) n (drop m ks) (omega arith) (b .1) in
+    let y : x ≡ r = cc in
+    let d : countRow (n + 0) ks ≡ m = rw (add-zero n) (count-here n ks ∙ rw c (add-zero m)) in
+    rw (d, ← y) (b .0)
+row-count (x ∷ rs) n (suc j) r others ks z e =
+    let m = run (isRow n) ks in
+    let b = both (between (x .least) (x .most) m) (inOrder (ranges rs) (suc n) (drop m ks)) e in
+    let y : n + suc j ≡ suc n + j = omega arith in
+    rw (y, count-other n (suc n + j) (λ q. omega arith) ks) (row-count rs (suc n) j r others (drop m ks) z (b .1))
+
+count-trees : (n : ℕ) (ks : List KeptTree) → length (inRowTrees n ks) ≡ countRow n (rowsOfTrees ks)
+unfolding inRowTrees rowsOfTrees
+count-trees n [] = refl
+count-trees n (k ∷ ks) = go (eqb (k .row) n) (count-trees n ks)
+  where
+    go : (b : Bool) → length (inRowTrees n ks) ≡ countRow n (rowsOfTrees ks) → length (cond b (k ∷ inRowTrees n ks) (inRowTrees n ks)) ≡ cond b (suc (countRow n (rowsOfTrees ks))) (countRow n (rowsOfTrees ks))
+    go true e = ap suc e
+    go false e = e
+
+-- EACH CHILD IS RIGHT: it holds what its row says, and its fields stand
+abbrev right : ℕ → KeptTree → Bool
+right d k = keptFits (fitsTree d) k && allStand (fieldsHeld (fieldsTree d) (k .tree) (k .holds))
+
+all-right : (d : ℕ) (ks : List KeptTree) → allTrees (keptFits (fitsTree d)) ks ≡ true → allStand (fieldsOfTrees (fieldsTree d) ks) ≡ true → allTrees (right d) ks ≡ true
+unfolding allTrees fieldsOfTrees
+all-right d [] e f = refl
+all-right d (k ∷ ks) e f =
+    let a = both (keptFits (fitsTree d) k) (allTrees (keptFits (fitsTree d)) ks) e in
+    let b = both (allStand (fieldsHeld (fieldsTree d) (k .tree) (k .holds))) (allStand (fieldsOfTrees (fieldsTree d) ks)) (sym (stand-both (fieldsHeld (fieldsTree d) (k .tree) (k .holds)) (fieldsOfTrees (fieldsTree d) ks)) ∙ f) in
+    rw (a .0, b .0, all-right d ks (a .1) (b .1))
+
+record Parts (d : ℕ) (p : Parent) (ts : Trees) : Type 0 where
+  rows : inOrder (ranges (table p)) 0 (rowsOfTrees (keptTrees p ts)) ≡ true
+  each : allTrees (right d) (keptTrees p ts) ≡ true
+
+right-parts : (d : ℕ) (p : Parent) (ts : Trees) → Right (suc d) p ts → Parts d p ts
+unfolding fitsTree fieldsTree
+right-parts d p ts r =
+    let b = both (inOrder (ranges (table p)) 0 (rowsOfTrees (keptTrees p ts))) (allTrees (keptFits (fitsTree d)) (keptTrees p ts)) (r .fits) in
+    record { rows = b .0; each = all-right d (keptTrees p ts) (b .1) (r .stands) }
+
+-- A ROW OF ONE NAME: as many children of that name as it takes, and each is right
+kept-length : (n : ℕ) (g : Holds) (l : List Tree) → length (asKept n g l) ≡ length l
+kept-length n g [] = refl
+kept-length n g (t ∷ l) = ap suc (kept-length n g l)
+
+module _ (d : ℕ) (p : Parent) (ts : Trees) (r : Right (suc d) p ts) (n : ℕ) (x : String) (g : Holds) (least most : ℕ) (h : HasRow p n (many least most ((x is g) ∷ []))) where
+  row-children : inRowTrees n (keptTrees p ts) ≡ asKept n g (childrenNamed (x ∷ []) ts)
+  row-children = row-picked p n ts ∙ ap (λ ns. pick ns n ts) (has-names p n (many least most ((x is g) ∷ [])) h) ∙ one-name x g n ts
+
+  row-length : between least most (length (childrenNamed (x ∷ []) ts)) ≡ true
+  row-length =
+      let c = row-count (table p) 0 n (many least most ((x is g) ∷ [])) (h .0) (rowsOfTrees (keptTrees p ts)) (h .1) (right-parts d p ts r .rows) in
+      let z : length (childrenNamed (x ∷ []) ts) ≡ countRow (0 + n) (rowsOfTrees (keptTrees p ts)) =
+      sym (kept-length n g (childrenNamed (x ∷ []) ts)) ∙ ap length (sym row-children) ∙ count-trees n (keptTrees p ts) ∙ ap (λ (m : ℕ). countRow m (rowsOfTrees (keptTrees p ts))) (omega arith) in
+      rw z c
+
+  row-right : allTrees (right d) (asKept n g (childrenNamed (x ∷ []) ts)) ≡ true
+  row-right = rw (← row-children) (all-row (right d) n (keptTrees p ts) (right-parts d p ts r .each))
+
+-- a child of the name x has it
+named-first : (x : String) (ts : Trees) (t : Tree) (l : List Tree) → childrenNamed (x ∷ []) ts ≡ t ∷ l → nameOf t ≡ bytes x
+unfolding childrenNamed
+named-first x none t l e = let y : _≡_ {A = ℕ} 0 1 = cc in absurd (omega arith)
+named-first x (more u ts) t l e = go (textIs (bytes x) (nameOf u)) refl e (named-first x ts t l)
+  where
+    go : (b : Bool) → textIs (bytes x) (nameOf u) ≡ b → cond (b || false) (u ∷ childrenNamed (x ∷ []) ts) (childrenNamed (x ∷ []) ts) ≡ t ∷ l → (childrenNamed (x ∷ []) ts ≡ t ∷ l → nameOf t ≡ bytes x) → nameOf t ≡ bytes x
+    go true z e i = let y : u ≡ t = cc in rw (← y) (text-same (bytes x) (nameOf u) z)
+    go false z e i = i e
+
+-- ONE CHILD, with its text
+record TextOf (x : String) (f : Form) (ts : Trees) : Type 0 where
+  one : OneText x ts (textNamed x ts)
+  stands : fieldStands f (textNamed x ts) ≡ Stands
+
+text-one : (x : String) (f : Form) (n d : ℕ) (ts : Trees) (l : List Tree) → childrenNamed (x ∷ []) ts ≡ l → between 1 1 (length l) ≡ true → allTrees (right d) (asKept n (Text f) l) ≡ true → TextOf x f ts
+unfolding allTrees allStand
+text-one x f n d ts [] e c a = let y : _≡_ {A = ℕ} 0 1 = cc in absurd (omega arith)
+text-one x f n d ts (t ∷ u ∷ l) e c a = let b = both (leb 1 (suc (suc (length l)))) (leb (suc (suc (length l))) 1) c in absurd (omega (arith, leb-true (suc (suc (length l))) 1 (b .1)))
+text-one x f n d ts (tree p m (holds ks) ∷ []) e c a = let y : _≡_ {A = ℕ} 0 1 = cc in absurd (omega arith)
+text-one x f n d ts (tree p m (says t) ∷ []) e c a =
+    let z = named-first x ts (tree p m (says t)) [] e in
+    let w : textNamed x ts ≡ t = ap firstText e in
+    let b = both (stand (fieldStands f t) && true) true a in
+    let c = both (stand (fieldStands f t)) true (b .0) in
+    record { one = rw w (record { place = p; alone = e ∙ rw z }); stands = rw w (stand-is (record { form = f; lt = p; text = t }) (c .0)) }
+
+module _ (d : ℕ) (p : Parent) (ts : Trees) (r : Right (suc d) p ts) where
+  text-of : (n : ℕ) (x : String) (f : Form) → HasRow p n (once (x is Text f)) → TextOf x f ts
+  text-of n x f h = text-one x f n d ts (childrenNamed (x ∷ []) ts) refl (row-length d p ts r n x (Text f) 1 1 h) (row-right d p ts r n x (Text f) 1 1 h)
+
+-- VALUES
+number-there : (n : Number) → isNumber n ≡ Stands → n ≡ Value (valueOf n)
+number-there (Value v) e = refl
+number-there NoNumber e = let z : _≡_ {A = ℕ} 0 1 = cc in absurd (omega arith)
+
+day-there : (n : Day) → isDay n ≡ Stands → n ≡ On (dateOf n)
+day-there (On v) e = refl
+day-there NoDay e = let z : _≡_ {A = ℕ} 0 1 = cc in absurd (omega arith)
+
+operation-there : (n : Asked) → isOperation n ≡ Stands → n ≡ Operazione (operationOf n)
+operation-there (Operazione v) e = refl
+operation-there NoOperation e = let z : _≡_ {A = ℕ} 0 1 = cc in absurd (omega arith)
+
+module _ (x : String) (ts : Trees) where
+  -- the value of a child's text
+  value-of : {A : Type 0} (f : Form) (form : List ℕ → A) (v : A) → TextOf x f ts → (fieldStands f (textNamed x ts) ≡ Stands → form (textNamed x ts) ≡ v) → OneValue x form ts v
+  value-of f form v t e = record { text = textNamed x ts; one = t .one; is = e (t .stands) }
+
+  importo-of : TextOf x Importo ts → OneValue x importo ts (Value (valueOf (importo (textNamed x ts))))
+  unfolding fieldStands
+  importo-of t = value-of Importo importo _ t (number-there (importo (textNamed x ts)))
+
+  numero-of : TextOf x Numero ts → OneValue x numero ts (Value (valueOf (numero (textNamed x ts))))
+  unfolding fieldStands
+  numero-of t = value-of Numero numero _ t (number-there (numero (textNamed x ts)))
+
+  progressivo-of : TextOf x Progressivo ts → OneValue x progressivo ts (Value (valueOf (progressivo (textNamed x ts))))
+  unfolding fieldStands
+  progressivo-of t = value-of Progressivo progressivo _ t (number-there (progressivo (textNamed x ts)))
+
+  esercizio-of : TextOf x Esercizio ts → OneValue x esercizio ts (Value (valueOf (esercizio (textNamed x ts))))
+  unfolding fieldStands
+  esercizio-of t = value-of Esercizio esercizio _ t (number-there (esercizio (textNamed x ts)))
+
+  data-of : TextOf x Data ts → OneValue x dataOf ts (On (dateOf (dataOf (textNamed x ts))))
+  unfolding fieldStands
+  data-of t = value-of Data dataOf _ t (day-there (dataOf (textNamed x ts)))
+
+  operazione-of : TextOf x TipoOperazione ts → OneValue x tipoOperazione ts (Operazione (operationOf (tipoOperazione (textNamed x ts))))
+  unfolding fieldStands
+  operazione-of t = value-of TipoOperazione tipoOperazione _ t (operation-there (tipoOperazione (textNamed x ts)))
+
+-- THE HEADER
+pub header-in : (d : ℕ) (ts : Trees) → Right (suc d) FlussoOrdinativi ts → HeaderIn ts (headerTree ts)
+header-in d ts r = record {
+  abi = text-of d FlussoOrdinativi ts r 0 "codice_ABI_BT" _ (_, refl) .one;
+  ente = text-of d FlussoOrdinativi ts r 3 "codice_ente_BT" _ (_, refl) .one;
+  esercizio = esercizio-of "esercizio" ts (text-of d FlussoOrdinativi ts r 4 "esercizio" _ (_, refl));
+}
+
+-- LINES AND ORDERS
+module _ (p q : Parent) (w : Words) (sp : Spelled p q w) where
+  line-in : (d : ℕ) (t : Tree) → Right (suc d) q (kidsIn (heldOf t)) → LineIn w t (lineTree w (kidsIn (heldOf t)))
+  line-in d t r = record {
+    progressivo = progressivo-of (w .progressivo) (kidsIn (heldOf t)) (text-of d q (kidsIn (heldOf t)) r 0 (w .progressivo) _ (sp .progressivo));
+    amount = importo-of (w .amount) (kidsIn (heldOf t)) (text-of d q (kidsIn (heldOf t)) r 1 (w .amount) _ (sp .amount));
+  }
+
+  lines-in : (d n : ℕ) (l : List Tree) → allTrees (right (suc d)) (asKept n (Rows q) l) ≡ true → Each (LineIn w) l (linesTree w l)
+  unfolding allTrees linesTree
+  lines-in d n [] a = each-none
+  lines-in d n (t ∷ l) a =
+      let b = both (right (suc d) (record { tree = t; row = n; holds = Rows q })) (allTrees (right (suc d)) (asKept n (Rows q) l)) a in
+      let c = both (fitsTree (suc d) q (kidsIn (heldOf t))) (allStand (fieldsTree (suc d) q (kidsIn (heldOf t)))) (b .0) in
+      each-next (line-in d t (record { fits = c .0; stands = c .1 })) (lines-in d n l (b .1))
+
+  order-in : (d : ℕ) (t : Tree) → nameOf t ≡ bytes (w .name) → Right (suc (suc d)) p (kidsIn (heldOf t)) → OrderIn w t (orderTree w (kidsIn (heldOf t)))
+  order-in d t n r =
+      let k = kidsIn (heldOf t) in
+      record {
+        name = n;
+        kind = refl;
+        operation = operazione-of "tipo_operazione" k (text-of (suc d) p k r 0 "tipo_operazione" _ (sp .operation));
+        number = numero-of (w .number) k (text-of (suc d) p k r 1 (w .number) _ (sp .number));
+        date = data-of (w .date) k (text-of (suc d) p k r 2 (w .date) _ (sp .date));
+        total = importo-of (w .total) k (text-of (suc d) p k r 3 (w .total) _ (sp .total));
+        lines = lines-in d 4 (childrenNamed (w .line ∷ []) k) (row-right (suc d) p k r 4 (w .line) (Rows q) 1 8 (sp .line));
+      }
+
+-- its lines, at most eight, come back from their places
+taken : {A : Type 0} (n m : ℕ) (l : List A) → n ≤ m → take n (take m l) ≡ take n l
+taken zero m l h = refl
+taken (suc n) zero l h = absurd (omega arith)
+taken (suc n) (suc m) [] h = refl
+taken (suc n) (suc m) (x ∷ l) h = ap (λ r. x ∷ r) (taken n m l (omega arith))
+
+lines-back : (ls : List Line) → length ls ≤ 8 → take (length ls) (eight ls) ≡ ls
+unfolding eight
+lines-back ls h = taken (length ls) 8 (ls ++ replicate 8 noLine) h ∙ take-append-le (length ls) ls (replicate 8 noLine) (omega arith) ∙ take-length ls
+
+lines-length : (w : Words) (l : List Tree) → length (linesTree w l) ≡ length l
+unfolding linesTree
+lines-length w [] = refl
+lines-length w (t ∷ l) = ap suc (lines-length w l)
+
+-- an order, and that it comes back
+abbrev Whole : Tree → Ordinativo → Type 0
+Whole t o = AnOrder t o × (ordinativo (inPlaces o) ≡ o)
+
+order-whole : (p q : Parent) (w : Words) → Spelled p q w → (d : ℕ) (t : Tree) → Right (suc (suc d)) p (kidsIn (heldOf t)) → ordinativo (inPlaces (orderTree w (kidsIn (heldOf t)))) ≡ orderTree w (kidsIn (heldOf t))
+order-whole p q w sp d t r =
+    let l = childrenNamed (w .line ∷ []) (kidsIn (heldOf t)) in
+    let b = row-length (suc d) p (kidsIn (heldOf t)) r 4 (w .line) (Rows q) 1 8 (sp .line) in
+    let h = leb-true (length l) 8 (both (leb 1 (length l)) (leb (length l) 8) b .1) in
+    let k : length (linesTree w l) ≤ 8 = omega (arith, lines-length w l) in
+    rw (lines-back (linesTree w l) k)
+
+each-map : {A : Type 0} {P Q : Tree → A → Type 0} → ((t : Tree) (a : A) → P t a → Q t a) → {ts : List Tree} {vs : List A} → Each P ts vs → Each Q ts vs
+each-map f each-none = each-none
+each-map f (each-next {t = t} {a = a} x xs) = each-next (f t a x) (each-map f xs)
+
+all-whole : {ts : List Tree} {os : List Ordinativo} → Each Whole ts os → map ordinativo (allInPlaces os) ≡ os
+all-whole each-none = refl
+all-whole (each-next x xs) = rw (x .1, all-whole xs)
+
+-- the root's children in the row of orders
+orders-each : (d : ℕ) (ts : Trees) → allTrees (right (suc (suc d))) (pick orderNames 5 ts) ≡ true → Each Whole (childrenNamed ("mandato" ∷ "reversale" ∷ []) ts) (ordersTree ts)
+unfolding childrenNamed ordersTree pick allTrees
+orders-each d none a = each-none
+orders-each d (more t ts) a = go (textIs (bytes "mandato") (nameOf t)) refl (textIs (bytes "reversale") (nameOf t)) refl a (orders-each d ts)
+  where
+    one : (p : Parent) → allTrees (right (suc (suc d))) (record { tree = t; row = 5; holds = Rows p } ∷ pick orderNames 5 ts) ≡ true → Right (suc (suc d)) p (kidsIn (heldOf t)) × (allTrees (right (suc (suc d))) (pick orderNames 5 ts) ≡ true)
+    one p e =
+        let b = both (right (suc (suc d)) (record { tree = t; row = 5; holds = Rows p })) (allTrees (right (suc (suc d))) (pick orderNames 5 ts)) e in
+        let c = both (fitsTree (suc (suc d)) p (kidsIn (heldOf t))) (allStand (fieldsTree (suc (suc d)) p (kidsIn (heldOf t)))) (b .0) in
+        (record { fits = c .0; stands = c .1 }, b .1)
+
+    go : (b : Bool) → textIs (bytes "mandato") (nameOf t) ≡ b → (c : Bool) → textIs (bytes "reversale") (nameOf t) ≡ c
+        → allTrees (right (suc (suc d))) (keepTree (cond b (At 5 (Rows Mandato)) (cond c (At 5 (Rows Reversale)) Passed)) t (pick orderNames 5 ts)) ≡ true
+        → (allTrees (right (suc (suc d))) (pick orderNames 5 ts) ≡ true → Each Whole (childrenNamed ("mandato" ∷ "reversale" ∷ []) ts) (ordersTree ts))
+        → Each Whole (cond (b || (c || false)) (t ∷ childrenNamed ("mandato" ∷ "reversale" ∷ []) ts) (childrenNamed ("mandato" ∷ "reversale" ∷ []) ts))
+        (cond b (orderTree mandato (kidsIn (heldOf t)) ∷ ordersTree ts) (cond c (orderTree reversale (kidsIn (heldOf t)) ∷ ordersTree ts) (ordersTree ts)))
+    go true y c z e i = let k = one Mandato e in each-next (inl (order-in Mandato InformazioniBeneficiario mandato spelled-mandato d t (text-same (bytes "mandato") (nameOf t) y) (k .0)), order-whole Mandato InformazioniBeneficiario mandato spelled-mandato d t (k .0)) (i (k .1))
+    go false y true z e i = let k = one Reversale e in each-next (inr (order-in Reversale InformazioniVersante reversale spelled-reversale d t (text-same (bytes "reversale") (nameOf t) z) (k .0)), order-whole Reversale InformazioniVersante reversale spelled-reversale d t (k .0)) (i (k .1))
+    go false y false z e i = i e
+
+pub orders-in : (d : ℕ) (ts : Trees) → Right (suc (suc (suc d))) FlussoOrdinativi ts → OrdersIn ts (map ordinativo (allInPlaces (ordersTree ts)))
+orders-in d ts r =
+    let a = orders-each d ts (rw (← row-picked FlussoOrdinativi 5 ts) (all-row (right (suc (suc d))) 5 (keptTrees FlussoOrdinativi ts) (right-parts (suc (suc d)) FlussoOrdinativi ts r .each))) in
+    rw (all-whole a) (each-map (λ t o x. x .0) a)

@@ -1,0 +1,40 @@
+-- Document 01, "The fields" and code 5, said of a tree: its fields in document order, and which breaks first.
+use mathlib.Core.Path.{_≡_}
+use Prim.Native.Nat.{ℕ}
+use mathlib.Core.List.{List, [], _∷_, _++_}
+use Rattle.fields.specs.declared.Judged.the-variants.{Stands, Breaks}
+use Rattle.fields.specs.Fields.{fieldStands}
+use Rattle.rows.specs.declared.Parent.{Parent}
+use Rattle.rows.specs.declared.Holds.the-variants.{Text, Rows}
+use Rattle.rows.specs.Table.{table}
+use Rattle.standing.specs.Readings.{Field}
+use Rattle.tree.specs.Tree.{Tree, tree, Held, says, holds, Trees, none, more}
+use Rattle.tree.specs.Structure.{Said, named, passed, said}
+
+-- the fields in document order: a field has its form, the place of its element's <, and its text
+unfoldable mutual
+  pub treeFields : Tree → Parent → List Field
+  treeFields (tree p n h) q = heldFields h p (said (table q) n)
+
+  -- of what the element at p holds
+  pub heldFields : Held → ℕ → Said → List Field
+  heldFields (says t) p (named (Text f)) = record { form = f; lt = p; text = t } ∷ []
+  heldFields (says t) p (named (Rows q)) = []
+  heldFields (says t) p passed = []
+  heldFields (holds ts) p (named (Text f)) = []
+  heldFields (holds ts) p (named (Rows q)) = allFields ts q
+  heldFields (holds ts) p passed = []
+
+  pub allFields : Trees → Parent → List Field
+  allFields none q = []
+  allFields (more t ts) q = treeFields t q ++ allFields ts q
+
+-- each has its form
+pub data AllStand : List Field → Type 0 where
+  all-none : AllStand []
+  all-next : {f : Field} {fs : List Field} → fieldStands (f .form) (f .text) ≡ Stands → AllStand fs → AllStand (f ∷ fs)
+
+-- "a field breaks; place is the byte of < of the first such element": the first that hasn't its form stands at p
+pub data FirstBreaks : List Field → ℕ → Type 0 where
+  here : {f : Field} {fs : List Field} {p : ℕ} → fieldStands (f .form) (f .text) ≡ Breaks → f .lt ≡ p → FirstBreaks (f ∷ fs) p
+  later : {f : Field} {fs : List Field} {p : ℕ} → fieldStands (f .form) (f .text) ≡ Stands → FirstBreaks fs p → FirstBreaks (f ∷ fs) p

@@ -1,0 +1,109 @@
+-- The header and the orders that a tree says, by name.
+use mathlib.Core.Path.{_≡_}
+use mathlib.Core.Logic.{_⊎_}
+use Prim.Native.Nat.{ℕ}
+use Prim.Native.String.{String}
+use mathlib.Core.List.{List, [], _∷_}
+use mathlib.Core.Bool.{Bool, false, cond, _||_}
+use Rattle.scan.specs.Bytes.{bytes, textIs}
+use Rattle.calendar.specs.declared.Date.{Date}
+use Rattle.codes.specs.declared.Operation.{Operation}
+use Rattle.codes.specs.declared.Asked.the-variants.{Operazione}
+use Rattle.codes.specs.Codes.{tipoOperazione}
+use Rattle.digits.specs.declared.Number.the-variants.{Value}
+use Rattle.digits.specs.Digits.{esercizio, numero, importo, progressivo}
+use Rattle.dates.specs.declared.Day.the-variants.{On}
+use Rattle.dates.specs.Dates.{dataOf}
+use Rattle.order.specs.declared.Line.{Line}
+use Rattle.order.specs.Ordinativo.{Ordinativo}
+use Rattle.orders.specs.Orders.{Header}
+use Rattle.tree.specs.Tree.{Tree, tree, says, Trees, none, more, nameOf, heldOf, kidsIn}
+
+-- CHILDREN BY NAME
+abbrev pub isOneOf : List String → List ℕ → Bool
+isOneOf [] n = false
+isOneOf (x ∷ xs) n = textIs (bytes x) n || isOneOf xs n
+
+-- the children of these names, in document order
+unfoldable pub childrenNamed : List String → Trees → List Tree
+childrenNamed xs none = []
+childrenNamed xs (more t ts) = cond (isOneOf xs (nameOf t)) (t ∷ childrenNamed xs ts) (childrenNamed xs ts)
+
+-- one child has the name x, and holds the text
+pub record OneText (x : String) (kids : Trees) (text : List ℕ) : Type 0 where
+  pub place : ℕ
+  pub alone : childrenNamed (x ∷ []) kids ≡ tree place (bytes x) (says text) ∷ []
+
+-- one child has the name x, and its text says v in this form
+pub record OneValue {A : Type 0} (x : String) (form : List ℕ → A) (kids : Trees) (v : A) : Type 0 where
+  pub text : List ℕ
+  pub one : OneText x kids text
+  pub is : form text ≡ v
+
+-- one after the other
+pub data Each {A : Type 0} (Is : Tree → A → Type 0) : List Tree → List A → Type 0 where
+  each-none : Each Is [] []
+  each-next : {t : Tree} {a : A} {ts : List Tree} {vs : List A} → Is t a → Each Is ts vs → Each Is (t ∷ ts) (a ∷ vs)
+
+-- THE HEADER among the root's children
+pub record HeaderIn (kids : Trees) (h : Header) : Type 0 where
+  pub abi : OneText "codice_ABI_BT" kids (h .abi)
+  pub ente : OneText "codice_ente_BT" kids (h .ente)
+  pub esercizio : OneValue "esercizio" esercizio kids (Value (h .esercizio))
+
+-- AN ORDER'S WORDS: its element's name and kind, and the names of its children and of its lines' children. "Reversale is the same with reversale,
+-- informazioni_versante, versante in place of mandato, informazioni_beneficiario, beneficiario"
+pub record Words : Type 0 where
+  pub name : String
+  pub kind : ℕ
+  pub number : String
+  pub date : String
+  pub total : String
+  pub line : String
+  pub progressivo : String
+  pub amount : String
+
+abbrev pub mandato : Words
+mandato = record {
+  name = "mandato";
+  kind = 1;
+  number = "numero_mandato";
+  date = "data_mandato";
+  total = "importo_mandato";
+  line = "informazioni_beneficiario";
+  progressivo = "progressivo_beneficiario";
+  amount = "importo_beneficiario";
+}
+
+abbrev pub reversale : Words
+reversale = record {
+  name = "reversale";
+  kind = 2;
+  number = "numero_reversale";
+  date = "data_reversale";
+  total = "importo_reversale";
+  line = "informazioni_versante";
+  progressivo = "progressivo_versante";
+  amount = "importo_versante";
+}
+
+-- AN ORDER, with all its lines
+pub record LineIn (w : Words) (t : Tree) (l : Line) : Type 0 where
+  pub progressivo : OneValue (w .progressivo) progressivo (kidsIn (heldOf t)) (Value (l .progressivo))
+  pub amount : OneValue (w .amount) importo (kidsIn (heldOf t)) (Value (l .amount))
+
+pub record OrderIn (w : Words) (t : Tree) (o : Ordinativo) : Type 0 where
+  pub name : nameOf t ≡ bytes (w .name)
+  pub kind : o .kind ≡ w .kind
+  pub operation : OneValue "tipo_operazione" tipoOperazione (kidsIn (heldOf t)) (Operazione (o .operation))
+  pub number : OneValue (w .number) numero (kidsIn (heldOf t)) (Value (o .number))
+  pub date : OneValue (w .date) dataOf (kidsIn (heldOf t)) (On (o .date))
+  pub total : OneValue (w .total) importo (kidsIn (heldOf t)) (Value (o .total))
+  pub lines : Each (LineIn w) (childrenNamed (w .line ∷ []) (kidsIn (heldOf t))) (o .lines)
+
+-- THE ORDERS among the root's children: "mandato and reversale in any mix"
+abbrev pub AnOrder : Tree → Ordinativo → Type 0
+AnOrder t o = OrderIn mandato t o ⊎ OrderIn reversale t o
+
+abbrev pub OrdersIn : Trees → List Ordinativo → Type 0
+OrdersIn kids os = Each AnOrder (childrenNamed (mandato .name ∷ reversale .name ∷ []) kids) os
