@@ -121,6 +121,7 @@ done
 is 1 "a file that is not there" ./desk nowhere.xml
 holds "its cause" err_has "nowhere.xml: No such file or directory"
 is 0 "standard input" bash -c './desk < ../flow.xml'
+is 0 "a pipe by its name" bash -c './desk <(cat ../flow.xml)'
 is 1 "closed input" bash -c './desk <&-'
 holds "closed input is said" err_has "standard input is closed"
 is 1 "closed output" bash -c './desk ../flow.xml >&-'
@@ -164,6 +165,7 @@ if [ "${1:-}" != --stub ]; then
   holds "a folder is no flow" out_is ""
   is 1 "a full device" bash -c './desk examples/run.xml > /dev/full'
   holds "a full device is said" err_has "the output cannot be written"
+  # shellcheck disable=SC2016
   is 1 "a reader that went away" bash -c 'trap "" PIPE; ./desk examples/run.xml | sleep 0; exit ${PIPESTATUS[0]}'
 fi
 

@@ -15,7 +15,8 @@ try() {
     { at = index($0, open); to = index($0, shut)
       printf "%s%s%s", substr($0, 1, at + length(open) - 1), ENVIRON["text"], substr($0, to)
       print at - 1 > "/dev/stderr" }' examples/run.xml > "$work/flow.xml" 2> "$work/place"
-  local answer due="flow 5 $(cat "$work/place") 0 0"
+  local answer due
+  due="flow 5 $(cat "$work/place") 0 0"
   answer=$(./desk "$work/flow.xml" | sed -n 1p)
   if [ "$answer" = "$due" ]; then answer=5; fi
   if { [ "$3" = 5 ] && [ "$answer" = 5 ]; } || { [ "$3" != 5 ] && [[ "$answer" != 5 && "$answer" != "flow 5 "* ]]; }; then

@@ -1,6 +1,6 @@
 //! The calls through the safe types: document 01's run, and a refusal of each kind.
 
-use hondivole::{Kind, MOST_OUTCOME_BYTES, Notice, Operation, Refusal, Table, Totals};
+use hondivole::{Field, Kind, MOST_OUTCOME_BYTES, Notice, Operation, Refusal, Table, Totals, field_at};
 
 const RUN: &[u8] = include_bytes!("../src/run.xml");
 
@@ -101,4 +101,26 @@ fn openings() {
     assert!(refused("01234", &[("471", 1), ("471", 1)]));
     assert!(refused("01234", &[("A", 512), ("a", 512)]));
     assert_eq!(Table::open("01234", &[("A", 512), ("a", 169)]).unwrap().bytes().len(), 65_456);
+}
+
+/// The element at a place of a flow in which no element holds another of its name, found by searching for its end tag.
+fn searched(flow: &str, place: usize) -> Option<Field<'_>> {
+    let name = flow[place..].strip_prefix('<')?.split('>').next()?;
+    let from = place + name.len() + 2;
+    let text = flow.get(from..)?.split(&format!("</{name}>")).next()?;
+    let closes = name.starts_with('/') || flow.get(from + text.len()..)?.is_empty();
+    (!closes).then_some(Field { name, text })
+}
+
+#[test]
+fn every_element_is_shown() {
+    let run = str::from_utf8(RUN).unwrap();
+    let mut shown = 0;
+    for place in 0..=run.len() {
+        assert_eq!(field_at(RUN, place), searched(run, place), "{place}");
+        shown += usize::from(field_at(RUN, place).is_some());
+    }
+    assert_eq!(shown, run.matches("</").count());
+    assert_eq!(field_at(&RUN[..RUN.len() - 1], 0), None);
+    assert_eq!(field_at(RUN, usize::MAX), None);
 }

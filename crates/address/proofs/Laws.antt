@@ -10,7 +10,8 @@ use Rattle.ranges.specs.declared.Found.the-variants.{At, Nothing}
 use Rattle.record.specs.Slot.{slotSize}
 use Rattle.body.specs.Body.{bodyOk}
 use Rattle.entries.specs.Entry.{entrySize, slotsOf, placeOf}
-use Rattle.table.specs.Table.{maxLength, tableOk, bodyOf, entryOf}
+use Rattle.bounds.specs.Bounds.{maxSlots, maxLength}
+use Rattle.table.specs.Table.{tableOk, bodyOf, entryOf}
 use Rattle.table.proofs.Laws.{head, table, body-same}
 use Rattle.table.proofs.Bodies.{body-at, found-body}
 use Rattle.address.specs.declared.Addressed.{Addressed}
@@ -25,7 +26,7 @@ pub record Row (t : List ℕ) (b : ℕ) : Type 0 where
 -- THE BODY THAT A CODE NAMES: its slots lie within the table and are valid
 pub record Slots (t : List ℕ) (base n : ℕ) : Type 0 where
   pub inside : base + slotSize * n ≤ length t
-  pub few : n ≤ 512
+  pub few : n ≤ maxSlots
   pub valid : bodyOk t base n ≡ true
 
 module _ (t code : List ℕ) where

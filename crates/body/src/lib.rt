@@ -5,6 +5,7 @@ ghost use mathlib.Core.Bool.{true, cond};
 ghost use Prim.Native.Nat.{_+_, _*_, _≤_};
 ghost use lib.ListN.{length};
 ghost use lib.Dec.{eqb};
+ghost use Rattle.bounds.specs.Bounds.{maxCents, maxSlots};
 ghost use Rattle.record.specs.Slot.{slotSize, recordAt};
 ghost use Rattle.valid.specs.Valid.{recordOk};
 ghost use Rattle.slots.specs.Slots.{recordsAt};
@@ -61,7 +62,7 @@ fn line_cents(executed: bool, amount: u64) -> u64
 // The cents of a record's executed lines.
 fn executed_cents(r: Record) -> u64
     requires { ⌜ recordOk r ≡ true ⌝ }
-    ensures { λ c. ⌜ (c ≡ executed r) × (c ≤ 99999999999) ⌝ }
+    ensures { λ c. ⌜ (c ≡ executed r) × (c ≤ maxCents) ⌝ }
 {
     let states = r.states;
     let amounts = r.amounts;
@@ -77,7 +78,7 @@ fn executed_cents(r: Record) -> u64
 // The cents of the executed lines of the record at a place, if it is of this kind.
 fn cents_at(t: &[u8], at: usize, kind: u8) -> u64
     requires { ⌜ (at + slotSize ≤ length (now t)) × (recordOk (recordAt (now t) at) ≡ true) ⌝ }
-    ensures { λ c. ⌜ (c ≡ cond (eqb (recordAt (now (t .entry)) at .kind) kind) (executed (recordAt (now (t .entry)) at)) 0) × (c ≤ 99999999999) ⌝ }
+    ensures { λ c. ⌜ (c ≡ cond (eqb (recordAt (now (t .entry)) at .kind) kind) (executed (recordAt (now (t .entry)) at)) 0) × (c ≤ maxCents) ⌝ }
 {
     if t[at] != kind {
         return 0;
@@ -87,8 +88,8 @@ fn cents_at(t: &[u8], at: usize, kind: u8) -> u64
 
 // The cents of the executed lines of a body's records of a kind: paid for 1, collected for 2.
 pub fn cents_of(t: &[u8], base: usize, n: usize, kind: u8) -> u64
-    requires { ⌜ (base + slotSize * n ≤ length (now t)) × (n ≤ 512) × (bodyOk (now t) base n ≡ true) ⌝ }
-    ensures { λ r. ⌜ (r ≡ centsOf kind (recordsAt (now (t .entry)) base n)) × (r ≤ 51199999999488) ⌝ }
+    requires { ⌜ (base + slotSize * n ≤ length (now t)) × (n ≤ maxSlots) × (bodyOk (now t) base n ≡ true) ⌝ }
+    ensures { λ r. ⌜ (r ≡ centsOf kind (recordsAt (now (t .entry)) base n)) × (r ≤ maxCents * maxSlots) ⌝ }
 {
     let mut at = base;
     let mut i: usize = 0;

@@ -3,6 +3,7 @@ use Prim.Native.Nat.{ℕ, _%_}
 use mathlib.Core.Bool.{Bool, cond, not, _&&_, _||_}
 use lib.Dec.{leb, eqb}
 use Rattle.scan.specs.Bytes.{between}
+use Rattle.bounds.specs.Bounds.{isYear}
 use Rattle.calendar.specs.declared.Date.{Date}
 
 -- a year that 4 divides, and not 100 unless 400 does
@@ -17,4 +18,4 @@ monthLength y m =
 
 -- a real Gregorian date of the years 2000 to 2099
 unfoldable pub isDate : Date → Bool
-isDate d = between 2000 2099 (d .year) && (between 1 12 (d .month) && between 1 (monthLength (d .year) (d .month)) (d .day))
+isDate d = isYear (d .year) && (between 1 12 (d .month) && between 1 (monthLength (d .year) (d .month)) (d .day))

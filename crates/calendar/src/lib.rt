@@ -50,10 +50,10 @@ fn month_length(y: u64, m: u64) -> u64
 pub fn is_date(d: Date) -> bool
     ensures { λ r. ⌜ r ≡ isDate d ⌝ }
 {
-    if d.year < 2000 {
+    if d.year < bounds::FIRST_YEAR {
         return false;
     }
-    if 2099 < d.year {
+    if bounds::LAST_YEAR < d.year {
         return false;
     }
     if d.month < 1 {

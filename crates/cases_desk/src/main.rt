@@ -9,6 +9,7 @@ use casebook::say_number;
 use desk::FlowAnswer;
 use notices::NoticeAnswer;
 use opening::Opened;
+use record::Key;
 ghost use mathlib.Core.Path.{_≡_};
 ghost use Prim.Native.Nat.{_+_, _≤_, _<_};
 ghost use lib.ListN.{length};
@@ -131,14 +132,16 @@ fn run_body(s: &[u8], a: usize, e: usize, kind: &[u8], t: &mut [u8])
     if scan::same(kind, b"totals") {
         return run_totals(t, &code[..n]);
     }
-    let k = number(s, a, e, 3);
-    let year = number(s, a, e, 4);
-    let order = number(s, a, e, 5);
+    let key = Key {
+        kind: number(s, a, e, 3),
+        esercizio: number(s, a, e, 4),
+        number: number(s, a, e, 5),
+    };
     let line = number(s, a, e, 6);
     if scan::same(kind, b"execute") {
-        return say_notice(notices::execute(t, &code[..n], k, year, order, line));
+        return say_notice(notices::execute(t, &code[..n], key, line));
     }
-    say_notice(notices::reverse(t, &code[..n], k, year, order, line))
+    say_notice(notices::reverse(t, &code[..n], key, line))
 }
 
 // The calls on the table whose argument is column 2.

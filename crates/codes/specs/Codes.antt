@@ -4,7 +4,8 @@ use mathlib.Core.List.{List}
 use mathlib.Core.Bool.{Bool, cond, _&&_}
 use lib.ListN.{length}
 use lib.Dec.{eqb}
-use Rattle.scan.specs.Bytes.{bytes, between, isDigit, isAlnum, all, textIs}
+use Rattle.scan.specs.Bytes.{bytes, between, isDigit, all, textIs}
+use Rattle.bounds.specs.Bounds.{abiLength, isCode}
 use Rattle.ranges.specs.Ranges.{isIdentifying}
 use Rattle.codes.specs.declared.Operation.{Operation}
 use Rattle.codes.specs.declared.Operation.the-variants.{Inserimento, Variazione, Annullo, Sostituzione}
@@ -13,7 +14,7 @@ use Rattle.codes.specs.declared.Asked.the-variants.{Operazione, NoOperat
 
 -- codice_ABI_BT: five digits, compared as digits
 unfoldable pub codiceAbi : List ℕ → Bool
-codiceAbi t = eqb (length t) 5 && all isDigit t
+codiceAbi t = eqb (length t) abiLength && all isDigit t
 
 -- identificativo_flusso: 1 to 35 of letters, digits, - _ .
 unfoldable pub identificativo : List ℕ → Bool
@@ -21,7 +22,7 @@ identificativo t = between 1 35 (length t) && all isIdentifying t
 
 -- codice_ente_BT: 1 to 16 letters and digits
 unfoldable pub codiceEnte : List ℕ → Bool
-codiceEnte t = between 1 16 (length t) && all isAlnum t
+codiceEnte t = isCode (length t) t
 
 -- tipo_operazione: INSERIMENTO, VARIAZIONE, ANNULLO, SOSTITUZIONE
 unfoldable pub tipoOperazione : List ℕ → Asked

@@ -31,7 +31,7 @@ pub fn operation_number(o: Operation) -> u8
 pub fn codice_abi(t: &[u8]) -> bool
     ensures { λ r. ⌜ r ≡ codiceAbi (now (t .entry)) ⌝ }
 {
-    if t.len() != 5 {
+    if t.len() != bounds::ABI {
         return false;
     }
     ranges::are_of(t, 0, t.len(), Class::Digits)
@@ -57,7 +57,7 @@ pub fn codice_ente(t: &[u8]) -> bool
     if t.len() < 1 {
         return false;
     }
-    if 16 < t.len() {
+    if bounds::MAX_CODE < t.len() {
         return false;
     }
     ranges::are_of(t, 0, t.len(), Class::Alphanumeric)

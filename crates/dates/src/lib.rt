@@ -41,10 +41,10 @@ pub fn data_of(t: &[u8]) -> Day
     if t.len() != 10 {
         return Day::NoDay;
     }
-    if t[4] != 45 {
+    if t[4] != b'-' {
         return Day::NoDay;
     }
-    if t[7] != 45 {
+    if t[7] != b'-' {
         return Day::NoDay;
     }
     day_of(
@@ -94,13 +94,13 @@ pub fn data_ora(t: &[u8]) -> bool
     if !is_on(data_of(&t[0..10])) {
         return false;
     }
-    if t[10] != 84 {
+    if t[10] != b'T' {
         return false;
     }
-    if t[13] != 58 {
+    if t[13] != b':' {
         return false;
     }
-    if t[16] != 58 {
+    if t[16] != b':' {
         return false;
     }
     clock_stands(

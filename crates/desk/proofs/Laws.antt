@@ -18,7 +18,10 @@ use Rattle.rows.specs.declared.Next.{Next}
 use Rattle.rows.specs.declared.Next.the-variants.{Named, Done}
 use Rattle.rows.specs.Kept.{keptFrom, nextOf}
 use Rattle.order.specs.Ordinativo.{Ordinativo}
+use Rattle.orders.specs.Shape.{Filled}
 use Rattle.orders.specs.Orders.{inRow, orderOf, Header}
+use Rattle.header.specs.Heading.{rootRows}
+use Rattle.structure.proofs.Laws.{fits-parts}
 use Rattle.orders.proofs.Laws.{row-at, orders-one, orders-end, Order-at, order-at, standing}
 use Rattle.table.specs.Table.{tableOk, abiOf}
 use Rattle.address.specs.declared.Addressed.{Addressed}
@@ -66,6 +69,12 @@ module _ (f : List ℕ) (at from : ℕ) (z : from ≡ whiteAt f at) where
   bank-rooted past e n =
       let s = flow-stood f at e in
       subst (λ (x : ℕ). Rooted f past x) (sym z) (record { within = run-within isWhite f at (s .within); holds = standing f at (s .fits); noted = n })
+
+  pub bank-filled : verdictOf f ≡ Stands at → Filled rootRows 3 FlussoOrdinativi f 0 from
+  bank-filled e =
+      let s = flow-stood f at e in
+      let b = fits-parts 3 FlussoOrdinativi f at (s .fits) in
+      subst (λ (x : ℕ). Filled rootRows 3 FlussoOrdinativi f 0 x) (sym z) (record { within = run-within isWhite f at (s .within); rows = b .0; each = b .1 })
 
 module _ (t f out : List ℕ) where
   pub flow-invalid : tableOk t ≡ false → FlowPromise t f out InvalidTable t out

@@ -13,7 +13,7 @@ use Rattle.orders.specs.Orders.{Header}
 use Rattle.flow.specs.declared.Verdict.{Verdict}
 use Rattle.flow.specs.declared.Verdict.the-variants.{MarkupBreaks, StructureBreaks, FieldBreaks, Stands}
 use Rattle.flow.specs.Flow.{verdictOf, headerOf, flowOrders}
-use Rattle.service.specs.Service.{allLeave, allOutcomes, allAccepted}
+use Rattle.service.specs.Service.{outcomeSize, allLeave, allOutcomes, allAccepted}
 use Rattle.address.specs.declared.Addressed.{Addressed}
 use Rattle.address.specs.declared.Addressed.the-variants.{Invalid, Unknown, Body}
 use Rattle.address.specs.Address.{bodyNamed}
@@ -30,7 +30,7 @@ pub data Reading : Type 0 where
 
 -- "8 the outcome buffer has under 16 bytes per order"
 abbrev pub withRoom : ℕ → ℕ → ℕ → ℕ → List Ordinativo → Reading
-withRoom room base n year os = cond (leb (16 * length os) room) (served base n year os) (refused NoRoom)
+withRoom room base n year os = cond (leb (outcomeSize * length os) room) (served base n year os) (refused NoRoom)
 
 -- "7 no body has this code"
 abbrev pub forBody : ℕ → ℕ → List Ordinativo → Addressed → Reading

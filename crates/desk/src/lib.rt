@@ -1,9 +1,8 @@
 // A flow's call, on any bytes at all: the table is checked, then the flow's length, markup, structure and fields, then bank, body and room; then its
 // orders are served.
 use address::Addressed;
-use digits::Number;
 use flow::Verdict;
-use rows::Parent;
+use header::Heading;
 ghost use mathlib.Core.Path.{_≡_};
 ghost use mathlib.Core.Bool.{true};
 ghost use Prim.Native.Nat.{ℕ, _+_, _*_, _≤_, _<_};
@@ -12,6 +11,7 @@ ghost use Rattle.markup.specs.Noted.{Noted};
 ghost use Rattle.record.specs.Slot.{slotSize};
 ghost use Rattle.table.specs.Table.{tableOk};
 ghost use Rattle.flow.specs.declared.Verdict.the-variants.{Stands};
+ghost use Rattle.header.specs.Heading.{headingFrom};
 ghost use Rattle.flow.specs.Flow.{verdictOf, headerOf, flowOrders};
 ghost use Rattle.desk.specs.Desk.{forBank, maxFlow, Gives, FlowPromise, SameReply, flowReply};
 ghost use Rattle.serving.specs.Served.{ordersFrom, Rooted};
@@ -38,35 +38,26 @@ pub struct FlowReply {
     pub accepted: u64,
 }
 
-// The flow's esercizio.
-fn year_of(f: &[u8], from: usize, past: &[u32]) -> u64
-    requires { ⌜ (from ≤ length (now f)) × Noted (now f) (now past) ⌝ }
-    ensures { λ r. ⌜ r ≡ headerFrom (now (f .entry)) from .esercizio ⌝ }
-{
-    match digits::esercizio_of(orders::field_text(f, from, Parent::FlussoOrdinativi, 4, past)) {
-        Number::Value(v) => v,
-        Number::NoNumber => 0,
-    }
-}
-
 // The orders of a flow for a body of the table: 8, or they are served.
 fn with_room(
     t: &mut [u8],
     f: &[u8],
     from: usize,
+    year: u64,
     base: usize,
     n: usize,
     out: &mut [u8],
     past: &[u32],
 ) -> FlowAnswer
-    requires { ⌜ (base + slotSize * n ≤ length (now t)) × Rooted (now f) (now past) from × (length (now f) ≤ maxFlow) ⌝ }
-    ensures { λ r. ⌜ Gives (now (t .entry)) (now (out .entry)) (roomFor (length (now (out .entry))) (headerFrom (now (f .entry)) from) (ordersFrom (now (f .entry)) from) base n) r (now (t .exit)) (now (out .exit)) ⌝ }
+    requires { ⌜ (base + slotSize * n ≤ length (now t)) × Rooted (now f) (now past) from × (length (now f) ≤ maxFlow)
+        × (year ≡ headerFrom (now f) from .esercizio) ⌝ }
+    ensures { λ r. ⌜ Gives (now (t .entry)) (now (out .entry))
+        (roomFor (length (now (out .entry))) (headerFrom (now (f .entry)) from) (ordersFrom (now (f .entry)) from) base n) r (now (t .exit)) (now (out .exit)) ⌝ }
 {
     let count = orders::count_orders(f, from, past);
-    if out.len() < 16 * count {
+    if out.len() < service::OUTCOME * count {
         return FlowAnswer::NoRoom;
     }
-    let year = year_of(f, from, past);
     FlowAnswer::Taken(
         count,
         serving::serve_all(t, f, from, base, n, year, out, past),
@@ -74,13 +65,22 @@ fn with_room(
 }
 
 // The orders of a flow, for the body with the flow's code: 7, or as the room says.
-fn for_body(t: &mut [u8], f: &[u8], from: usize, out: &mut [u8], past: &[u32]) -> FlowAnswer
-    requires { ⌜ (tableOk (now t) ≡ true) × Rooted (now f) (now past) from × (length (now f) ≤ maxFlow) ⌝ }
-    ensures { λ r. ⌜ Gives (now (t .entry)) (now (out .entry)) (bodyFor (now (t .entry)) (length (now (out .entry))) (headerFrom (now (f .entry)) from) (ordersFrom (now (f .entry)) from)) r (now (t .exit)) (now (out .exit)) ⌝ }
+fn for_body(
+    t: &mut [u8],
+    f: &[u8],
+    from: usize,
+    h: Heading,
+    out: &mut [u8],
+    past: &[u32],
+) -> FlowAnswer
+    requires { ⌜ (tableOk (now t) ≡ true) × Rooted (now f) (now past) from × (length (now f) ≤ maxFlow) × (h ≡ headingFrom (now f) from) ⌝ }
+    ensures { λ r. ⌜ Gives (now (t .entry)) (now (out .entry))
+        (bodyFor (now (t .entry)) (length (now (out .entry))) (headerFrom (now (f .entry)) from) (ordersFrom (now (f .entry)) from)) r (now (t .exit)) (now (out .exit)) ⌝ }
 {
-    let ente = orders::field_text(f, from, Parent::FlussoOrdinativi, 3, past);
+    let w = h.ente;
+    let ente = header::part_at(f, w);
     match address::body_named(t, ente) {
-        Addressed::Body(_, base, n) => with_room(t, f, from, base, n, out, past),
+        Addressed::Body(_, base, n) => with_room(t, f, from, h.esercizio, base, n, out, past),
         Addressed::Unknown => FlowAnswer::UnknownBody,
         Addressed::Invalid => FlowAnswer::InvalidTable,
     }
@@ -89,14 +89,17 @@ fn for_body(t: &mut [u8], f: &[u8], from: usize, out: &mut [u8], past: &[u32]) -
 // A flow that stands, its root's content at a place: 6, or as its body says.
 fn for_bank(t: &mut [u8], f: &[u8], at: usize, out: &mut [u8], past: &[u32]) -> FlowAnswer
     requires { ⌜ (tableOk (now t) ≡ true) × (verdictOf (now f) ≡ Stands at) × Noted (now f) (now past) × (length (now f) ≤ maxFlow) ⌝ }
-    ensures { λ r. ⌜ Gives (now (t .entry)) (now (out .entry)) (forBank (now (t .entry)) (length (now (out .entry))) (headerOf (now (f .entry)) at) (flowOrders (now (f .entry)) at)) r (now (t .exit)) (now (out .exit)) ⌝ }
+    ensures { λ r. ⌜ Gives (now (t .entry)) (now (out .entry))
+        (forBank (now (t .entry)) (length (now (out .entry))) (headerOf (now (f .entry)) at) (flowOrders (now (f .entry)) at)) r (now (t .exit)) (now (out .exit)) ⌝ }
 {
     let from = scan::white_end(f, at);
-    let abi = orders::field_text(f, from, Parent::FlussoOrdinativi, 0, past);
+    let h = header::header_from(f, from, past);
+    let w = h.abi;
+    let abi = header::part_at(f, w);
     if !scan::same(abi, &t[8..13]) {
         return FlowAnswer::OtherBank;
     }
-    for_body(t, f, from, out, past)
+    for_body(t, f, from, h, out, past)
 }
 
 // Reads a flow that is not too long, noting in `past` where its elements end, and serves it.

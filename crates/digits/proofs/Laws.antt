@@ -161,7 +161,7 @@ module _ (t : List ℕ) where
 
 -- RANGES of the values that fields give
 
-within-range : (lo hi : ℕ) (x : Number) {n : ℕ} → within lo hi x ≡ Value n → (lo ≤ n) × (n ≤ hi)
+within-range : (lo hi : ℕ) (x : Number) {n : ℕ} → within (between lo hi) x ≡ Value n → (lo ≤ n) × (n ≤ hi)
 within-range lo hi (Value v) {n} e =
     let h = cond-value (between lo hi v) (Value v) e in
     let z : v ≡ n = let f = h .1 in cc in

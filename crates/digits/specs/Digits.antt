@@ -5,13 +5,14 @@ use mathlib.Core.Bool.{Bool, cond, not, _&&_}
 use lib.ListN.{length}
 use lib.Dec.{eqb}
 use Rattle.scan.specs.Bytes.{byte, byteAt, part, between, isDigit}
+use Rattle.bounds.specs.Bounds.{isYear, isNumero}
 use Rattle.digits.specs.declared.Number.{Number}
 use Rattle.digits.specs.declared.Number.the-variants.{Value, NoNumber}
 
--- a number of lo to hi
-abbrev pub within : ℕ → ℕ → Number → Number
-within lo hi (Value v) = cond (between lo hi v) (Value v) NoNumber
-within lo hi NoNumber = NoNumber
+-- a number of which f holds
+abbrev pub within : (ℕ → Bool) → Number → Number
+within f (Value v) = cond (f v) (Value v) NoNumber
+within f NoNumber = NoNumber
 
 -- the number v followed by the digits t
 unfoldable pub digitsAfter : ℕ → List ℕ → Number
@@ -24,11 +25,11 @@ digits lo hi t = cond (between lo hi (length t)) (digitsAfter 0 t) NoNumber
 
 -- esercizio: four digits, 2000 to 2099
 unfoldable pub esercizio : List ℕ → Number
-esercizio t = within 2000 2099 (digits 4 4 t)
+esercizio t = within isYear (digits 4 4 t)
 
 -- numero: 1 to 7 digits, value 1 to 9,999,999; leading zeros don't count
 unfoldable pub numero : List ℕ → Number
-numero t = within 1 9999999 (digits 1 7 t)
+numero t = within isNumero (digits 1 7 t)
 
 abbrev pub inCents : Number → Number → Number
 inCents (Value w) (Value c) = Value (w * 100 + c)

@@ -1,6 +1,7 @@
 // The forms that write a number in digits: esercizio, numero, progressivo and the amounts.
 ghost use mathlib.Core.Path.{_≡_};
 ghost use Prim.Native.Nat.{_≤_};
+ghost use Rattle.scan.specs.Bytes.{between};
 ghost use Rattle.digits.specs.Digits.{within, digits, esercizio, numero, progressivo, zeroInFront, importo};
 
 pub enum Number {
@@ -9,7 +10,7 @@ pub enum Number {
 }
 
 fn number_within(n: Number, lo: u64, hi: u64) -> Number
-    ensures { λ r. ⌜ r ≡ within lo hi n ⌝ }
+    ensures { λ r. ⌜ r ≡ within (between lo hi) n ⌝ }
 {
     let Number::Value(v) = n else {
         return Number::NoNumber;
@@ -71,13 +72,13 @@ pub fn four_digits(t: &[u8]) -> Number
 pub fn esercizio_of(t: &[u8]) -> Number
     ensures { λ r. ⌜ r ≡ esercizio (now (t .entry)) ⌝ }
 {
-    number_within(digits_of(t, 4, 4), 2000, 2099)
+    number_within(digits_of(t, 4, 4), bounds::FIRST_YEAR, bounds::LAST_YEAR)
 }
 
 pub fn numero_of(t: &[u8]) -> Number
     ensures { λ r. ⌜ r ≡ numero (now (t .entry)) ⌝ }
 {
-    number_within(digits_of(t, 1, 7), 1, 9999999)
+    number_within(digits_of(t, 1, 7), 1, bounds::MAX_NUMERO)
 }
 
 pub fn progressivo_of(t: &[u8]) -> Number
@@ -89,7 +90,7 @@ pub fn progressivo_of(t: &[u8]) -> Number
 fn zero_in_front(t: &[u8]) -> bool
     ensures { λ r. ⌜ r ≡ zeroInFront (now (t .entry)) ⌝ }
 {
-    if scan::byte(t, 0) != 48 {
+    if scan::byte(t, 0) != b'0' {
         return false;
     }
     t.len() != 4
@@ -108,7 +109,7 @@ pub fn importo_of(t: &[u8]) -> Number
     }
     let p = n - 3;
     let c = n - 2;
-    if t[p] != 46 {
+    if t[p] != b'.' {
         return Number::NoNumber;
     }
     if zero_in_front(t) {

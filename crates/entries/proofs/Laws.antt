@@ -12,6 +12,7 @@ use Rattle.scan.specs.Bytes.{between, part, all, isAlnum, textIs}
 use Rattle.scan.proofs.Laws.{both}
 use Rattle.ranges.specs.Ranges.{zeros, isNothing}
 use Rattle.ranges.specs.declared.Found.the-variants.{At, Nothing}
+use Rattle.bounds.specs.Bounds.{maxCode, isCode, maxSlots}
 use Rattle.entries.specs.Entry.{codeLength, codeAt, slotsOf, formOk, formsOk, codesFrom, findCode, distinctCodes}
 
 -- room for one entry more
@@ -21,27 +22,27 @@ times size k m e = ap (λ (x : ℕ). size * x) e ∙ mul-suc size m ∙ omega ar
 -- FORM: what the tests of a form say
 pub record Form (t : List ℕ) (at : ℕ) : Type 0 where
   pub some : 1 ≤ codeLength t at
-  pub short : codeLength t at ≤ 16
+  pub short : codeLength t at ≤ maxCode
   pub alnum : all isAlnum (codeAt t at) ≡ true
   pub padded : zeros t (at + 1 + codeLength t at) (at + 18) ≡ true
   pub one-slot : 1 ≤ slotsOf t at
-  pub most-slots : slotsOf t at ≤ 512
+  pub most-slots : slotsOf t at ≤ maxSlots
 
 pub form : (t : List ℕ) (at : ℕ) → formOk t at ≡ true → Form t at
 unfolding formOk
 form t at e =
-    let a = both (between 1 16 (codeLength t at)) (all isAlnum (codeAt t at) && (zeros t (at + 1 + codeLength t at) (at + 18) && between 1 512 (slotsOf t at))) e in
-    let b = both (all isAlnum (codeAt t at)) (zeros t (at + 1 + codeLength t at) (at + 18) && between 1 512 (slotsOf t at)) (a .1) in
-    let d = both (zeros t (at + 1 + codeLength t at) (at + 18)) (between 1 512 (slotsOf t at)) (b .1) in
-    let l = both (leb 1 (codeLength t at)) (leb (codeLength t at) 16) (a .0) in
-    let s = both (leb 1 (slotsOf t at)) (leb (slotsOf t at) 512) (d .1) in
+    let a = both (isCode (codeLength t at) (codeAt t at)) (zeros t (at + 1 + codeLength t at) (at + 18) && between 1 maxSlots (slotsOf t at)) e in
+    let b = both (between 1 maxCode (codeLength t at)) (all isAlnum (codeAt t at)) (a .0) in
+    let d = both (zeros t (at + 1 + codeLength t at) (at + 18)) (between 1 maxSlots (slotsOf t at)) (a .1) in
+    let l = both (leb 1 (codeLength t at)) (leb (codeLength t at) maxCode) (b .0) in
+    let s = both (leb 1 (slotsOf t at)) (leb (slotsOf t at) maxSlots) (d .1) in
     record {
       some = leb-true 1 (codeLength t at) (l .0);
-      short = leb-true (codeLength t at) 16 (l .1);
-      alnum = b .0;
+      short = leb-true (codeLength t at) maxCode (l .1);
+      alnum = b .1;
       padded = d .0;
       one-slot = leb-true 1 (slotsOf t at) (s .0);
-      most-slots = leb-true (slotsOf t at) 512 (s .1);
+      most-slots = leb-true (slotsOf t at) maxSlots (s .1);
     }
 
 -- formOk, a way out of the code at a time: n is the length read
@@ -50,28 +51,28 @@ module _ (t : List ℕ) (at n : ℕ) (e : n ≡ getD t at 0) where
   unfolding formOk
   form-empty h = rw (← e, lt-leb 1 n h)
 
-  pub form-long : 16 < n → formOk t at ≡ false
+  pub form-long : maxCode < n → formOk t at ≡ false
   unfolding formOk
-  form-long h = rw (← e, le-leb 1 n (omega arith), lt-leb n 16 h)
+  form-long h = rw (← e, le-leb 1 n (omega arith), lt-leb n maxCode h)
 
-  module _ (lo : 1 ≤ n) (hi : n ≤ 16) where
+  module _ (lo : 1 ≤ n) (hi : n ≤ maxCode) where
     pub form-code : all isAlnum (part t (at + 1) (at + 1 + n)) ≡ false → formOk t at ≡ false
     unfolding formOk codeAt
-    form-code h = rw (← e, le-leb 1 n lo, le-leb n 16 hi, h)
+    form-code h = rw (← e, le-leb 1 n lo, le-leb n maxCode hi, h)
 
     module _ (a : all isAlnum (part t (at + 1) (at + 1 + n)) ≡ true) where
       pub form-pad : zeros t (at + 1 + n) (at + 18) ≡ false → formOk t at ≡ false
       unfolding formOk codeAt
-      form-pad h = rw (← e, le-leb 1 n lo, le-leb n 16 hi, a, h)
+      form-pad h = rw (← e, le-leb 1 n lo, le-leb n maxCode hi, a, h)
 
       module _ (z : zeros t (at + 1 + n) (at + 18) ≡ true) (s : ℕ) (f : s ≡ slotsOf t at) where
         pub form-none : s < 1 → formOk t at ≡ false
         unfolding formOk codeAt
-        form-none h = rw (← e, ← f, le-leb 1 n lo, le-leb n 16 hi, a, z, lt-leb 1 s h)
+        form-none h = rw (← e, ← f, le-leb 1 n lo, le-leb n maxCode hi, a, z, lt-leb 1 s h)
 
-        pub form-slots : 1 ≤ s → formOk t at ≡ leb s 512
+        pub form-slots : 1 ≤ s → formOk t at ≡ leb s maxSlots
         unfolding formOk codeAt
-        form-slots h = rw (← e, ← f, le-leb 1 n lo, le-leb n 16 hi, a, z, le-leb 1 s h)
+        form-slots h = rw (← e, ← f, le-leb 1 n lo, le-leb n maxCode hi, a, z, le-leb 1 s h)
 
 -- FORMS, CODES: the first of k = m + 1
 module _ (size : ℕ) (t : List ℕ) (at k m : ℕ) (e : k ≡ suc m) where

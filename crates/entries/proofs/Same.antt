@@ -12,7 +12,8 @@ use borrow.Author.Tests.{le-leb}
 use Rattle.scan.specs.Bytes.{part, all, isAlnum}
 use Rattle.words.proofs.Laws.{Agree, on, at-it, same2, same4}
 use Rattle.ranges.specs.Ranges.{zeros}
-use Rattle.entries.specs.Entry.{requestSize, codeLength, codeAt, slotsOf, placeOf, formOk, formsOk, codesFrom}
+use Rattle.entries.specs.Entry.{entryFixed, requestSize, codeLength, codeAt, slotsOf, placeOf, formOk, formsOk, codesFrom}
+use Rattle.bounds.specs.Bounds.{maxCode, maxSlots}
 use Rattle.entries.proofs.Laws.{times, form, forms-split}
 
 -- the bytes from k on up to m of what agrees
@@ -38,7 +39,7 @@ module _ {s t : List ℕ} {p q n : ℕ} (h : Agree s p t q n) where
   unfolding slotsOf
   slots-agree b = same2 (on h 18 2 (omega arith)) (omega arith)
 
-  pub place-agree : 24 ≤ n → placeOf s p ≡ placeOf t q
+  pub place-agree : entryFixed ≤ n → placeOf s p ≡ placeOf t q
   unfolding placeOf
   place-agree b = same4 (on h 20 4 (omega arith)) (omega arith)
 
@@ -46,7 +47,7 @@ module _ {s t : List ℕ} {p q : ℕ} (h : Agree s p t q requestSize) (ls : p + 
   same-length : codeLength s p ≡ codeLength t q
   same-length = at-it h (omega arith)
 
-  pub code-agree : codeLength t q ≤ 16 → codeAt s p ≡ codeAt t q
+  pub code-agree : codeLength t q ≤ maxCode → codeAt s p ≡ codeAt t q
   unfolding codeAt
   code-agree l =
       let n = same-length in
@@ -62,7 +63,7 @@ module _ {s t : List ℕ} {p q : ℕ} (h : Agree s p t q requestSize) (ls : p + 
       let c = ap (all isAlnum) (code-agree l) ∙ f .alnum in
       let z = zeros-agree h (1 + codeLength t q) 18 (omega arith) (p + 1 + codeLength s p) (p + 18) (q + 1 + codeLength t q) (q + 18) (omega arith) refl (omega arith) refl (omega arith) (omega arith) ∙ f .padded in
       let m = slots-agree h (omega arith) in
-      rw (c, z, n, m, le-leb 1 (codeLength t q) (f .some), le-leb (codeLength t q) 16 l, le-leb 1 (slotsOf t q) (f .one-slot), le-leb (slotsOf t q) 512 (f .most-slots))
+      rw (c, z, n, m, le-leb 1 (codeLength t q) (f .some), le-leb (codeLength t q) maxCode l, le-leb 1 (slotsOf t q) (f .one-slot), le-leb (slotsOf t q) maxSlots (f .most-slots))
 
 -- entries of s, m after each other, that agree with entries of t, n after each other
 pub data Rows (s t : List ℕ) (m n : ℕ) : ℕ → ℕ → ℕ → Type 0 where

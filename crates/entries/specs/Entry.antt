@@ -3,7 +3,8 @@ use Prim.Native.Nat.{ℕ, zero, suc, _+_}
 use mathlib.Core.Bool.{Bool, true, _&&_, cond}
 use mathlib.Core.List.{List, [], _∷_}
 use lib.ListN.{getD}
-use Rattle.scan.specs.Bytes.{between, part, all, isAlnum, textIs}
+use Rattle.scan.specs.Bytes.{between, part, textIs}
+use Rattle.bounds.specs.Bounds.{isCode, maxSlots}
 use Rattle.words.specs.Numbers.{be2, be4}
 use Rattle.ranges.specs.Ranges.{zeros, isNothing}
 use Rattle.ranges.specs.declared.Found.{Found}
@@ -12,6 +13,10 @@ use Rattle.ranges.specs.declared.Found.the-variants.{At, Nothing}
 -- "One entry per body, 32 bytes"
 abbrev pub entrySize : ℕ
 entrySize = 32
+
+-- its bytes that never change: code, slots and place. From there to its end the entry is its body's own
+abbrev pub entryFixed : ℕ
+entryFixed = 24
 
 -- "20 bytes per body (an entry's bytes 0 to 19)"
 abbrev pub requestSize : ℕ
@@ -36,8 +41,8 @@ placeOf t at = be4 t (at + 20)
 -- bytes 0 to 19: a code of 1 to 16 letters and digits, zeros after it up to byte 17, 1 to 512 slots
 unfoldable pub formOk : List ℕ → ℕ → Bool
 formOk t at =
-    between 1 16 (codeLength t at) && (all isAlnum (codeAt t at)
-    && (zeros t (at + 1 + codeLength t at) (at + 18) && between 1 512 (slotsOf t at)))
+    isCode (codeLength t at) (codeAt t at)
+    && (zeros t (at + 1 + codeLength t at) (at + 18) && between 1 maxSlots (slotsOf t at))
 
 -- the n forms from `at` on, each `size` after the one before, are right
 unfoldable pub formsOk : ℕ → List ℕ → ℕ → ℕ → Bool

@@ -6,10 +6,14 @@ ghost use mathlib.Core.Bool.{true};
 ghost use Prim.Native.Nat.{_+_, _*_, _≤_, _<_};
 ghost use lib.ListN.{length};
 ghost use Rattle.scan.specs.Bytes.{textIs};
+ghost use Rattle.bounds.specs.Bounds.{maxCode, maxLength};
 ghost use Rattle.ranges.specs.Ranges.{isNothing};
 ghost use Rattle.entries.specs.Entry.{entrySize, requestSize, codeLength, codeAt, slotsOf, placeOf, formOk, formsOk, codesFrom, findCode, distinctCodes};
 
 pub const ENTRY: usize = 32;
+
+// An entry's bytes before its body's own.
+pub const FIXED: usize = 24;
 
 pub const REQUEST: usize = 20;
 
@@ -37,14 +41,14 @@ fn wide(x: u8) -> usize
 
 // Whether an entry's bytes 0 to 19 are right.
 pub fn form_ok(t: &[u8], at: usize) -> bool
-    requires { ⌜ (at + requestSize ≤ length (now t)) × (length (now t) ≤ 65536) ⌝ }
+    requires { ⌜ (at + requestSize ≤ length (now t)) × (length (now t) ≤ maxLength) ⌝ }
     ensures { λ r. ⌜ r ≡ formOk (now (t .entry)) at ⌝ }
 {
     let n = wide(t[at]);
     if n < 1 {
         return false;
     }
-    if 16 < n {
+    if bounds::MAX_CODE < n {
         return false;
     }
     let a = at + 1;
@@ -59,12 +63,12 @@ pub fn form_ok(t: &[u8], at: usize) -> bool
     if slots < 1 {
         return false;
     }
-    slots <= 512
+    slots <= bounds::MAX_SLOTS
 }
 
 // Whether the n forms from a place on, each `size` after the one before, are right.
 pub fn forms_ok(t: &[u8], first: usize, size: usize, n: usize) -> bool
-    requires { ⌜ (requestSize ≤ size) × (first + size * n ≤ length (now t)) × (length (now t) ≤ 65536) ⌝ }
+    requires { ⌜ (requestSize ≤ size) × (first + size * n ≤ length (now t)) × (length (now t) ≤ maxLength) ⌝ }
     ensures { λ r. ⌜ r ≡ formsOk size (now (t .entry)) first n ⌝ }
 {
     let mut at = first;
@@ -81,7 +85,7 @@ pub fn forms_ok(t: &[u8], first: usize, size: usize, n: usize) -> bool
 
 // Whether the entry at a place has this code: the same bytes and no other, of the same length.
 fn code_is(t: &[u8], at: usize, code: &[u8]) -> bool
-    requires { ⌜ (at + requestSize ≤ length (now t)) × (codeLength (now t) at ≤ 16) ⌝ }
+    requires { ⌜ (at + requestSize ≤ length (now t)) × (codeLength (now t) at ≤ maxCode) ⌝ }
     ensures { λ r. ⌜ r ≡ textIs (codeAt (now (t .entry)) at) (now (code .entry)) ⌝ }
 {
     let a = at + 1;
@@ -108,7 +112,8 @@ pub fn find_code(t: &[u8], first: usize, size: usize, n: usize, code: &[u8]) -> 
 
 // Whether the code of the entry at a place is not among the n after it.
 fn code_alone(t: &[u8], at: usize, size: usize, n: usize) -> bool
-    requires { ⌜ (requestSize ≤ size) × (at + size + size * n ≤ length (now t)) × (codeLength (now t) at ≤ 16) × (formsOk size (now t) (at + size) n ≡ true) ⌝ }
+    requires { ⌜ (requestSize ≤ size) × (at + size + size * n ≤ length (now t)) × (codeLength (now t) at ≤ maxCode)
+        × (formsOk size (now t) (at + size) n ≡ true) ⌝ }
     ensures { λ r. ⌜ r ≡ isNothing (findCode (codesFrom size (now (t .entry)) (at + size) n) 0 (codeAt (now (t .entry)) at)) ⌝ }
 {
     let a = at + 1;

@@ -46,10 +46,8 @@ use Rattle.orders.specs.Shape.{orderRows, lineRows, Shaped, Filled}
 use Rattle.orders.specs.Orders.{inRow, textIn, valueOf, dateOf, lineOf, linesOf, noLine, eight, linesIn, kindOf, orderBy, orderOf, ordersOf, Header, headerIn, ordersIn}
 use Rattle.orders.proofs.Laws.{one, held-at, row-at, ofRow, in-row-all, found, found-some, shaped-inside, Standing, order-at, orders-end, standing, lines-length}
 use Rattle.flow.specs.Flow.{headerOf, flowOrders}
+use Rattle.bounds.specs.Bounds.{maxCents}
 use Rattle.flow.proofs.Laws.{Stood}
-
-abbrev pub maxCents : ℕ
-maxCents = 99999999999
 
 -- AN ORDER AND A HEADER WITHIN BOUNDS
 pub record OrderOk (o : Ordinativo) : Type 0 where

@@ -1,4 +1,5 @@
 // The C interface: six thin functions over the desk, each with its promise. Every result is written on every path.
+use record::Key;
 ghost use mathlib.Core.Bool.{true, false};
 ghost use Rattle.children.specs.Child.{FieldPromise};
 ghost use Rattle.opening.specs.Opening.{OpenReplies};
@@ -46,7 +47,12 @@ pub extern "C" fn hondivole_execute(
 ) -> u64
     ensures { λ r. ⌜ NoticeReplies (now (table .entry)) true (now (body .entry)) (keyed kind esercizio number) line r (now (cents .exit)) (now (table .exit)) ⌝ }
 {
-    let a = notices::reply_of(notices::execute(table, body, kind, esercizio, number, line));
+    let key = Key {
+        kind,
+        esercizio,
+        number,
+    };
+    let a = notices::reply_of(notices::execute(table, body, key, line));
     *cents = a.cents;
     a.code
 }
@@ -64,7 +70,12 @@ pub extern "C" fn hondivole_reverse(
 ) -> u64
     ensures { λ r. ⌜ NoticeReplies (now (table .entry)) false (now (body .entry)) (keyed kind esercizio number) line r (now (cents .exit)) (now (table .exit)) ⌝ }
 {
-    let a = notices::reply_of(notices::reverse(table, body, kind, esercizio, number, line));
+    let key = Key {
+        kind,
+        esercizio,
+        number,
+    };
+    let a = notices::reply_of(notices::reverse(table, body, key, line));
     *cents = a.cents;
     a.code
 }
@@ -79,7 +90,8 @@ pub extern "C" fn hondivole_totals(
     collected: &mut u64,
     balance: &mut i64,
 ) -> u64
-    ensures { λ r. ⌜ TotalsPromise (now (table .entry)) (now (body .entry)) (totalled r (now (used .exit)) (now (paid .exit)) (now (collected .exit)) (now (balance .exit))) ⌝ }
+    ensures { λ r. ⌜ TotalsPromise (now (table .entry)) (now (body .entry))
+        (totalled r (now (used .exit)) (now (paid .exit)) (now (collected .exit)) (now (balance .exit))) ⌝ }
 {
     let a = notices::totals(table, body);
     *used = a.used;

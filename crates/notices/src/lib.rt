@@ -7,9 +7,10 @@ ghost use mathlib.Core.Bool.{true, false};
 ghost use Prim.Native.Nat.{ℕ, _+_, _*_, _≤_, _<_};
 ghost use lib.IntN.{pos, _-ℤ_};
 ghost use lib.ListN.{length};
+ghost use Rattle.bounds.specs.Bounds.{maxCents, maxSlots};
 ghost use Rattle.record.specs.Slot.{slotSize};
 ghost use Rattle.body.specs.Body.{bodyOk};
-ghost use Rattle.notices.specs.Notices.{keyed, noticed, noticeReply, NoticePromise, zeroTotals, bodyTotals, TotalsPromise};
+ghost use Rattle.notices.specs.Notices.{noticed, noticeReply, NoticePromise, zeroTotals, bodyTotals, TotalsPromise};
 
 // What a notice's call answers.
 pub enum NoticeAnswer {
@@ -61,51 +62,17 @@ fn notice(t: &mut [u8], code: &[u8], executing: bool, key: Key, line: u64) -> No
 }
 
 // Takes the bank's notice that a line was executed.
-pub fn execute(
-    t: &mut [u8],
-    code: &[u8],
-    kind: u64,
-    esercizio: u64,
-    number: u64,
-    line: u64,
-) -> NoticeAnswer
-    ensures { λ r. ⌜ NoticePromise (now (t .entry)) true (now (code .entry)) (keyed kind esercizio number) line r (now (t .exit)) ⌝ }
+pub fn execute(t: &mut [u8], code: &[u8], key: Key, line: u64) -> NoticeAnswer
+    ensures { λ r. ⌜ NoticePromise (now (t .entry)) true (now (code .entry)) key line r (now (t .exit)) ⌝ }
 {
-    notice(
-        t,
-        code,
-        true,
-        Key {
-            kind,
-            esercizio,
-            number,
-        },
-        line,
-    )
+    notice(t, code, true, key, line)
 }
 
 // Takes the bank's notice that a line's execution was reversed (storno).
-pub fn reverse(
-    t: &mut [u8],
-    code: &[u8],
-    kind: u64,
-    esercizio: u64,
-    number: u64,
-    line: u64,
-) -> NoticeAnswer
-    ensures { λ r. ⌜ NoticePromise (now (t .entry)) false (now (code .entry)) (keyed kind esercizio number) line r (now (t .exit)) ⌝ }
+pub fn reverse(t: &mut [u8], code: &[u8], key: Key, line: u64) -> NoticeAnswer
+    ensures { λ r. ⌜ NoticePromise (now (t .entry)) false (now (code .entry)) key line r (now (t .exit)) ⌝ }
 {
-    notice(
-        t,
-        code,
-        false,
-        Key {
-            kind,
-            esercizio,
-            number,
-        },
-        line,
-    )
+    notice(t, code, false, key, line)
 }
 
 // The numbers of an answer.
@@ -137,7 +104,7 @@ fn no_totals(code: u64) -> TotalsAnswer
 
 // The first number less the second, which may be below zero.
 fn difference(a: u64, b: u64) -> i64
-    requires { ⌜ (a ≤ 51199999999488) × (b ≤ 51199999999488) ⌝ }
+    requires { ⌜ (a ≤ maxCents * maxSlots) × (b ≤ maxCents * maxSlots) ⌝ }
     ensures { λ r. ⌜ r ≡ pos a -ℤ pos b ⌝ }
 {
     (a as i64) - (b as i64)
@@ -145,7 +112,7 @@ fn difference(a: u64, b: u64) -> i64
 
 // The totals of a valid body.
 fn body_totals(t: &[u8], base: usize, n: usize) -> TotalsAnswer
-    requires { ⌜ (base + slotSize * n ≤ length (now t)) × (n ≤ 512) × (bodyOk (now t) base n ≡ true) ⌝ }
+    requires { ⌜ (base + slotSize * n ≤ length (now t)) × (n ≤ maxSlots) × (bodyOk (now t) base n ≡ true) ⌝ }
     ensures { λ r. ⌜ r ≡ bodyTotals (now (t .entry)) base n ⌝ }
 {
     let used = slots::used_slots(t, base, n) as u64;

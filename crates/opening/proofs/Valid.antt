@@ -21,7 +21,8 @@ use Rattle.entries.specs.Entry.{entrySize, requestSize, slotsOf, placeOf, forms
 use Rattle.entries.proofs.Laws.{forms-split}
 use Rattle.entries.proofs.Same.{part-agree, slots-agree, form-agree, Rows, codes-rows, slots-rows}
 use Rattle.entries.proofs.Same.Rows.{none, row}
-use Rattle.table.specs.Table.{headSize, maxLength, bodies, abiOf, headOk, entryOk, layoutOk, bodiesOk, tableOk, codesOf, entryOf}
+use Rattle.bounds.specs.Bounds.{maxLength}
+use Rattle.table.specs.Table.{headSize, bodies, abiOf, headOk, entryOk, layoutOk, bodiesOk, tableOk, codesOf, entryOf}
 use Rattle.table.proofs.Bodies.{body-at}
 use Rattle.request.specs.Request.{firstBody, asked, slotsAsked, needed, requestOk}
 use Rattle.opening.specs.Opening.{headBytes, entryBytes, entriesBytes, opened}

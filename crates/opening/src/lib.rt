@@ -4,7 +4,9 @@ ghost use mathlib.Core.Bool.{true};
 ghost use Prim.Native.Nat.{_+_, _*_, _≤_};
 ghost use lib.ListN.{length, replicate};
 ghost use Rattle.words.specs.Numbers.{put};
-ghost use Rattle.entries.specs.Entry.{requestSize};
+ghost use Rattle.bounds.specs.Bounds.{maxBodies};
+ghost use Rattle.entries.specs.Entry.{entrySize, requestSize};
+ghost use Rattle.table.specs.Table.{headSize};
 ghost use Rattle.request.specs.Request.{firstBody, asked, needed, requestOk};
 ghost use Rattle.opening.specs.Opening.{headBytes, entryBytes, entriesBytes, opened, openCode, OpenPromise};
 
@@ -27,33 +29,33 @@ fn clear(t: &mut [u8])
 
 // Writes the head of a table of n bodies.
 fn put_head(t: &mut [u8], q: &[u8], n: usize)
-    requires { ⌜ (n ≡ asked (now q)) × (n ≤ 16) × (firstBody + requestSize * n ≤ length (now q)) × (16 ≤ length (now t)) ⌝ }
+    requires { ⌜ (n ≡ asked (now q)) × (n ≤ maxBodies) × (firstBody + requestSize * n ≤ length (now q)) × (headSize ≤ length (now t)) ⌝ }
     ensures { λ _. ⌜ now (t .exit) ≡ put (now (t .entry)) 0 (headBytes (now (q .entry))) ⌝ }
 {
     words::write2(t, 0, n as u64);
     words::write2(t, 2, 1);
     words::write4(t, 4, request::length_for(q, n) as u64);
-    words::copy_in(t, 8, &q[0..5]);
+    words::copy_in(t, table::ABI, &q[0..request::FIRST]);
     let rest = [0u8; 3];
-    words::copy_in(t, 13, &rest);
+    words::copy_in(t, table::REST, &rest);
 }
 
 // Writes the entry at a place: the request's 20 bytes, the place of the first slot, and zeros.
 fn put_entry(t: &mut [u8], to: usize, q: &[u8], at: usize, p: usize)
-    requires { ⌜ (to + 32 ≤ length (now t)) × (at + requestSize ≤ length (now q)) ⌝ }
+    requires { ⌜ (to + entrySize ≤ length (now t)) × (at + requestSize ≤ length (now q)) ⌝ }
     ensures { λ _. ⌜ now (t .exit) ≡ put (now (t .entry)) to (entryBytes (now (q .entry)) at p) ⌝ }
 {
     let e = at + entries::REQUEST;
     words::copy_in(t, to, &q[at..e]);
-    words::write4(t, to + 20, p as u64);
+    words::write4(t, to + entries::REQUEST, p as u64);
     let rest = [0u8; 8];
-    words::copy_in(t, to + 24, &rest);
+    words::copy_in(t, to + entries::FIXED, &rest);
 }
 
 // Writes the entries of n bodies, after the head.
 fn put_entries(t: &mut [u8], q: &[u8], n: usize)
-    requires { ⌜ (n ≤ 16) × (firstBody + requestSize * n ≤ length (now q)) × (16 + 32 * n ≤ length (now t)) ⌝ }
-    ensures { λ _. ⌜ now (t .exit) ≡ put (now (t .entry)) 16 (entriesBytes (now (q .entry)) firstBody n (16 + 32 * n)) ⌝ }
+    requires { ⌜ (n ≤ maxBodies) × (firstBody + requestSize * n ≤ length (now q)) × (headSize + entrySize * n ≤ length (now t)) ⌝ }
+    ensures { λ _. ⌜ now (t .exit) ≡ put (now (t .entry)) headSize (entriesBytes (now (q .entry)) firstBody n (headSize + entrySize * n)) ⌝ }
 {
     let mut to = table::HEAD;
     let mut at = request::FIRST;

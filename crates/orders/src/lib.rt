@@ -25,9 +25,9 @@ ghost use Rattle.rows.specs.Table.{table};
 ghost use Rattle.rows.specs.Kept.{keptFrom, nextOf};
 ghost use Rattle.structure.specs.Structure.{ranges};
 ghost use Rattle.orders.specs.Shape.{orderRows, lineRows, Shaped, Filled};
-ghost use Rattle.orders.specs.Orders.{inRow, textIn, valueOf, dateOf, operationOf, lineBy, lineOf, linesIn, kindOf, orderBy, orderOf, ordersIn};
+ghost use Rattle.orders.specs.Orders.{inRow, valueOf, dateOf, operationOf, lineBy, lineOf, linesIn, kindOf, orderBy, orderOf, ordersIn};
 
-fn value_of(n: Number) -> u64
+pub fn value_of(n: Number) -> u64
     ensures { λ r. ⌜ r ≡ valueOf n ⌝ }
 {
     match n {
@@ -76,30 +76,8 @@ pub fn next_row(s: &[u8], from: usize, parent: Parent, row: usize, past: &[u32])
     }
 }
 
-// The text of the first child in a row, as the part of the flow itself.
-pub fn field_text<'a>(
-    s: &'a [u8],
-    from: usize,
-    parent: Parent,
-    row: usize,
-    past: &[u32],
-) -> &'a [u8]
-    requires { ⌜ (from ≤ length (now s)) × Noted (now s) (now past) ⌝ }
-    ensures { λ r. ⌜ now r ≡ textIn row (now (s .entry)) (keptFrom parent (now (s .entry)) from) ⌝ }
-{
-    match next_row(s, from, parent, row, past) {
-        Next::Named(k) => {
-            let c = k.child;
-            let a = c.gt + 1;
-            let e = c.to;
-            &s[a..e]
-        }
-        Next::Done => &s[0..0],
-    }
-}
-
 // An element's text, as the part of the flow itself.
-fn text_of(s: &[u8], c: Child) -> &[u8]
+pub fn text_of(s: &[u8], c: Child) -> &[u8]
     requires { ⌜ (c .gt + 1 ≤ c .to) × (c .to ≤ length (now s)) ⌝ }
     ensures { λ r. ⌜ now r ≡ part (now (s .entry)) (c .gt + 1) (c .to) ⌝ }
 {
@@ -109,7 +87,7 @@ fn text_of(s: &[u8], c: Child) -> &[u8]
 }
 
 // The first named child from a place on, where the structure says that there is one.
-fn first_named(s: &[u8], from: usize, parent: Parent, past: &[u32]) -> Kept
+pub fn first_named(s: &[u8], from: usize, parent: Parent, past: &[u32]) -> Kept
     requires { ⌜ (from ≤ length (now s)) × Noted (now s) (now past) × (nextOf (keptFrom parent (now s) from) ≡ Done → ⊥) ⌝ }
     ensures { λ r. ⌜ nextOf (keptFrom parent (now (s .entry)) from) ≡ Named r ⌝ }
 {

@@ -123,11 +123,24 @@ fn say_field(flow: &[u8], place: u64) -> bool {
         && say(b"\n")
 }
 
+// The first 40 bytes from a place on.
+fn say_from(flow: &[u8], place: usize) -> bool {
+    if flow.len() <= place {
+        return say(b", its end");
+    }
+    let mut out = [0u8; 40];
+    let n = show(&flow[place..], &mut out);
+    say(b", before '") && say(&out[..n]) && say(b"'")
+}
+
 fn say_markup(flow: &[u8]) -> bool {
     match markup::markup_of(flow) {
         Walk::Past(_) => true,
         Walk::Broken(p) => {
-            say(b"  3, the markup breaks at byte") && say_number(p as u64) && say(b"\n")
+            say(b"  3, the markup breaks at byte")
+                && say_number(p as u64)
+                && say_from(flow, p)
+                && say(b"\n")
         }
     }
 }

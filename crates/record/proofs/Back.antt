@@ -4,7 +4,7 @@ use mathlib.Core.Bool.{Bool, true, false, _&&_}
 use mathlib.Core.List.{List, [], _∷_, _++_}
 use mathlib.Core.Path.{_≡_, refl, sym, ap, _∙_}
 use native.Mathlib.Omega.{arith}
-use native.Mathlib.Nat.{zero-add, not-suc-le-zero, mod-eq-of-lt}
+use native.Mathlib.Nat.{add-zero, zero-add, not-suc-le-zero, mod-eq-of-lt}
 use lib.ListN.{length, take, drop, getD, length-append, List·getD-append}
 use lib.Seq.{ext-getD, getD-append-add}
 use lib.Dec.{eqb}
@@ -27,6 +27,43 @@ pub record Sized (r : Record) : Type 0 where
   pub amounts : length (r .amounts) ≡ 8
   pub each : (k : ℕ) → k < 8 → getD (r .amounts) k 0 < 18446744073709551616
 
+-- EIGHT BYTES AND EIGHT NUMBERS, one at a time
+
+pub eight-at : (t : List ℕ) (p k : ℕ) → k < 8 → getD (eightAt t p) k 0 ≡ getD t (p + k) 0
+eight-at t p zero h = ap (λ (x : ℕ). getD t x 0) (sym (add-zero p))
+eight-at t p (suc zero) h = refl
+eight-at t p (suc (suc zero)) h = refl
+eight-at t p (suc (suc (suc zero))) h = refl
+eight-at t p (suc (suc (suc (suc zero)))) h = refl
+eight-at t p (suc (suc (suc (suc (suc zero))))) h = refl
+eight-at t p (suc (suc (suc (suc (suc (suc zero)))))) h = refl
+eight-at t p (suc (suc (suc (suc (suc (suc (suc zero))))))) h = refl
+eight-at t p (suc (suc (suc (suc (suc (suc (suc (suc k)))))))) h = absurd (omega arith)
+
+pub be8s-at : (t : List ℕ) (p k : ℕ) → k < 8 → getD (be8s t p) k 0 ≡ be8 t (p + 8 * k)
+be8s-at t p zero h = ap (be8 t) (sym (add-zero p))
+be8s-at t p (suc zero) h = refl
+be8s-at t p (suc (suc zero)) h = refl
+be8s-at t p (suc (suc (suc zero))) h = refl
+be8s-at t p (suc (suc (suc (suc zero)))) h = refl
+be8s-at t p (suc (suc (suc (suc (suc zero))))) h = refl
+be8s-at t p (suc (suc (suc (suc (suc (suc zero)))))) h = refl
+be8s-at t p (suc (suc (suc (suc (suc (suc (suc zero))))))) h = refl
+be8s-at t p (suc (suc (suc (suc (suc (suc (suc (suc k)))))))) h = absurd (omega arith)
+
+pub same-be8s : {s t : List ℕ} {p q : ℕ} → Agree s p t q 64 → be8s s p ≡ be8s t q
+same-be8s g =
+    cc (
+      same8 g (omega arith),
+      same8 (on g 8 8 (omega arith)) (omega arith),
+      same8 (on g 16 8 (omega arith)) (omega arith),
+      same8 (on g 24 8 (omega arith)) (omega arith),
+      same8 (on g 32 8 (omega arith)) (omega arith),
+      same8 (on g 40 8 (omega arith)) (omega arith),
+      same8 (on g 48 8 (omega arith)) (omega arith),
+      same8 (on g 56 8 (omega arith)) (omega arith),
+    )
+
 -- THE SAME BYTES HOLD THE SAME RECORD
 
 module _ {s t : List ℕ} {p q : ℕ} (h : Agree s p t q slotSize) where
@@ -35,19 +72,8 @@ module _ {s t : List ℕ} {p q : ℕ} (h : Agree s p t q slotSize) where
       let g : Agree s (p + 24) t (q + 24) 8 = on h 24 8 (omega arith) in
       cc (at-it g (omega arith), g .same 1 (omega arith), g .same 2 (omega arith), g .same 3 (omega arith), g .same 4 (omega arith), g .same 5 (omega arith), g .same 6 (omega arith), g .same 7 (omega arith))
 
-  same-be8s : be8s s (p + 32) ≡ be8s t (q + 32)
-  same-be8s =
-      let g : Agree s (p + 32) t (q + 32) 64 = on h 32 64 (omega arith) in
-      cc (
-        same8 g (omega arith),
-        same8 (on g 8 8 (omega arith)) (omega arith),
-        same8 (on g 16 8 (omega arith)) (omega arith),
-        same8 (on g 24 8 (omega arith)) (omega arith),
-        same8 (on g 32 8 (omega arith)) (omega arith),
-        same8 (on g 40 8 (omega arith)) (omega arith),
-        same8 (on g 48 8 (omega arith)) (omega arith),
-        same8 (on g 56 8 (omega arith)) (omega arith),
-      )
+  same-amounts : be8s s (p + 32) ≡ be8s t (q + 32)
+  same-amounts = same-be8s (on h 32 64 (omega arith))
 
   same-date : dateAt s (p + 12) ≡ dateAt t (q + 12)
   same-date =
@@ -66,7 +92,7 @@ module _ {s t : List ℕ} {p q : ℕ} (h : Agree s p t q slotSize) where
         same-date,
         same8 (on h 16 8 (omega arith)) (omega arith),
         same-eight,
-        same-be8s,
+        same-amounts,
       )
 
   pub same-rest : restZero s p ≡ restZero t q

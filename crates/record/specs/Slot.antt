@@ -13,6 +13,13 @@ use Rattle.record.specs.declared.Key.{Key}
 abbrev pub slotSize : ℕ
 slotSize = 96
 
+-- "24-31 eight line states; 32-95 eight amounts"
+abbrev pub statesOffset : ℕ
+statesOffset = 24
+
+abbrev pub amountsOffset : ℕ
+amountsOffset = 32
+
 -- the eight bytes from index at
 abbrev pub eightAt : List ℕ → ℕ → List ℕ
 eightAt t at =
@@ -40,8 +47,8 @@ recordAt t at = record {
   number = be4 t (at + 8);
   date = dateAt t (at + 12);
   total = be8 t (at + 16);
-  states = eightAt t (at + 24);
-  amounts = be8s t (at + 32);
+  states = eightAt t (at + statesOffset);
+  amounts = be8s t (at + amountsOffset);
 }
 
 -- "3 zero; 6-7 zero"

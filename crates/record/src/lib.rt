@@ -9,6 +9,11 @@ ghost use Rattle.record.specs.Slot.{slotSize, be8s, eightAt, dateAt, rec
 
 pub const SLOT: usize = 96;
 
+// Where a slot has its eight line states, and its eight amounts.
+pub const STATES: usize = 24;
+
+pub const AMOUNTS: usize = 32;
+
 // What a slot holds of an order. Kind: 1 mandato, 2 reversale. State: 1 acquired, 2 annulled. Line states: 0 no line, 1 waiting, 2 executed.
 pub struct Record {
     pub kind: u8,
@@ -29,13 +34,14 @@ pub struct Key {
     pub number: u64,
 }
 
-fn wide(x: u8) -> u64
+pub fn wide(x: u8) -> u64
     ensures { λ r. ⌜ (r ≡ x) × (r < 256) ⌝ }
 {
     x as u64
 }
 
-fn both(a: bool, b: bool) -> bool
+// Both, where a branch on the first would cost more than the second.
+pub fn both(a: bool, b: bool) -> bool
     ensures { λ r. ⌜ r ≡ (a && b) ⌝ }
 {
     if a { b } else { false }
@@ -90,8 +96,8 @@ pub fn record_at(t: &[u8], at: usize) -> Record
     ensures { λ r. ⌜ r ≡ recordAt (now (t .entry)) at ⌝ }
 {
     let date = date_at(t, at + 12);
-    let states = states_at(t, at + 24);
-    let amounts = amounts_at(t, at + 32);
+    let states = states_at(t, at + STATES);
+    let amounts = amounts_at(t, at + AMOUNTS);
     Record {
         kind: t[at],
         state: t[at + 1],
@@ -141,7 +147,7 @@ pub fn hit_at(t: &[u8], at: usize, k: Key) -> bool
     )
 }
 
-fn head_bytes(r: Record) -> [u8; 24]
+fn head_bytes(r: Record) -> [u8; STATES]
     ensures { λ b. ⌜ b ≡ headBytes r ⌝ }
 {
     let esercizio = r.esercizio;
@@ -200,7 +206,7 @@ pub fn put_record(t: &mut [u8], at: usize, r: Record)
     let head = head_bytes(r);
     words::copy_in(t, at, &head);
     let states = r.states;
-    words::copy_in(t, at + 24, &states);
+    words::copy_in(t, at + STATES, &states);
     let amounts = r.amounts;
-    put_amounts(t, at + 32, &amounts);
+    put_amounts(t, at + AMOUNTS, &amounts);
 }

@@ -11,7 +11,8 @@ use Rattle.scan.specs.Bytes.{between, part, all, isDigit}
 use Rattle.scan.proofs.Laws.{both}
 use Rattle.record.specs.Slot.{slotSize}
 use Rattle.entries.specs.Entry.{entrySize, requestSize, slotsOf, formsOk, codesFrom, distinctCodes}
-use Rattle.table.specs.Table.{headSize, maxLength}
+use Rattle.bounds.specs.Bounds.{maxLength}
+use Rattle.table.specs.Table.{headSize}
 use Rattle.request.specs.Request.{firstBody, asked, slotsAsked, needed, bodiesAskedOk, requestOk}
 
 -- the first of k = m + 1 bodies, and the rest

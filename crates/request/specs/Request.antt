@@ -7,11 +7,12 @@ use lib.Dec.{eqb, leb}
 use Rattle.scan.specs.Bytes.{between, part, all, isDigit}
 use Rattle.record.specs.Slot.{slotSize}
 use Rattle.entries.specs.Entry.{entrySize, requestSize, slotsOf, formsOk, codesFrom, distinctCodes}
-use Rattle.table.specs.Table.{headSize, maxLength}
+use Rattle.bounds.specs.Bounds.{abiLength, maxBodies, maxLength}
+use Rattle.table.specs.Table.{headSize}
 
 -- "five ABI digits followed by 20 bytes per body"
 abbrev pub firstBody : ℕ
-firstBody = 5
+firstBody = abiLength
 
 -- how many bodies a request asks for
 unfoldable pub asked : List ℕ → ℕ
@@ -36,4 +37,4 @@ bodiesAskedOk q =
 unfoldable pub requestOk : List ℕ → Bool
 requestOk q =
     leb firstBody (length q) && (all isDigit (part q 0 firstBody) && (eqb ((length q - firstBody) % requestSize) 0
-    && (between 1 16 (asked q) && bodiesAskedOk q)))
+    && (between 1 maxBodies (asked q) && bodiesAskedOk q)))

@@ -3,15 +3,16 @@ use ranges::Class;
 ghost use mathlib.Core.Path.{_≡_};
 ghost use Prim.Native.Nat.{_+_, _*_, _≤_};
 ghost use lib.ListN.{length};
+ghost use Rattle.bounds.specs.Bounds.{maxBodies};
 ghost use Rattle.entries.specs.Entry.{requestSize};
 ghost use Rattle.request.specs.Request.{firstBody, asked, slotsAsked, needed, bodiesAskedOk, requestOk};
 
 // The ABI digits come first in a request, then the bodies.
-pub const FIRST: usize = 5;
+pub const FIRST: usize = bounds::ABI;
 
 // The slots of the n bodies asked for, together.
 fn slots_asked(q: &[u8], n: usize) -> usize
-    requires { ⌜ (n ≤ 16) × (firstBody + requestSize * n ≤ length (now q)) ⌝ }
+    requires { ⌜ (n ≤ maxBodies) × (firstBody + requestSize * n ≤ length (now q)) ⌝ }
     ensures { λ r. ⌜ (r ≡ slotsAsked (now (q .entry)) firstBody n) × (r ≤ 65535 * n) ⌝ }
 {
     let mut at = FIRST;
@@ -27,7 +28,7 @@ fn slots_asked(q: &[u8], n: usize) -> usize
 
 // The length of the table that n bodies need.
 pub fn length_for(q: &[u8], n: usize) -> usize
-    requires { ⌜ (n ≡ asked (now q)) × (n ≤ 16) × (firstBody + requestSize * n ≤ length (now q)) ⌝ }
+    requires { ⌜ (n ≡ asked (now q)) × (n ≤ maxBodies) × (firstBody + requestSize * n ≤ length (now q)) ⌝ }
     ensures { λ r. ⌜ r ≡ needed (now (q .entry)) ⌝ }
 {
     table::HEAD + entries::ENTRY * n + record::SLOT * slots_asked(q, n)
@@ -35,7 +36,7 @@ pub fn length_for(q: &[u8], n: usize) -> usize
 
 // Whether a request of n bodies is right but for its length and count.
 fn bodies_ok(q: &[u8], n: usize) -> bool
-    requires { ⌜ (n ≡ asked (now q)) × (n ≤ 16) × (firstBody + requestSize * n ≡ length (now q)) ⌝ }
+    requires { ⌜ (n ≡ asked (now q)) × (n ≤ maxBodies) × (firstBody + requestSize * n ≡ length (now q)) ⌝ }
     ensures { λ r. ⌜ r ≡ bodiesAskedOk (now (q .entry)) ⌝ }
 {
     if !entries::forms_ok(q, FIRST, entries::REQUEST, n) {
@@ -44,7 +45,7 @@ fn bodies_ok(q: &[u8], n: usize) -> bool
     if !entries::codes_distinct(q, FIRST, entries::REQUEST, n) {
         return false;
     }
-    length_for(q, n) <= 65536
+    length_for(q, n) <= bounds::MAX_LENGTH
 }
 
 // Whether a request is right: code 9 where it is not.
@@ -65,7 +66,7 @@ pub fn request_ok(q: &[u8]) -> bool
     if n < 1 {
         return false;
     }
-    if 16 < n {
+    if bounds::MAX_BODIES < n {
         return false;
     }
     bodies_ok(q, n)

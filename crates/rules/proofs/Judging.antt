@@ -120,47 +120,27 @@ module _ (slots year : ℕ) (o : Ordinativo) (rs : List Record) (c : Change) (i 
           (ap (λ (m : ℕ). sameOrder o (nth rs m)) (sym q) ∙ h)
       go false h e = refused e
 
-  placed-change : (d : Change) (f : Found) → placed slots o rs d f ≡ Accepted c i → d ≡ c
-  unfolding placed
-  placed-change Insert f e = go (ltb (length rs) slots) e
-    where
-      go : (b : Bool) → cond b (Accepted Insert (length rs)) (Refused 15) ≡ Accepted c i → Insert ≡ c
-      go true e = cc
-      go false e = refused e
-  placed-change Vary (At j) e = cc
-  placed-change Vary Nothing e = refused e
-  placed-change Annul (At j) e = go (sameOrder o (nth rs j)) e
-    where
-      go : (b : Bool) → cond b (Accepted Annul j) (Refused 19) ≡ Accepted c i → Annul ≡ c
-      go true e = cc
-      go false e = refused e
-  placed-change Annul Nothing e = refused e
-
   module _ (e : judgeOrder slots year o rs ≡ Accepted c i) where
-    -- what it asks for, and the tests that it passed
+    -- the tests that it passed
     record Passed : Type 0 where
       change : Change
-      asks : asksOf (o .operation) ≡ For change
       lines : lineCode (o .lines) (o .total) ≡ 0
       step : stepCode change (situationOf rs (findIn rs 0 (keyFor year o))) ≡ 0
       place : placed slots o rs change (findIn rs 0 (keyFor year o)) ≡ Accepted c i
 
     passed : Passed
     unfolding judgeOrder stepped
-    passed = go (asksOf (o .operation)) refl e
+    passed = go (asksOf (o .operation)) e
       where
-        go : (a : Asks) → asksOf (o .operation) ≡ a → judgeAsked slots year o rs a ≡ Accepted c i → Passed
-        go (For d) p e =
+        go : (a : Asks) → judgeAsked slots year o rs a ≡ Accepted c i → Passed
+        go (For d) e =
             let l = unless-zero (lineCode (o .lines) (o .total)) _ e in
             let s = unless-zero (stepCode d (situationOf rs (findIn rs 0 (keyFor year o)))) _ (l .1) in
-            record { change = d; asks = p; lines = l .0; step = s .0; place = s .1 }
-        go (Unserved code) p e = refused e
+            record { change = d; lines = l .0; step = s .0; place = s .1 }
+        go (Unserved code) e = refused e
 
     pub accepted-lines : lineCode (o .lines) (o .total) ≡ 0
     accepted-lines = passed .lines
-
-    pub accepted-asks : asksOf (o .operation) ≡ For c
-    accepted-asks = passed .asks ∙ ap For (placed-change (passed .change) (findIn rs 0 (keyFor year o)) (passed .place))
 
     pub accepted : Stands slots year o rs c i
     accepted = stand (passed .change) (findIn rs 0 (keyFor year o)) refl (passed .step) (passed .place)

@@ -1,13 +1,13 @@
 -- The refusals that the rules give are those that are listed, and an accepted order or a moved line has none.
 use Prim.Native.Nat.{ℕ, zero, suc, _+_, _-_, _≤_, _<_}
-use mathlib.Core.Bool.{Bool, true, false, _&&_, _||_, cond}
+use mathlib.Core.Bool.{Bool, true, false, _&&_, _||_, cond, and-false}
 use mathlib.Core.List.{List, [], _∷_, map, List·Memᴰ, List·Memᴰ·head, List·Memᴰ·tail, List·Memᴰ·not-nil, List·Memᴰ·cases-cons}
 use mathlib.Core.Logic.{_⊎_, inl, inr}
 use mathlib.Core.Path.{_≡_, refl, sym, ap, subst, _∙_}
 use native.Mathlib.Omega.{arith}
 use lib.ListN.{length, getD}
 use lib.Dec.{eqb, leb, ltb}
-use borrow.Author.Tests.{eq-eqb, eqb-true, eqb-false, ltb-false, leb-false}
+use borrow.Author.Tests.{eq-eqb, ne-eqb, eqb-true, eqb-false, ltb-false, le-ltb, leb-false, lt-leb}
 use Rattle.scan.proofs.Laws.{both}
 use Rattle.ranges.specs.Ranges.{isNothing}
 use Rattle.ranges.specs.declared.Found.{Found}
@@ -22,18 +22,20 @@ use Rattle.record.specs.Slot.{keyOf, keyIs}
 use Rattle.slots.specs.Slots.{findIn, distinct}
 use Rattle.slots.proofs.Search.{nothing-is, found-below, found-key}
 use Rattle.lines.specs.Lines.{numberedFrom, sumOf, lineCode}
-use Rattle.rules.specs.declared.Situation.the-variants.{Absent, Annulled, Waiting, Executed}
+use Rattle.rules.specs.declared.Situation.{Situation}
+use Rattle.rules.specs.declared.Situation.the-variants.{Annulled, Waiting, Executed}
 use Rattle.rules.specs.declared.Change.{Change}
 use Rattle.rules.specs.declared.Change.the-variants.{Insert, Vary, Annul}
+use Rattle.rules.specs.declared.Asks.{Asks}
 use Rattle.rules.specs.declared.Asks.the-variants.{For, Unserved}
 use Rattle.rules.specs.declared.Ruling.{Ruling}
 use Rattle.rules.specs.declared.Ruling.the-variants.{Accepted, Refused}
+use Rattle.rules.specs.declared.Noticed.{Noticed}
 use Rattle.rules.specs.declared.Noticed.the-variants.{Moved, Unmoved}
-use Rattle.rules.specs.Rules.{asksOf, anyExecuted, situationIn, situationOf, row, stepCode, keyFor, nth, noRecord, eight, amountsOf, sameList, sameOrder, placed, unless, stepped, judgeAsked, judgeOrder, lineMoves, moveOr, noticeIn, noticeAt, judgeNotice}
-use Rattle.rules.specs.Listed.{Has, HasNone, IsAnnulled, IsExecuted, Numbered, Differs, total, count, amounts, OnRecord, variazione, annullo, Applies, sostituzione, misnumbered, missummed, present, full, absent, annulled, executed, differs, NoticeApplies, unknown, closed, zeroth, past, already, notYet}
-use Rattle.rules.proofs.Laws.{moves-executed, moves-waiting}
-use Rattle.rules.proofs.Judging.{Waits, Stands, inserting, varying, annulling, accepted, accepted-asks, accepted-lines, Moves, moved}
-use Rattle.rules.proofs.Kept.{code-zero, none-executed}
+use Rattle.rules.specs.Rules.{asksOf, anyExecuted, situationIn, situationOf, row, stepCode, keyFor, nth, noRecord, eight, amountsOf, sameList, sameOrder, placed, unless, stepped, judgeChange, judgeAsked, judgeOrder, lineMoves, moveOr, noticeIn, noticeAt, judgeNotice}
+use Rattle.rules.specs.Listed.{Has, HasNone, IsAnnulled, IsExecuted, Numbered, Differs, total, count, amounts, OnRecord, variazione, annullo, Applies, sostituzione, misnumbered, missummed, present, full, absent, annulled, executed, differs, NoticeApplies, unknown, closed, zeroth, past, already, notYet, turn, noticeTurn}
+use Rattle.rules.proofs.Laws.{in-annulled, in-executed, moves-executed, moves-waiting}
+use Rattle.rules.proofs.Kept.{none-executed}
 
 -- two constructors are never equal
 abbrev clash : Type 0
@@ -96,6 +98,29 @@ one-of (x ∷ rs) d r s m n e = go (List·Memᴰ·cases-cons m) (List·Memᴰ·c
 pub has-found : (rs : List Record) (k : Key) (i : ℕ) (r : Record) → distinct rs ≡ true → findIn rs 0 k ≡ At i → Has rs k r → nth rs i ≡ r
 has-found rs k i r d e h = let x = found-has rs k i e in one-of rs d (nth rs i) r (x .among) (h .among) (x .key ∙ sym (h .key))
 
+pub record HasAt (rs : List Record) (k : Key) (r : Record) : Type 0 where
+  pub at : ℕ
+  pub found : findIn rs 0 k ≡ At at
+  pub same : nth rs at ≡ r
+
+has-at : (rs : List Record) (k : Key) (r : Record) → distinct rs ≡ true → Has rs k r → HasAt rs k r
+has-at rs k r d h = go (findIn rs 0 k) refl
+  where
+    go : (f : Found) → findIn rs 0 k ≡ f → HasAt rs k r
+    go Nothing e = absurd (nothing-none rs k e r h)
+    go (At i) e = record { at = i; found = e; same = has-found rs k i r d e h }
+
+none-nothing : (rs : List Record) (k : Key) → HasNone rs k → findIn rs 0 k ≡ Nothing
+none-nothing rs k h = go (findIn rs 0 k) refl
+  where
+    go : (f : Found) → findIn rs 0 k ≡ f → f ≡ Nothing
+    go Nothing e = refl
+    go (At i) e = absurd (h (nth rs i) (found-has rs k i e))
+
+is-not : (b : Bool) → (b ≡ true → ⊥) → b ≡ false
+is-not true h = absurd (h refl)
+is-not false h = refl
+
 -- LINES
 
 some-executed : (s : List ℕ) → anyExecuted s ≡ true → (k : ℕ) × (getD s k 0 ≡ 2)
@@ -106,6 +131,13 @@ some-executed (x ∷ s) e = go (eqb x 2) refl e (some-executed s)
     go : (b : Bool) → eqb x 2 ≡ b → (b || anyExecuted s) ≡ true → (anyExecuted s ≡ true → (k : ℕ) × (getD s k 0 ≡ 2)) → (k : ℕ) × (getD (x ∷ s) k 0 ≡ 2)
     go true p f ih = (0, eqb-true x 2 p)
     go false p f ih = let y = ih f in (suc (y .0), y .1)
+
+is-executed : (s : List ℕ) (k : ℕ) → getD s k 0 ≡ 2 → anyExecuted s ≡ true
+is-executed s k e = go (anyExecuted s) refl
+  where
+    go : (b : Bool) → anyExecuted s ≡ b → b ≡ true
+    go true p = refl
+    go false p = absurd (none-executed s k p e)
 
 abbrev numbers : List Line → List ℕ
 numbers ls = map (λ (l : Line). l .progressivo) ls
@@ -250,62 +282,186 @@ module _ (slots year : ℕ) (o : Ordinativo) (rs : List Record) (code : ℕ) whe
           (on-record (subst OnRecord (sym p) annullo) (findIn rs 0 k) refl _ (annuls p (findIn rs 0 k) refl)) e
       go Sostituzione p e = give (sostituzione p) e
 
--- AN ORDER THAT IS ACCEPTED
+-- AN ORDER TO WHICH A LISTED REFUSAL APPLIES is refused, in the turn of that refusal or an earlier one
 
--- which change it is
-is-insert : (p : Operation) (c : Change) → p ≡ Inserimento → asksOf p ≡ For c → c ≡ Insert
-is-insert p c q e = let z : For Insert ≡ For c = sym (ap asksOf q) ∙ e in cc
+-- refused by turn t
+pub record By (j : Ruling) (t : ℕ) : Type 0 where
+  pub code : ℕ
+  pub is : j ≡ Refused code
+  pub soon : turn code ≤ t
 
-is-annul : (p : Operation) (c : Change) → p ≡ Annullo → asksOf p ≡ For c → c ≡ Annul
-is-annul p c q e = let z : For Annul ≡ For c = sym (ap asksOf q) ∙ e in cc
+by : {j k : Ruling} {t : ℕ} → j ≡ k → By k t → By j t
+by e b = record { code = b .code; is = e ∙ b .is; soon = b .soon }
 
-not-insert : {p : Operation} (c : Change) → OnRecord p → asksOf p ≡ For c → c ≡ Insert → ⊥
-not-insert c variazione e q = let z : clash = cc in no z
-not-insert c annullo e q = let z : clash = cc in no z
+-- the change of an operation on a record, and its row
+record Row (p : Operation) : Type 0 where
+  change : Change
+  asks : asksOf p ≡ For change
+  codes : (s : Situation) → stepCode change s ≡ row 16 17 0 18 s
 
-module _ (slots year : ℕ) (o : Ordinativo) (rs : List Record) (c : Change) (i : ℕ) where
+row-of : {p : Operation} → OnRecord p → Row p
+row-of variazione = record { change = Vary; asks = refl; codes = λ s. refl }
+row-of annullo = record { change = Annul; asks = refl; codes = λ s. refl }
+
+-- the code that the step table gives what is asked for, and the one that comes after it
+abbrev stepFor : Asks → Situation → ℕ
+stepFor (For c) s = stepCode c s
+stepFor (Unserved code) s = 0
+
+abbrev lastFor : Asks → ℕ
+lastFor (For Insert) = 15
+lastFor (For Vary) = 0
+lastFor (For Annul) = 19
+lastFor (Unserved code) = 0
+
+module _ (slots year : ℕ) (o : Ordinativo) (rs : List Record) where
   abbrev key : Key
   key = keyFor year o
 
-  stands-insert : c ≡ Insert → Stands slots year o rs c i → (findIn rs 0 key ≡ Nothing) × (length rs < slots)
-  stands-insert p (inserting q f x l) = (f, l)
-  stands-insert p (varying q f w) = let z : clash = cc in no z
-  stands-insert p (annulling q f w s) = let z : clash = cc in no z
+  abbrev answer : Ruling
+  answer = judgeOrder slots year o rs
 
-  stands-record : (c ≡ Insert → ⊥) → Stands slots year o rs c i → (findIn rs 0 key ≡ At i) × Waits (nth rs i)
-  stands-record p (inserting q f x l) = absurd (p q)
-  stands-record p (varying q f w) = (f, w)
-  stands-record p (annulling q f w s) = (f, w)
+  asks-is : {p : Operation} {a : Asks} → o .operation ≡ p → asksOf p ≡ a → answer ≡ judgeAsked slots year o rs a
+  unfolding judgeOrder
+  asks-is q e = ap (λ (x : Operation). judgeAsked slots year o rs (asksOf x)) q ∙ ap (judgeAsked slots year o rs) e
 
-  stands-annul : c ≡ Annul → Stands slots year o rs c i → (findIn rs 0 key ≡ At i) × (sameOrder o (nth rs i) ≡ true)
-  stands-annul p (inserting q f x l) = let z : clash = cc in no z
-  stands-annul p (varying q f w) = let z : clash = cc in no z
-  stands-annul p (annulling q f w s) = (f, s)
+  any-change : (t : ℕ) → 1 ≤ t → ((c : Change) → By (judgeChange slots year o rs c) t) → By answer t
+  any-change t l f = go (o .operation) refl
+    where
+      go : (p : Operation) → o .operation ≡ p → By answer t
+      go Inserimento q = by (asks-is q refl) (f Insert)
+      go Variazione q = by (asks-is q refl) (f Vary)
+      go Annullo q = by (asks-is q refl) (f Annul)
+      go Sostituzione q = record { code = 11; is = asks-is q refl; soon = l }
 
-  module _ (d : distinct rs ≡ true) (e : judgeOrder slots year o rs ≡ Accepted c i) where
-    at-found : OnRecord (o .operation) → (r : Record) → Has rs key r → Waits r
-    at-found w r h =
-        let s = stands-record (not-insert c w (accepted-asks slots year o rs c i e)) (accepted slots year o rs c i e) in
-        subst Waits (has-found rs key i r d (s .0) h) (s .1)
+  -- THE LINES
+  numbers-wrong : (c : Change) → numberedFrom 1 (o .lines) ≡ false → By (judgeChange slots year o rs c) 2
+  unfolding lineCode
+  numbers-wrong c e = record { code = 12; is = rw e; soon = omega arith }
 
-    pub accepted-none : {code : ℕ} → Applies slots year o rs code → ⊥
-    accepted-none (sostituzione p) =
-        let q : Unserved 11 ≡ For c = sym (ap asksOf p) ∙ accepted-asks slots year o rs c i e in
-        let z : clash = cc in
-        no z
-    accepted-none (misnumbered h) = h (true-numbered (o .lines) (code-zero (o .lines) (o .total) (accepted-lines slots year o rs c i e) .0))
-    accepted-none (missummed h) = h (code-zero (o .lines) (o .total) (accepted-lines slots year o rs c i e) .1)
-    accepted-none (present p r h) =
-        nothing-none rs key (stands-insert (is-insert (o .operation) c p (accepted-asks slots year o rs c i e)) (accepted slots year o rs c i e) .0) r h
-    accepted-none (full p h) = omega (arith, stands-insert (is-insert (o .operation) c p (accepted-asks slots year o rs c i e)) (accepted slots year o rs c i e) .1)
-    accepted-none (absent w h) =
-        let s = stands-record (not-insert c w (accepted-asks slots year o rs c i e)) (accepted slots year o rs c i e) in
-        h (nth rs i) (found-has rs key i (s .0))
-    accepted-none (annulled w r h q) = at-found w r h .acquired q
-    accepted-none (executed w r h n m q) = none-executed (r .states) m (at-found w r h .waits) q
-    accepted-none (differs p r h q) =
-        let s = stands-annul (is-annul (o .operation) c p (accepted-asks slots year o rs c i e)) (accepted slots year o rs c i e) in
-        same-differs o r (subst (λ (x : Record). sameOrder o x ≡ true) (has-found rs key i r d (s .0) h) (s .1)) q
+  sum-wrong : (c : Change) → eqb (sumOf (o .lines)) (o .total) ≡ false → By (judgeChange slots year o rs c) 3
+  unfolding lineCode
+  sum-wrong c e = rw e (go (numberedFrom 1 (o .lines)))
+    where
+      go : (b : Bool) → By (unless (cond b 13 12) (stepped slots o rs c (findIn rs 0 key))) 3
+      go true = record { code = 13; is = refl; soon = omega arith }
+      go false = record { code = 12; is = refl; soon = omega arith }
+
+  past-lines : (c : Change) (t : ℕ) → 3 ≤ t → By (stepped slots o rs c (findIn rs 0 key)) t → By (judgeChange slots year o rs c) t
+  unfolding lineCode
+  past-lines c t l b = go (numberedFrom 1 (o .lines)) (eqb (sumOf (o .lines)) (o .total))
+    where
+      go : (x y : Bool) → By (unless (cond x (cond y 0 13) 12) (stepped slots o rs c (findIn rs 0 key))) t
+      go true true = b
+      go true false = record { code = 13; is = refl; soon = l }
+      go false y = record { code = 12; is = refl; soon = omega arith }
+
+  -- THE STEP TABLE, by what the search found
+  abbrev stepBy : Change → Found → (Situation → ℕ) → Ruling
+  stepBy c f codes = unless (codes (situationOf rs f)) (placed slots o rs c f)
+
+  changing-by : (c : Change) (t : ℕ) → 4 ≤ t → (f : Found) → asksOf (o .operation) ≡ For c → findIn rs 0 key ≡ f → By (stepBy c f (stepCode c)) t → By answer t
+  unfolding stepped
+  changing-by c t l f q e b = by (asks-is refl q) (past-lines c t (omega arith) (by (ap (stepped slots o rs c) e) b))
+
+  record-by : OnRecord (o .operation) → (f : Found) → findIn rs 0 key ≡ f → ((c : Change) → By (stepBy c f (row 16 17 0 18)) 4) → By answer 4
+  record-by w f e b =
+      let r = row-of w in
+      let c = r .change in
+      changing-by c 4 (omega arith) f (r .asks) e (by (ap (λ (m : ℕ). unless m (placed slots o rs c f)) (r .codes (situationOf rs f))) (b c))
+
+  there-by : (i : ℕ) → By (stepBy Insert (At i) (row 0 14 14 14)) 4
+  unfolding situationOf situationIn
+  there-by i = go (eqb (nth rs i .state) 2) (anyExecuted (nth rs i .states))
+    where
+      go : (a b : Bool) → By (unless (row 0 14 14 14 (cond a Annulled (cond b Executed Waiting))) (placed slots o rs Insert (At i))) 4
+      go true b = record { code = 14; is = refl; soon = omega arith }
+      go false true = record { code = 14; is = refl; soon = omega arith }
+      go false false = record { code = 14; is = refl; soon = omega arith }
+
+  full-by : slots ≤ length rs → (f : Found) → By (stepBy Insert f (row 0 14 14 14)) 5
+  unfolding situationOf placed
+  full-by l Nothing = record { code = 15; is = rw (le-ltb (length rs) slots l); soon = omega arith }
+  full-by l (At i) = let b = there-by i in record { code = b .code; is = b .is; soon = omega (arith, b .soon) }
+
+  annulled-by : (c : Change) (i : ℕ) → IsAnnulled (nth rs i) → By (stepBy c (At i) (row 16 17 0 18)) 4
+  unfolding situationOf situationIn
+  annulled-by c i e = record { code = 17; is = rw (eq-eqb (nth rs i .state) 2 e); soon = omega arith }
+
+  executed-by : (c : Change) (i k : ℕ) → (IsAnnulled (nth rs i) → ⊥) → IsExecuted (nth rs i) k → By (stepBy c (At i) (row 16 17 0 18)) 4
+  unfolding situationOf situationIn
+  executed-by c i k n e = record { code = 18; is = rw (ne-eqb (nth rs i .state) 2 n, is-executed (nth rs i .states) k e); soon = omega arith }
+
+  differs-by : (i : ℕ) → sameOrder o (nth rs i) ≡ false → By (stepBy Annul (At i) (row 16 17 0 18)) 5
+  unfolding situationOf situationIn placed
+  differs-by i e = go (eqb (nth rs i .state) 2) (anyExecuted (nth rs i .states))
+    where
+      go : (a b : Bool) → By (unless (row 16 17 0 18 (cond a Annulled (cond b Executed Waiting))) (placed slots o rs Annul (At i))) 5
+      go true b = record { code = 17; is = refl; soon = omega arith }
+      go false true = record { code = 18; is = refl; soon = omega arith }
+      go false false = record { code = 19; is = rw e; soon = omega arith }
+
+  module _ (d : distinct rs ≡ true) where
+    pub applies-by : {c : ℕ} → Applies slots year o rs c → By answer (turn c)
+    unfolding situationOf
+    applies-by (sostituzione q) = record { code = 11; is = asks-is q refl; soon = omega arith }
+    applies-by (misnumbered h) = any-change 2 (omega arith) (λ c. numbers-wrong c (is-not (numberedFrom 1 (o .lines)) (λ e. h (true-numbered (o .lines) e))))
+    applies-by (missummed h) = any-change 3 (omega arith) (λ c. sum-wrong c (ne-eqb _ _ h))
+    applies-by (present q r h) = let x = has-at rs key r d h in changing-by Insert 4 (omega arith) (At (x .at)) (ap asksOf q) (x .found) (there-by (x .at))
+    applies-by (full q l) = changing-by Insert 5 (omega arith) (findIn rs 0 key) (ap asksOf q) refl (full-by l (findIn rs 0 key))
+    applies-by (absent w h) = record-by w Nothing (none-nothing rs key h) (λ c. record { code = 16; is = refl; soon = omega arith })
+    applies-by (annulled w r h e) =
+        let x = has-at rs key r d h in
+        record-by w (At (x .at)) (x .found) (λ c. annulled-by c (x .at) (ap (λ (y : Record). y .state) (x .same) ∙ e))
+    applies-by (executed w r h n k e) =
+        let x = has-at rs key r d h in
+        record-by w (At (x .at)) (x .found)
+        (λ c. executed-by c (x .at) k (λ z. n (sym (ap (λ (y : Record). y .state) (x .same)) ∙ z)) (ap (λ (y : Record). getD (y .states) k 0) (x .same) ∙ e))
+    applies-by (differs q r h e) =
+        let x = has-at rs key r d h in
+        changing-by Annul 5 (omega arith) (At (x .at)) (ap asksOf q) (x .found)
+        (differs-by (x .at) (ap (sameOrder o) (x .same) ∙ is-not (sameOrder o r) (λ z. same-differs o r z e)))
+
+    pub accepted-none : {c : Change} {i code : ℕ} → answer ≡ Accepted c i → Applies slots year o rs code → ⊥
+    accepted-none e a = let b = applies-by a in let z : clash = cc (b .is) in no z
+
+    -- ONE REFUSAL AT MOST of each turn
+    abbrev codeAt : ℕ → ℕ
+    codeAt t =
+        cond (eqb t 1) 11 (cond (eqb t 2) 12 (cond (eqb t 3) 13 (cond (eqb t 4) (stepFor (asksOf (o .operation)) (situationOf rs (findIn rs 0 key))) (lastFor (asksOf (o .operation))))))
+
+    step-code : {c : Change} {f : Found} → asksOf (o .operation) ≡ For c → findIn rs 0 key ≡ f → stepFor (asksOf (o .operation)) (situationOf rs (findIn rs 0 key)) ≡ stepCode c (situationOf rs f)
+    step-code q e = λ i. stepFor (q i) (situationOf rs (e i))
+
+    record-code : OnRecord (o .operation) → {f : Found} {s : Situation} → findIn rs 0 key ≡ f → situationOf rs f ≡ s → row 16 17 0 18 s ≡ stepFor (asksOf (o .operation)) (situationOf rs (findIn rs 0 key))
+    record-code w {f} {s} e q = let r = row-of w in sym (step-code (r .asks) e ∙ r .codes (situationOf rs f) ∙ ap (row 16 17 0 18) q)
+
+    there-code : (i : ℕ) → stepCode Insert (situationOf rs (At i)) ≡ 14
+    unfolding situationOf situationIn
+    there-code i = go (eqb (nth rs i .state) 2) (anyExecuted (nth rs i .states))
+      where
+        go : (a b : Bool) → row 0 14 14 14 (cond a Annulled (cond b Executed Waiting)) ≡ 14
+        go true b = refl
+        go false true = refl
+        go false false = refl
+
+    turn-code : {c : ℕ} → Applies slots year o rs c → c ≡ codeAt (turn c)
+    unfolding situationOf
+    turn-code (sostituzione q) = refl
+    turn-code (misnumbered h) = refl
+    turn-code (missummed h) = refl
+    turn-code (present q r h) = let x = has-at rs key r d h in sym (step-code (ap asksOf q) (x .found) ∙ there-code (x .at))
+    turn-code (full q l) = sym (ap lastFor (ap asksOf q))
+    turn-code (absent w h) = record-code w (none-nothing rs key h) refl
+    turn-code (annulled w r h e) = let x = has-at rs key r d h in record-code w (x .found) (in-annulled (nth rs (x .at)) (ap (λ (y : Record). y .state) (x .same) ∙ e))
+    turn-code (executed w r h n k e) =
+        let x = has-at rs key r d h in
+        record-code w (x .found)
+        (ap situationIn (x .same) ∙ in-executed r n (is-executed (r .states) k e))
+    turn-code (differs q r h e) = sym (ap lastFor (ap asksOf q))
+
+    pub one-in-turn : {a b : ℕ} → Applies slots year o rs a → Applies slots year o rs b → turn a ≡ turn b → a ≡ b
+    one-in-turn x y e = turn-code x ∙ ap codeAt e ∙ sym (turn-code y)
 
 -- A NOTICE
 module _ (executing : Bool) (k : Key) (line : ℕ) (rs : List Record) where
@@ -343,23 +499,84 @@ module _ (executing : Bool) (k : Key) (line : ℕ) (rs : List Record) where
         go Nothing p e = give-notice (unknown (nothing-none rs k p)) e
         go (At i) p e = notice-apply (nth rs i) (found-has rs k i p) i e
 
-  module _ (d : distinct rs ≡ true) (i cents : ℕ) (e : judgeNotice executing k line rs ≡ Moved i cents) where
-    moves : Moves executing line (nth rs i) cents
-    moves = moved executing k line rs i cents e .1
+  -- refused by turn t
+  pub record NoticeBy (m : Noticed) (t : ℕ) : Type 0 where
+    pub code : ℕ
+    pub is : m ≡ Unmoved code
+    pub soon : noticeTurn code ≤ t
 
-    same : (r : Record) → Has rs k r → nth rs i ≡ r
-    same r h = has-found rs k i r d (moved executing k line rs i cents e .0) h
+  found-by : {f : Found} {t : ℕ} → findIn rs 0 k ≡ f → NoticeBy (noticeAt executing line rs f) t → NoticeBy (judgeNotice executing k line rs) t
+  unfolding judgeNotice
+  found-by e b = record { code = b .code; is = ap (noticeAt executing line rs) e ∙ b .is; soon = b .soon }
 
-    pub moved-none : {code : ℕ} → NoticeApplies executing k line rs code → ⊥
-    moved-none (unknown h) = h (nth rs i) (found-has rs k i (moved executing k line rs i cents e .0))
-    moved-none (closed r h q) = moves .acquired (ap (λ (x : Record). x .state) (same r h) ∙ q)
-    moved-none (zeroth q) = omega (arith, moves .first)
-    moved-none (past r h l) = omega (arith, moves .last, ap (λ (x : Record). x .lines) (same r h))
-    moved-none (already p r h q) =
-        let s = ap (λ (x : Record). getD (x .states) (line - 1) 0) (same r h) ∙ q in
-        let z : _≡_ {A = ℕ} 21 0 = sym (ap (λ (b : Bool). lineMoves b (getD (nth rs i .states) (line - 1) 0)) p ∙ moves-executed _ s .0) ∙ moves .moves in
-        omega arith
-    moved-none (notYet p r h q) =
-        let s : (getD (nth rs i .states) (line - 1) 0 ≡ 2 → ⊥) = λ x. q (sym (ap (λ (y : Record). getD (y .states) (line - 1) 0) (same r h)) ∙ x) in
-        let z : _≡_ {A = ℕ} 22 0 = sym (ap (λ (b : Bool). lineMoves b (getD (nth rs i .states) (line - 1) 0)) p ∙ moves-waiting _ s .1) ∙ moves .moves in
-        omega arith
+  module _ (i : ℕ) where
+    abbrev it : Record
+    it = nth rs i
+
+    abbrev state : ℕ
+    state = getD (it .states) (line - 1) 0
+
+    in-range : (t : ℕ) → 3 ≤ t → NoticeBy (moveOr (lineMoves executing state) (Moved i (getD (it .amounts) (line - 1) 0))) t → NoticeBy (noticeAt executing line rs (At i)) t
+    unfolding noticeAt noticeIn
+    in-range t l b = go (eqb (it .state) 2) (leb 1 line && leb line (it .lines))
+      where
+        go : (x y : Bool) → NoticeBy (cond x (Unmoved 17) (cond y (moveOr (lineMoves executing state) (Moved i (getD (it .amounts) (line - 1) 0))) (Unmoved 20))) t
+        go true y = record { code = 17; is = refl; soon = omega arith }
+        go false true = b
+        go false false = record { code = 20; is = refl; soon = l }
+
+    out-of-range : (leb 1 line && leb line (it .lines)) ≡ false → NoticeBy (noticeAt executing line rs (At i)) 3
+    unfolding noticeAt noticeIn
+    out-of-range e = rw e (go (eqb (it .state) 2))
+      where
+        go : (x : Bool) → NoticeBy (cond x (Unmoved 17) (Unmoved 20)) 3
+        go true = record { code = 17; is = refl; soon = omega arith }
+        go false = record { code = 20; is = refl; soon = omega arith }
+
+    closed-by : IsAnnulled it → NoticeBy (noticeAt executing line rs (At i)) 2
+    unfolding noticeAt noticeIn
+    closed-by e = record { code = 17; is = rw (eq-eqb (it .state) 2 e); soon = omega arith }
+
+    moves-by : (c : ℕ) → lineMoves executing state ≡ suc c → noticeTurn (suc c) ≤ 4 → NoticeBy (noticeAt executing line rs (At i)) 4
+    moves-by c e l = in-range 4 (omega arith) (rw e (record { code = suc c; is = refl; soon = l }))
+
+  zeroth-by : line ≡ 0 → (f : Found) → NoticeBy (noticeAt executing line rs f) 3
+  unfolding noticeAt
+  zeroth-by e Nothing = record { code = 16; is = refl; soon = omega arith }
+  zeroth-by e (At i) = out-of-range i (rw (lt-leb 1 line (omega arith)))
+
+  module _ (d : distinct rs ≡ true) where
+    pub notice-by : {c : ℕ} → NoticeApplies executing k line rs c → NoticeBy (judgeNotice executing k line rs) (noticeTurn c)
+    unfolding noticeAt
+    notice-by (unknown h) = found-by (none-nothing rs k h) (record { code = 16; is = refl; soon = omega arith })
+    notice-by (closed r h e) = let x = has-at rs k r d h in found-by (x .found) (closed-by (x .at) (ap (λ (y : Record). y .state) (x .same) ∙ e))
+    notice-by (zeroth e) = found-by refl (zeroth-by e (findIn rs 0 k))
+    notice-by (past r h l) =
+        let x = has-at rs k r d h in
+        found-by (x .found) (out-of-range (x .at) (rw (lt-leb line (nth rs (x .at) .lines) (omega (arith, ap (λ (y : Record). y .lines) (x .same))), and-false)))
+    notice-by (already p r h e) =
+        let x = has-at rs k r d h in
+        found-by (x .found)
+        (moves-by (x .at) 20 (ap (λ (b : Bool). lineMoves b (state (x .at))) p ∙ moves-executed _ (ap (λ (y : Record). getD (y .states) (line - 1) 0) (x .same) ∙ e) .0) (omega arith))
+    notice-by (notYet p r h n) =
+        let x = has-at rs k r d h in
+        found-by (x .found)
+        (moves-by (x .at) 21 (ap (λ (b : Bool). lineMoves b (state (x .at))) p ∙ moves-waiting _ (λ z. n (sym (ap (λ (y : Record). getD (y .states) (line - 1) 0) (x .same)) ∙ z)) .1) (omega arith))
+
+    pub moved-none : {i cents c : ℕ} → judgeNotice executing k line rs ≡ Moved i cents → NoticeApplies executing k line rs c → ⊥
+    moved-none e a = let b = notice-by a in let z : clash = cc (b .is) in no z
+
+  -- one refusal at most of each turn
+  abbrev noticeCodeAt : ℕ → ℕ
+  noticeCodeAt t = cond (eqb t 1) 16 (cond (eqb t 2) 17 (cond (eqb t 3) 20 (cond executing 21 22)))
+
+  notice-turn-code : {c : ℕ} → NoticeApplies executing k line rs c → c ≡ noticeCodeAt (noticeTurn c)
+  notice-turn-code (unknown h) = refl
+  notice-turn-code (closed r h e) = refl
+  notice-turn-code (zeroth e) = refl
+  notice-turn-code (past r h l) = refl
+  notice-turn-code (already p r h e) = sym (ap (λ (b : Bool). cond b 21 22) p)
+  notice-turn-code (notYet p r h n) = sym (ap (λ (b : Bool). cond b 21 22) p)
+
+  pub one-notice-in-turn : {a b : ℕ} → NoticeApplies executing k line rs a → NoticeApplies executing k line rs b → noticeTurn a ≡ noticeTurn b → a ≡ b
+  one-notice-in-turn x y e = notice-turn-code x ∙ ap noticeCodeAt e ∙ sym (notice-turn-code y)

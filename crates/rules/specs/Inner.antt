@@ -1,6 +1,5 @@
 -- Where the code's array of codes has the step table's rows and columns. The promises speak of none of it.
 use Prim.Native.Nat.{ℕ}
-use mathlib.Core.List.{List, [], _∷_}
 use Rattle.rules.specs.declared.Situation.{Situation}
 use Rattle.rules.specs.declared.Situation.the-variants.{Absent, Annulled, Waiting, Executed}
 use Rattle.rules.specs.declared.Change.{Change}

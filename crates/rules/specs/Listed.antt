@@ -1,10 +1,11 @@
--- THE LISTED REFUSALS (document 01, "Answers"), each by what it says, with no thought of the order in which they are looked for. An order or a notice is
--- accepted exactly when none of them applies (crates/theorems/proofs/Exactly.antt).
+-- THE LISTED REFUSALS (document 01, "Answers"), each by what it says. An order or a notice is accepted exactly when none of them applies; otherwise its
+-- code is that of the one that applies and has the first turn (crates/theorems/proofs/Exactly.antt).
 use Prim.Native.Nat.{ℕ, _+_, _-_, _≤_, _<_}
 use mathlib.Core.Path.{_≡_}
-use mathlib.Core.Bool.{Bool, true, false}
+use mathlib.Core.Bool.{Bool, true, false, _||_, cond}
 use mathlib.Core.List.{List, map, List·Memᴰ}
 use lib.ListN.{length, getD}
+use lib.Dec.{eqb}
 use Rattle.codes.specs.declared.Operation.{Operation}
 use Rattle.codes.specs.declared.Operation.the-variants.{Inserimento, Variazione, Annullo, Sostituzione}
 use Rattle.order.specs.declared.Line.{Line}
@@ -67,6 +68,10 @@ pub data Applies (slots year : ℕ) (o : Ordinativo) (rs : List Record) : ℕ �
   -- "19 (ANNULLO: total, number of lines or a line amount differs from the record)"
   differs : o .operation ≡ Annullo → (r : Record) → Has rs (keyFor year o) r → Differs o r → Applies slots year o rs 19
 
+-- THE TURN of each: "11 ..; 12 ..; 13 ..; then the step table ..; then 19 .. or 15"
+abbrev pub turn : ℕ → ℕ
+turn c = cond (eqb c 11) 1 (cond (eqb c 12) 2 (cond (eqb c 13) 3 (cond (eqb c 19 || eqb c 15) 5 4)))
+
 -- A NOTICE of execution (true) or reversal (false) for line `line`, counted from 1, of the order with this key
 pub data NoticeApplies (executing : Bool) (k : Key) (line : ℕ) (rs : List Record) : ℕ → Type 0 where
   -- "16 (no such order)"
@@ -79,3 +84,7 @@ pub data NoticeApplies (executing : Bool) (k : Key) (line : ℕ) (rs : List Reco
   -- "for execution 21 (already executed), for reversal 22 (not executed)"
   already : executing ≡ true → (r : Record) → Has rs k r → IsExecuted r (line - 1) → NoticeApplies executing k line rs 21
   notYet : executing ≡ false → (r : Record) → Has rs k r → (IsExecuted r (line - 1) → ⊥) → NoticeApplies executing k line rs 22
+
+-- the turn of each: "16 (no such order), 17, 20 (no such line), then for execution 21 .., for reversal 22"
+abbrev pub noticeTurn : ℕ → ℕ
+noticeTurn c = cond (eqb c 16) 1 (cond (eqb c 17) 2 (cond (eqb c 20) 3 4))

@@ -19,14 +19,6 @@ pub fn byte(s: &[u8], at: usize) -> u8
     if at < s.len() { s[at] } else { 0 }
 }
 
-// The part of a flow from a up to e: the flow's own bytes, not a copy.
-pub fn part_of(s: &[u8], a: usize, e: usize) -> &[u8]
-    requires { ⌜ (a ≤ e) × (e ≤ length (now s)) ⌝ }
-    ensures { λ r. ⌜ now r ≡ part (now (s .entry)) a e ⌝ }
-{
-    &s[a..e]
-}
-
 pub fn is_letter(b: u8) -> bool
     ensures { λ r. ⌜ r ≡ isLetter b ⌝ }
 {

@@ -1,10 +1,10 @@
 -- What an order leaves: a table as long as it was, the same bytes outside the body's slots, and the body valid.
-use Prim.Native.Nat.{ℕ, suc, _+_, _-_, _*_, _≤_, _<_}
+use Prim.Native.Nat.{ℕ, suc, _+_, _*_, _≤_, _<_}
 use mathlib.Core.Bool.{true}
 use mathlib.Core.List.{List, [], _∷_, _++_}
 use mathlib.Core.Path.{_≡_, refl, sym, ap, _∙_}
 use native.Mathlib.Omega.{arith}
-use lib.ListN.{length, take, drop, drop-of-length-le}
+use lib.ListN.{length, drop-of-length-le}
 use lib.Seq.{set-split, take-all}
 use Rattle.words.specs.Numbers.{put}
 use Rattle.words.proofs.Laws.{Agree, length-put}

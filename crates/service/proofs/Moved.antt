@@ -4,7 +4,6 @@ use mathlib.Core.Bool.{Bool, true, false, _&&_}
 use mathlib.Core.List.{List, [], _∷_}
 use mathlib.Core.Path.{_≡_, refl, sym, ap, _∙_}
 use native.Mathlib.Omega.{arith}
-use native.Mathlib.Nat.{add-zero}
 use lib.ListN.{length, getD, set, length-set}
 use lib.Seq.{ext-getD, getD-set-same, getD-set-other}
 use lib.Dec.{eqb, ltb}
@@ -13,8 +12,8 @@ use Rattle.words.specs.Numbers.{put}
 use Rattle.words.proofs.Laws.{Agree, on, at-it, same2, same4, same8, get-before, get-in, get-after, length-put}
 use Rattle.record.specs.declared.Record.{Record}
 use Rattle.record.specs.declared.Key.{Key}
-use Rattle.record.specs.Slot.{slotSize, eightAt, be8s, dateAt, recordAt, restZero, keyOf}
-use Rattle.record.proofs.Back.{same-record, agree-before, agree-after}
+use Rattle.record.specs.Slot.{statesOffset, slotSize, eightAt, be8s, dateAt, recordAt, restZero, keyOf}
+use Rattle.record.proofs.Back.{eight-at, same-be8s, same-record, agree-before, agree-after}
 use Rattle.valid.specs.Valid.{recordOk}
 use Rattle.slots.specs.Slots.{usedAt, slotsAt, recordsAt, distinct}
 use Rattle.body.specs.Body.{slotOk, bodyOk}
@@ -33,69 +32,47 @@ use Rattle.rules.specs.Rules.{nth, judgeNotice, movedTo}
 use Rattle.rules.specs.Effects.{withState, recordsMoved}
 use Rattle.rules.proofs.Judging.{Moves, moved}
 use Rattle.rules.proofs.Kept.{moved-valid}
-use Rattle.service.specs.Service.{noticeComes, noticeStored, noticeLeaves, statesAt, statePlace}
+use Rattle.service.specs.Service.{noticeComes, noticeStored, noticeLeaves, statePlace}
 use Rattle.service.proofs.Laws.{Held, search-held}
 use Rattle.service.proofs.Kept.{Kept, unchanged}
 
 -- THE BYTE OF A STATE
 
-eight-at : (t : List ℕ) (p j : ℕ) → j < 8 → getD (eightAt t p) j 0 ≡ getD t (p + j) 0
-eight-at t p zero h = ap (λ (x : ℕ). getD t x 0) (sym (add-zero p))
-eight-at t p (suc zero) h = refl
-eight-at t p (suc (suc zero)) h = refl
-eight-at t p (suc (suc (suc zero))) h = refl
-eight-at t p (suc (suc (suc (suc zero)))) h = refl
-eight-at t p (suc (suc (suc (suc (suc zero))))) h = refl
-eight-at t p (suc (suc (suc (suc (suc (suc zero)))))) h = refl
-eight-at t p (suc (suc (suc (suc (suc (suc (suc zero))))))) h = refl
-eight-at t p (suc (suc (suc (suc (suc (suc (suc (suc j)))))))) h = absurd (omega arith)
-
 module _ (t : List ℕ) (at k s : ℕ) (small : k < 8) (fits : at + slotSize ≤ length t) where
   abbrev after : List ℕ
-  after = put t (at + statesAt + k) (s ∷ [])
+  after = put t (at + statesOffset + k) (s ∷ [])
 
-  byte : (j : ℕ) → j < 8 → (x : Bool) → eqb j k ≡ x → getD after (at + statesAt + j) 0 ≡ getD (set (eightAt t (at + statesAt)) k s) j 0
+  byte : (j : ℕ) → j < 8 → (x : Bool) → eqb j k ≡ x → getD after (at + statesOffset + j) 0 ≡ getD (set (eightAt t (at + statesOffset)) k s) j 0
   byte j h true q =
       let e : j ≡ k = eqb-true j k q in
-      let z : at + statesAt + j ≡ at + statesAt + k + 0 = omega arith in
-      ap (λ (x : ℕ). getD after x 0) z ∙ get-in t (at + statesAt + k) (s ∷ []) 0 (omega arith) (omega arith)
-      ∙ sym (ap (λ (x : ℕ). getD (set (eightAt t (at + statesAt)) k s) x 0) e ∙ getD-set-same (eightAt t (at + statesAt)) k s 0 small)
-  byte j h false q = other j (eqb-false j k q) ∙ sym (getD-set-other (eightAt t (at + statesAt)) k j s 0 (eqb-false j k q) ∙ eight-at t (at + statesAt) j h)
+      let z : at + statesOffset + j ≡ at + statesOffset + k + 0 = omega arith in
+      ap (λ (x : ℕ). getD after x 0) z ∙ get-in t (at + statesOffset + k) (s ∷ []) 0 (omega arith) (omega arith)
+      ∙ sym (ap (λ (x : ℕ). getD (set (eightAt t (at + statesOffset)) k s) x 0) e ∙ getD-set-same (eightAt t (at + statesOffset)) k s 0 small)
+  byte j h false q = other j (eqb-false j k q) ∙ sym (getD-set-other (eightAt t (at + statesOffset)) k j s 0 (eqb-false j k q) ∙ eight-at t (at + statesOffset) j h)
     where
-      other : (x : ℕ) → (x ≡ k → ⊥) → getD after (at + statesAt + x) 0 ≡ getD t (at + statesAt + x) 0
+      other : (x : ℕ) → (x ≡ k → ⊥) → getD after (at + statesOffset + x) 0 ≡ getD t (at + statesOffset + x) 0
       other x ne = go (ltb x k) refl
         where
-          go : (b : Bool) → ltb x k ≡ b → getD after (at + statesAt + x) 0 ≡ getD t (at + statesAt + x) 0
-          go true e = get-before t (at + statesAt + k) (s ∷ []) (at + statesAt + x) (omega (arith, ltb-true x k e)) (omega arith)
-          go false e = get-after t (at + statesAt + k) (s ∷ []) (at + statesAt + x) (omega (arith, ltb-false x k e)) (omega arith)
+          go : (b : Bool) → ltb x k ≡ b → getD after (at + statesOffset + x) 0 ≡ getD t (at + statesOffset + x) 0
+          go true e = get-before t (at + statesOffset + k) (s ∷ []) (at + statesOffset + x) (omega (arith, ltb-true x k e)) (omega arith)
+          go false e = get-after t (at + statesOffset + k) (s ∷ []) (at + statesOffset + x) (omega (arith, ltb-false x k e)) (omega arith)
 
-  states-after : eightAt after (at + statesAt) ≡ set (eightAt t (at + statesAt)) k s
+  states-after : eightAt after (at + statesOffset) ≡ set (eightAt t (at + statesOffset)) k s
   states-after =
-      ext-getD 0 (eightAt after (at + statesAt)) (set (eightAt t (at + statesAt)) k s) (sym (length-set (eightAt t (at + statesAt)) k s))
-      (λ j h. eight-at after (at + statesAt) j h ∙ byte j h (eqb j k) refl)
+      ext-getD 0 (eightAt after (at + statesOffset)) (set (eightAt t (at + statesOffset)) k s) (sym (length-set (eightAt t (at + statesOffset)) k s))
+      (λ j h. eight-at after (at + statesOffset) j h ∙ byte j h (eqb j k) refl)
 
   head-same : Agree after at t at 24
-  head-same = agree-before t (at + statesAt + k) (s ∷ []) at (omega arith) 24 (omega arith)
+  head-same = agree-before t (at + statesOffset + k) (s ∷ []) at (omega arith) 24 (omega arith)
 
   tail-same : Agree after (at + 32) t (at + 32) 64
-  tail-same = agree-after t (at + statesAt + k) (s ∷ []) (at + 32) (omega arith) 64 (omega arith)
+  tail-same = agree-after t (at + statesOffset + k) (s ∷ []) (at + 32) (omega arith) 64 (omega arith)
 
   date-same : dateAt after (at + 12) ≡ dateAt t (at + 12)
   date-same = let g = on head-same 12 4 (omega arith) in cc (same2 g (omega arith), g .same 2 (omega arith), g .same 3 (omega arith))
 
   amounts-same : be8s after (at + 32) ≡ be8s t (at + 32)
-  amounts-same =
-      let g = tail-same in
-      cc (
-        same8 g (omega arith),
-        same8 (on g 8 8 (omega arith)) (omega arith),
-        same8 (on g 16 8 (omega arith)) (omega arith),
-        same8 (on g 24 8 (omega arith)) (omega arith),
-        same8 (on g 32 8 (omega arith)) (omega arith),
-        same8 (on g 40 8 (omega arith)) (omega arith),
-        same8 (on g 48 8 (omega arith)) (omega arith),
-        same8 (on g 56 8 (omega arith)) (omega arith),
-      )
+  amounts-same = same-be8s tail-same
 
   pub state-record : recordAt after at ≡ withState (recordAt t at) k s
   unfolding recordAt

@@ -9,7 +9,7 @@ use Rattle.words.specs.Numbers.{put}
 use Rattle.words.proofs.Laws.{Agree, on, get-before, get-in, get-after}
 use Rattle.order.specs.Ordinativo.{Ordinativo}
 use Rattle.record.specs.declared.Key.{Key}
-use Rattle.record.specs.Slot.{slotSize, recordAt, recordBytes}
+use Rattle.record.specs.Slot.{statesOffset, slotSize, recordAt, recordBytes}
 use Rattle.record.proofs.Back.{same-record}
 use Rattle.body.specs.Body.{bodyOk}
 use Rattle.body.proofs.Same.{records-agree}
@@ -22,7 +22,7 @@ use Rattle.rules.specs.Rules.{judgeOrder, orderCode, written, judgeNotice, move
 use Rattle.rules.proofs.Kept.{split}
 use Rattle.service.proofs.Laws.{order-low, notice-line}
 use Rattle.service.proofs.Kept.{Writables, none, more, order-kept}
-use Rattle.service.specs.Service.{orderComes, orderStored, orderLeaves, outcomeBytes, one, allLeave, allOutcomes, allAccepted, statesAt, noticeComes, noticeStored, noticeLeaves}
+use Rattle.service.specs.Service.{orderComes, orderStored, orderLeaves, outcomeBytes, one, allLeave, allOutcomes, allAccepted, noticeComes, noticeStored, noticeLeaves}
 
 -- the same bytes put at the same place
 pub put-agree : {s t : List ℕ} {p q m : ℕ} → Agree s p t q m → (k : ℕ) (v : List ℕ) → p + k ≤ length s → q + k ≤ length t → Agree (put s (p + k) v) p (put t (q + k) v) q m
@@ -72,9 +72,9 @@ module _ {s t : List ℕ} {p q : ℕ} (n : ℕ) (a : Agree s p t q (slotSize * n
     unfolding noticeStored
     moved-same executing line (Moved i cents) h =
         let l = h i cents refl in
-        let x : p + slotSize * i + statesAt + (line - 1) ≡ p + (slotSize * i + statesAt + (line - 1)) = omega arith in
-        let y : q + slotSize * i + statesAt + (line - 1) ≡ q + (slotSize * i + statesAt + (line - 1)) = omega arith in
-        rw (x, y) (put-agree a (slotSize * i + statesAt + (line - 1)) (movedTo executing ∷ []) (omega arith) (omega arith))
+        let x : p + slotSize * i + statesOffset + (line - 1) ≡ p + (slotSize * i + statesOffset + (line - 1)) = omega arith in
+        let y : q + slotSize * i + statesOffset + (line - 1) ≡ q + (slotSize * i + statesOffset + (line - 1)) = omega arith in
+        rw (x, y) (put-agree a (slotSize * i + statesOffset + (line - 1)) (movedTo executing ∷ []) (omega arith) (omega arith))
     moved-same executing line (Unmoved c) h = a
 
     pub notice-own : (executing : Bool) (k : Key) (line : ℕ) → bodyOk t q n ≡ true → Agree (noticeLeaves s p n executing k line) p (noticeLeaves t q n executing k line) q (slotSize * n)

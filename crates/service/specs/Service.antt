@@ -1,5 +1,6 @@
 -- Orders and notices served on one body of a table's bytes (document 01, "Answers"): the rules over its records, and the bytes they leave.
-use Prim.Native.Nat.{ℕ, zero, suc, _+_, _*_, _-_}
+use Prim.Native.Nat.{ℕ, _+_, _*_, _-_}
+use mathlib.Core.Path.{_≡_}
 use mathlib.Core.Bool.{Bool}
 use mathlib.Core.List.{List, [], _∷_, _++_}
 use lib.ListN.{length}
@@ -7,7 +8,7 @@ use Rattle.words.specs.Numbers.{put, bytes4, bytes8}
 use Rattle.codes.specs.Codes.{operationNumber}
 use Rattle.order.specs.Ordinativo.{Ordinativo}
 use Rattle.record.specs.declared.Key.{Key}
-use Rattle.record.specs.Slot.{slotSize, recordAt, recordBytes}
+use Rattle.record.specs.Slot.{statesOffset, slotSize, recordAt, recordBytes}
 use Rattle.slots.specs.Slots.{recordsAt}
 use Rattle.rules.specs.declared.Ruling.{Ruling}
 use Rattle.rules.specs.declared.Ruling.the-variants.{Accepted, Refused}
@@ -29,7 +30,15 @@ orderStored t base year o (Refused code) = t
 abbrev pub orderLeaves : List ℕ → ℕ → ℕ → ℕ → Ordinativo → List ℕ
 orderLeaves t base n year o = orderStored t base year o (orderComes t base n year o)
 
--- "Each writes 16 outcome bytes: 0 kind, 1 operation (1 to 4 in the field table's order), 2 code, 3 lines, 4-7 number, 8-15 total"
+-- an order served on the table t: the ruling r, and the table t′ afterwards
+abbrev pub OrderServed : List ℕ → ℕ → ℕ → ℕ → Ordinativo → Ruling → List ℕ → Type 0
+OrderServed t base n year o r t′ = (r ≡ orderComes t base n year o) × (t′ ≡ orderLeaves t base n year o)
+
+-- "Each writes 16 outcome bytes"
+abbrev pub outcomeSize : ℕ
+outcomeSize = 16
+
+-- "0 kind, 1 operation (1 to 4 in the field table's order), 2 code, 3 lines, 4-7 number, 8-15 total"
 unfoldable pub outcomeBytes : Ordinativo → ℕ → List ℕ
 outcomeBytes o code =
     o .kind ∷ operationNumber (o .operation) ∷ code ∷ length (o .lines) ∷ (bytes4 (o .number) ++ bytes8 (o .total))
@@ -59,13 +68,9 @@ allAccepted t base n year (o ∷ os) = one (orderComes t base n year o) + allAcc
 unfoldable pub noticeComes : List ℕ → ℕ → ℕ → Bool → Key → ℕ → Noticed
 noticeComes t base n executing k line = judgeNotice executing k line (recordsAt t base n)
 
--- "24-31 eight line states"
-abbrev pub statesAt : ℕ
-statesAt = 24
-
--- the byte of a line's state; lines are counted from 1
+-- the byte of a line's state, counted from 1: "24-31 eight line states"
 abbrev pub statePlace : ℕ → ℕ → ℕ → ℕ
-statePlace base i line = base + slotSize * i + statesAt + (line - 1)
+statePlace base i line = base + slotSize * i + statesOffset + (line - 1)
 
 -- the table after it: one byte changes, or none
 unfoldable pub noticeStored : List ℕ → ℕ → Bool → ℕ → Noticed → List ℕ
@@ -74,3 +79,7 @@ noticeStored t base executing line (Unmoved c) = t
 
 abbrev pub noticeLeaves : List ℕ → ℕ → ℕ → Bool → Key → ℕ → List ℕ
 noticeLeaves t base n executing k line = noticeStored t base executing line (noticeComes t base n executing k line)
+
+-- a notice served on the table t: what it comes to, m, and the table t′ afterwards
+abbrev pub NoticeServed : List ℕ → ℕ → ℕ → Bool → Key → ℕ → Noticed → List ℕ → Type 0
+NoticeServed t base n executing k line m t′ = (m ≡ noticeComes t base n executing k line) × (t′ ≡ noticeLeaves t base n executing k line)

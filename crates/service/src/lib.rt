@@ -9,7 +9,7 @@ use rules::Ruling;
 use rules::Situation;
 ghost use mathlib.Core.Path.{_≡_};
 ghost use mathlib.Core.Bool.{true};
-ghost use Prim.Native.Nat.{ℕ, _+_, _*_, _≤_, _<_};
+ghost use Prim.Native.Nat.{_+_, _*_, _≤_, _<_};
 ghost use lib.ListN.{length};
 ghost use Rattle.words.specs.Numbers.{put};
 ghost use Rattle.order.specs.Ordinativo.{ordinativo};
@@ -18,11 +18,11 @@ ghost use Rattle.slots.specs.Slots.{recordsAt};
 ghost use Rattle.body.specs.Body.{bodyOk};
 ghost use Rattle.rules.specs.declared.Change.the-variants.{Annul};
 ghost use Rattle.rules.specs.Rules.{situationOf, firstEmpty, placed, stepped, judgeChange, movedTo};
-ghost use Rattle.service.specs.Service.{orderComes, orderLeaves, outcomeBytes, noticeComes, noticeLeaves};
+ghost use Rattle.service.specs.Service.{outcomeSize, orderComes, OrderServed, outcomeBytes, noticeComes, NoticeServed};
 ghost use Rattle.service.specs.Inner.{foundIn, atFound};
 
-// Where a slot's line states begin.
-const STATES: usize = 24;
+// How many bytes an order's outcome takes.
+pub const OUTCOME: usize = 16;
 
 // The situation of the order that a search found, or not, among a body's records.
 fn situation_of(t: &[u8], base: usize, n: usize, f: Found) -> Situation
@@ -130,7 +130,7 @@ pub fn judge_order(t: &[u8], base: usize, n: usize, year: u64, o: Order) -> Ruli
 // Serves an order: its record is stored where it is accepted.
 pub fn serve_order(t: &mut [u8], base: usize, n: usize, year: u64, o: Order) -> Ruling
     requires { ⌜ base + slotSize * n ≤ length (now t) ⌝ }
-    ensures { λ r. ⌜ (r ≡ orderComes (now (t .entry)) base n year (ordinativo o)) × (now (t .exit) ≡ orderLeaves (now (t .entry)) base n year (ordinativo o)) ⌝ }
+    ensures { λ r. ⌜ OrderServed (now (t .entry)) base n year (ordinativo o) r (now (t .exit)) ⌝ }
 {
     let j = judge_order(t, base, n, year, o);
     match j {
@@ -146,7 +146,7 @@ pub fn serve_order(t: &mut [u8], base: usize, n: usize, year: u64, o: Order) -> 
 
 // Writes an order's 16 outcome bytes at a place.
 pub fn put_outcome(out: &mut [u8], at: usize, o: Order, code: u8)
-    requires { ⌜ at + 16 ≤ length (now out) ⌝ }
+    requires { ⌜ at + outcomeSize ≤ length (now out) ⌝ }
     ensures { λ _. ⌜ now (out .exit) ≡ put (now (out .entry)) at (outcomeBytes (ordinativo o) code) ⌝ }
 {
     let ls = o.lines;
@@ -197,12 +197,12 @@ pub fn serve_notice(
     line: u64,
 ) -> Noticed
     requires { ⌜ (base + slotSize * n ≤ length (now t)) × (bodyOk (now t) base n ≡ true) ⌝ }
-    ensures { λ r. ⌜ (r ≡ noticeComes (now (t .entry)) base n executing key line) × (now (t .exit) ≡ noticeLeaves (now (t .entry)) base n executing key line) ⌝ }
+    ensures { λ r. ⌜ NoticeServed (now (t .entry)) base n executing key line r (now (t .exit)) ⌝ }
 {
     let m = judge_notice(t, base, n, executing, key, line);
     match m {
         Noticed::Moved(i, cents) => {
-            let at = base + record::SLOT * i + STATES + ((line - 1) as usize);
+            let at = base + record::SLOT * i + record::STATES + ((line - 1) as usize);
             let state = [moved_to(executing)];
             words::copy_in(t, at, &state);
             Noticed::Moved(i, cents)

@@ -10,6 +10,8 @@ use Rattle.rows.specs.Kept.{keptFrom}
 use Rattle.structure.specs.Structure.{all, keptHolds, fitsAt}
 use Rattle.order.specs.Ordinativo.{Ordinativo, ordinativo}
 use Rattle.orders.specs.Orders.{ordersIn}
+use Rattle.words.specs.Numbers.{put}
+use Rattle.service.specs.Service.{allLeave, allOutcomes, allAccepted}
 
 -- the orders of the root's children from a place on
 abbrev pub ordersFrom : List ℕ → ℕ → List Ordinativo
@@ -20,3 +22,9 @@ pub record Rooted (f past : List ℕ) (from : ℕ) : Type 0 where
   pub within : from ≤ length f
   pub holds : all (keptHolds (λ q a. fitsAt 3 q f a) f) (keptFrom FlussoOrdinativi f from) ≡ true
   pub noted : Noted f past
+
+-- the orders os served one after another on the table t, their outcomes written into the buffer out: how many were accepted, and the two buffers
+-- afterwards
+abbrev pub AllServed : List ℕ → ℕ → ℕ → ℕ → List Ordinativo → List ℕ → ℕ → List ℕ → List ℕ → Type 0
+AllServed t base n year os out accepted t′ out′ =
+    (accepted ≡ allAccepted t base n year os) × (t′ ≡ allLeave t base n year os) × (out′ ≡ put out 0 (allOutcomes t base n year os))

@@ -5,11 +5,10 @@ use rules::Ruling;
 ghost use mathlib.Core.Path.{_≡_};
 ghost use Prim.Native.Nat.{_+_, _*_, _≤_};
 ghost use lib.ListN.{length};
-ghost use Rattle.words.specs.Numbers.{put};
 ghost use Rattle.record.specs.Slot.{slotSize};
 ghost use Rattle.rules.specs.Rules.{orderCode};
-ghost use Rattle.service.specs.Service.{one, allLeave, allOutcomes, allAccepted};
-ghost use Rattle.serving.specs.Served.{ordersFrom, Rooted};
+ghost use Rattle.service.specs.Service.{outcomeSize, one};
+ghost use Rattle.serving.specs.Served.{ordersFrom, Rooted, AllServed};
 
 // An order's code, for its outcome bytes.
 fn code_of(j: Ruling) -> u8
@@ -41,8 +40,8 @@ pub fn serve_all(
     out: &mut [u8],
     past: &[u32],
 ) -> usize
-    requires { ⌜ (base + slotSize * n ≤ length (now t)) × Rooted (now f) (now past) from × (16 * length (ordersFrom (now f) from) ≤ length (now out)) ⌝ }
-    ensures { λ r. ⌜ (r ≡ allAccepted (now (t .entry)) base n year (ordersFrom (now (f .entry)) from)) × (now (t .exit) ≡ allLeave (now (t .entry)) base n year (ordersFrom (now (f .entry)) from)) × (now (out .exit) ≡ put (now (out .entry)) 0 (allOutcomes (now (t .entry)) base n year (ordersFrom (now (f .entry)) from))) ⌝ }
+    requires { ⌜ (base + slotSize * n ≤ length (now t)) × Rooted (now f) (now past) from × (outcomeSize * length (ordersFrom (now f) from) ≤ length (now out)) ⌝ }
+    ensures { λ r. ⌜ AllServed (now (t .entry)) base n year (ordersFrom (now (f .entry)) from) (now (out .entry)) r (now (t .exit)) (now (out .exit)) ⌝ }
 {
     let mut i = from;
     let mut to: usize = 0;
@@ -56,7 +55,7 @@ pub fn serve_all(
         let j = service::serve_order(t, base, n, year, o);
         service::put_outcome(out, to, o, code_of(j));
         accepted += one_of(j);
-        to += 16;
+        to += service::OUTCOME;
         i = c.after;
     }
 }

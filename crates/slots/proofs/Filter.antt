@@ -13,7 +13,8 @@ use Rattle.record.specs.Slot.{slotSize, recordAt, keyIs, keyOf}
 use Rattle.record.specs.declared.Record.{Record}
 use Rattle.record.specs.declared.Key.{Key}
 use Rattle.ranges.specs.Ranges.{isNothing}
-use Rattle.slots.specs.Slots.{slotsAt, findIn, distinct, markOf}
+use Rattle.slots.specs.Inner.{markOf}
+use Rattle.slots.specs.Slots.{slotsAt, findIn, distinct}
 use Rattle.slots.proofs.Laws.{slots-more, find-nil, distinct-more}
 use Rattle.slots.proofs.Search.{key-is, cons-none}
 

@@ -1,5 +1,5 @@
 -- The records of a body's slots (document 01, "The table").
-use Prim.Native.Nat.{ℕ, zero, suc, _+_, _*_, _%_}
+use Prim.Native.Nat.{ℕ, zero, suc, _+_}
 use mathlib.Core.Bool.{Bool, true, _&&_, cond}
 use mathlib.Core.List.{List, [], _∷_}
 use lib.ListN.{getD}
@@ -38,7 +38,3 @@ findIn (r ∷ rs) i k = cond (keyIs r k) (At i) (findIn rs (i + 1) k)
 unfoldable pub distinct : List Record → Bool
 distinct [] = true
 distinct (r ∷ rs) = isNothing (findIn rs 0 (keyOf r)) && distinct rs
-
--- a key's place among the 4096 of the filter of keys that were seen
-unfoldable pub markOf : Key → ℕ
-markOf k = (k .number % 4096 * 2 + k .kind % 4096 + k .esercizio % 4096 * 613) % 4096

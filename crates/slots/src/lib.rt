@@ -7,7 +7,11 @@ ghost use Prim.Native.Nat.{_+_, _*_, _≤_, _<_};
 ghost use lib.ListN.{length};
 ghost use Rattle.record.specs.Slot.{slotSize};
 ghost use Rattle.ranges.specs.Ranges.{isNothing};
-ghost use Rattle.slots.specs.Slots.{usedAt, slotsAt, recordsAt, findIn, distinct, markOf};
+ghost use Rattle.slots.specs.Slots.{usedAt, slotsAt, recordsAt, findIn, distinct};
+ghost use Rattle.slots.specs.Inner.{filterSize, markOf};
+
+// The places of the filter of keys that were seen.
+const FILTER: u64 = 4096;
 
 // How many of a body's n slots are used.
 pub fn used_slots(t: &[u8], base: usize, n: usize) -> usize
@@ -76,12 +80,12 @@ fn key_new(t: &[u8], base: usize, n: usize, key: Key, maybe: bool) -> bool
 
 // A key's place in the filter of keys that were seen.
 fn mark_of(k: Key) -> usize
-    ensures { λ r. ⌜ (r ≡ markOf k) × (r < 4096) ⌝ }
+    ensures { λ r. ⌜ (r ≡ markOf k) × (r < filterSize) ⌝ }
 {
-    let number = k.number % 4096;
-    let kind = k.kind % 4096;
-    let esercizio = k.esercizio % 4096;
-    ((number * 2 + kind + esercizio * 613) % 4096) as usize
+    let number = k.number % FILTER;
+    let kind = k.kind % FILTER;
+    let esercizio = k.esercizio % FILTER;
+    ((number * 2 + kind + esercizio * 613) % FILTER) as usize
 }
 
 // Whether no key stands twice in the n used slots from base on. From the last slot to the first: most keys fall on a place

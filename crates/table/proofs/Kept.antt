@@ -20,7 +20,8 @@ use Rattle.ranges.specs.Ranges.{zeros}
 use Rattle.entries.specs.Entry.{entrySize, requestSize, slotsOf, placeOf, codesFrom, findCode}
 use Rattle.entries.proofs.Same.{part-agree, zeros-agree, slots-agree, place-agree, form-agree, Rows, codes-rows}
 use Rattle.entries.proofs.Same.Rows.{none, row}
-use Rattle.table.specs.Table.{headSize, maxLength, bodies, abiOf, headOk, entryOk, layoutOk, bodiesOk, tableOk, codesOf, bodyOf, entryOf}
+use Rattle.bounds.specs.Bounds.{maxLength}
+use Rattle.table.specs.Table.{headSize, bodies, abiOf, headOk, entryOk, layoutOk, bodiesOk, tableOk, codesOf, bodyOf, entryOf}
 use Rattle.table.proofs.Laws.{entry, lay-split, head, table}
 use Rattle.table.proofs.Bodies.{body-at, apart}
 

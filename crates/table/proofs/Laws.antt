@@ -14,7 +14,8 @@ use Rattle.record.specs.Slot.{slotSize}
 use Rattle.ranges.specs.Ranges.{zeros}
 use Rattle.body.specs.Body.{bodyOk}
 use Rattle.entries.specs.Entry.{entrySize, slotsOf, placeOf, formOk, formsOk, codesFrom, distinctCodes}
-use Rattle.table.specs.Table.{headSize, maxLength, bodies, abiOf, headOk, entryOk, layoutOk, bodiesOk, tableOk, codesOf}
+use Rattle.bounds.specs.Bounds.{maxLength}
+use Rattle.table.specs.Table.{headSize, bodies, abiOf, headOk, entryOk, layoutOk, bodiesOk, tableOk, codesOf}
 
 -- THE HEAD, a way out of the code at a time; n, v, l are the numbers read
 module _ (t : List ℕ) where

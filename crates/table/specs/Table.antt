@@ -6,37 +6,38 @@ use mathlib.Core.List.{List}
 use lib.ListN.{length}
 use lib.Dec.{eqb, leb}
 use Rattle.scan.specs.Bytes.{between, part, all, isDigit}
+use Rattle.bounds.specs.Bounds.{abiLength, maxBodies, maxLength}
 use Rattle.words.specs.Numbers.{be2, be4}
 use Rattle.record.specs.Slot.{slotSize}
 use Rattle.ranges.specs.Ranges.{zeros}
 use Rattle.body.specs.Body.{bodyOk}
 use Rattle.ranges.specs.declared.Found.{Found}
-use Rattle.entries.specs.Entry.{entrySize, slotsOf, placeOf, formOk, codesFrom, findCode, distinctCodes}
+use Rattle.entries.specs.Entry.{entrySize, entryFixed, slotsOf, placeOf, formOk, codesFrom, findCode, distinctCodes}
 
 -- "Head, 16 bytes"
 abbrev pub headSize : ℕ
 headSize = 16
-
-abbrev pub maxLength : ℕ
-maxLength = 65536
 
 -- "0-1 number of bodies"
 abbrev pub bodies : List ℕ → ℕ
 bodies t = be2 t 0
 
 -- "8-12 the bank's five ABI digits in ASCII"
+abbrev pub abiPlace : ℕ
+abiPlace = 8
+
 abbrev pub abiOf : List ℕ → List ℕ
-abiOf t = part t 8 13
+abiOf t = part t abiPlace (abiPlace + abiLength)
 
 -- "0-1 number of bodies, 1 to 16; 2-3 the number 1; 4-7 total length; 8-12 the bank's five ABI digits; rest zero"; the entries fit
 unfoldable pub headOk : List ℕ → Bool
 headOk t =
-    between headSize maxLength (length t) && (between 1 16 (bodies t) && (eqb (be2 t 2) 1 && (eqb (be4 t 4) (length t)
-    && (all isDigit (abiOf t) && (zeros t 13 16 && leb (headSize + entrySize * bodies t) (length t))))))
+    between headSize maxLength (length t) && (between 1 maxBodies (bodies t) && (eqb (be2 t 2) 1 && (eqb (be4 t 4) (length t)
+    && (all isDigit (abiOf t) && (zeros t (abiPlace + abiLength) headSize && leb (headSize + entrySize * bodies t) (length t))))))
 
 -- an entry whose slots begin at p: "20-23 place of its first slot; rest zero"
 unfoldable pub entryOk : List ℕ → ℕ → ℕ → Bool
-entryOk t at p = formOk t at && (eqb (placeOf t at) p && zeros t (at + 24) (at + entrySize))
+entryOk t at p = formOk t at && (eqb (placeOf t at) p && zeros t (at + entryFixed) (at + entrySize))
 
 -- "The bodies' slots follow the contents without gaps, in entry order": the n entries from `at` on, the first one's slots at p; the last slot
 -- ends the buffer

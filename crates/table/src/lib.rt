@@ -5,10 +5,16 @@ ghost use mathlib.Core.Path.{_≡_};
 ghost use mathlib.Core.Bool.{true};
 ghost use Prim.Native.Nat.{_+_, _*_, _≤_, _<_};
 ghost use lib.ListN.{length};
+ghost use Rattle.bounds.specs.Bounds.{maxBodies, maxLength};
 ghost use Rattle.entries.specs.Entry.{entrySize};
 ghost use Rattle.table.specs.Table.{headSize, bodies, headOk, entryOk, layoutOk, bodiesOk, tableOk, bodyOf};
 
 pub const HEAD: usize = 16;
+
+// Where the head has the bank's ABI digits, and the zeros after them.
+pub const ABI: usize = 8;
+
+pub const REST: usize = 13;
 
 // The number of bodies.
 pub fn body_count(t: &[u8]) -> usize
@@ -25,14 +31,14 @@ fn head_ok(t: &[u8]) -> bool
     if len < HEAD {
         return false;
     }
-    if 65536 < len {
+    if bounds::MAX_LENGTH < len {
         return false;
     }
     let n = body_count(t);
     if n < 1 {
         return false;
     }
-    if 16 < n {
+    if bounds::MAX_BODIES < n {
         return false;
     }
     if words::read2(t, 2) != 1 {
@@ -41,17 +47,17 @@ fn head_ok(t: &[u8]) -> bool
     if words::read4(t, 4) != len as u64 {
         return false;
     }
-    if !ranges::are_of(t, 8, 13, Class::Digits) {
+    if !ranges::are_of(t, ABI, REST, Class::Digits) {
         return false;
     }
-    if !ranges::are_zero(t, 13, 16) {
+    if !ranges::are_zero(t, REST, HEAD) {
         return false;
     }
     HEAD + entries::ENTRY * n <= len
 }
 
 fn entry_ok(t: &[u8], at: usize, p: usize) -> bool
-    requires { ⌜ (at + entrySize ≤ length (now t)) × (length (now t) ≤ 65536) ⌝ }
+    requires { ⌜ (at + entrySize ≤ length (now t)) × (length (now t) ≤ maxLength) ⌝ }
     ensures { λ r. ⌜ r ≡ entryOk (now (t .entry)) at p ⌝ }
 {
     if !entries::form_ok(t, at) {
@@ -60,11 +66,11 @@ fn entry_ok(t: &[u8], at: usize, p: usize) -> bool
     if entries::place_of(t, at) != p {
         return false;
     }
-    ranges::are_zero(t, at + 24, at + entries::ENTRY)
+    ranges::are_zero(t, at + entries::FIXED, at + entries::ENTRY)
 }
 
 fn layout_ok(t: &[u8], n: usize) -> bool
-    requires { ⌜ (n ≤ 16) × (headSize + entrySize * n ≤ length (now t)) × (length (now t) ≤ 65536) ⌝ }
+    requires { ⌜ (n ≤ maxBodies) × (headSize + entrySize * n ≤ length (now t)) × (length (now t) ≤ maxLength) ⌝ }
     ensures { λ r. ⌜ r ≡ layoutOk (now (t .entry)) headSize n (headSize + entrySize * n) ⌝ }
 {
     let mut at = HEAD;
@@ -82,7 +88,8 @@ fn layout_ok(t: &[u8], n: usize) -> bool
 }
 
 fn bodies_ok(t: &[u8], n: usize) -> bool
-    requires { ⌜ (headSize + entrySize * n ≤ length (now t)) × (length (now t) ≤ 65536) × (layoutOk (now t) headSize n (headSize + entrySize * n) ≡ true) ⌝ }
+    requires { ⌜ (headSize + entrySize * n ≤ length (now t)) × (length (now t) ≤ maxLength)
+        × (layoutOk (now t) headSize n (headSize + entrySize * n) ≡ true) ⌝ }
     ensures { λ r. ⌜ r ≡ bodiesOk (now (t .entry)) headSize n ⌝ }
 {
     let mut at = HEAD;

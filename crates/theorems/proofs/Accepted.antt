@@ -18,7 +18,7 @@ use Rattle.service.specs.Service.{orderComes, orderLeaves, outcomeBytes, allOut
 use Rattle.desk.specs.declared.FlowAnswer.{FlowAnswer}
 use Rattle.desk.specs.Desk.{Reading, refused, served, flowReads, flowAnswer, FlowPromise, flowReply, flowCode}
 use Rattle.theorems.specs.Codes.{oneOf, each, orderRefusals, orderCodes, outcomeCodes, zeroCodes}
-use Rattle.theorems.specs.Condition2.{inTurn}
+use Rattle.theorems.specs.Condition2.{codesInTurn}
 use Rattle.theorems.proofs.Given.{Coding, read}
 use Rattle.theorems.proofs.Codes.{Coded, order-coded, judged-codes}
 
@@ -36,13 +36,13 @@ judged-one (Refused code) h = go (eqb code 0) refl
 
 module _ (base n year : ℕ) where
   -- the outcome bytes have the rules' codes
-  written : (t : List ℕ) (os : List Ordinativo) (rest : List ℕ) → outcomeCodes (length os) (allOutcomes t base n year os ++ rest) ≡ inTurn t base n year os
+  written : (t : List ℕ) (os : List Ordinativo) (rest : List ℕ) → outcomeCodes (length os) (allOutcomes t base n year os ++ rest) ≡ codesInTurn t base n year os
   unfolding allOutcomes outcomeBytes orderComes
   written t [] rest = refl
   written t (o ∷ os) rest = ap (λ (cs : List ℕ). orderCode (judgeOrder n year o (recordsAt t base n)) ∷ cs) (written (orderLeaves t base n year o) os rest)
 
   -- which are numbered ones, and of which as many are 0 as orders are accepted
-  numbered : (t : List ℕ) (os : List Ordinativo) → each (oneOf orderCodes) (inTurn t base n year os) ≡ true
+  numbered : (t : List ℕ) (os : List Ordinativo) → each (oneOf orderCodes) (codesInTurn t base n year os) ≡ true
   numbered t [] = refl
   numbered t (o ∷ os) =
       let rs = recordsAt t base n in
@@ -50,7 +50,7 @@ module _ (base n year : ℕ) where
       let d = numbered (orderLeaves t base n year o) os in
       λ i. e i && d i
 
-  counted : (t : List ℕ) (os : List Ordinativo) → allAccepted t base n year os ≡ zeroCodes (inTurn t base n year os)
+  counted : (t : List ℕ) (os : List Ordinativo) → allAccepted t base n year os ≡ zeroCodes (codesInTurn t base n year os)
   unfolding allAccepted orderComes
   counted t [] = refl
   counted t (o ∷ os) =
@@ -62,7 +62,7 @@ module _ (base n year : ℕ) where
 -- THE THEOREMS, about what keeps the promise of a flow
 module _ (t f out : List ℕ) (a : FlowAnswer) (t′ out′ : List ℕ) (p : FlowPromise t f out a t′ out′) where
   pub orders-in-turn : (base n year : ℕ) (os : List Ordinativo) → flowReads t f (length out) ≡ served base n year os
-      → (flowReply a .orders ≡ length os) × (outcomeCodes (length os) out′ ≡ inTurn t base n year os)
+      → (flowReply a .orders ≡ length os) × (outcomeCodes (length os) out′ ≡ codesInTurn t base n year os)
   unfolding put
   orders-in-turn base n year os e =
       let q = rw e at p in (

@@ -20,7 +20,7 @@ use Rattle.notices.specs.Notices.{noticed, noticeBy, NoticePromise, bodyTotals,
 use Rattle.theorems.specs.Engine.{recordsOf}
 use Rattle.theorems.specs.Condition2.{Condition2}
 use Rattle.theorems.proofs.Given.{given-when}
-use Rattle.theorems.proofs.Exactly.{order-exactly, order-refused, notice-exactly, no-such-key}
+use Rattle.theorems.proofs.Exactly.{order-exactly, order-answer, notice-exactly, notice-answer, no-such-key}
 use Rattle.theorems.proofs.Accepted.{orders-in-turn, accepted-counts}
 
 -- A BODY of a valid table
@@ -52,9 +52,11 @@ condition2 = record {
   accepted = accepted-counts;
   notices = noticed-is;
   exactly = λ t ok b l year o. order-exactly t (placeOf t (entryOf b)) (slotsOf t (entryOf b)) (body-at t ok b l .valid) year o;
-  refused = λ t ok b l year o. order-refused t (placeOf t (entryOf b)) (slotsOf t (entryOf b)) (body-at t ok b l .valid) year o;
+  answer = λ t ok b l year o. order-answer t (placeOf t (entryOf b)) (slotsOf t (entryOf b)) (body-at t ok b l .valid) year o;
   notice-exactly = λ t ok code b e executing k line a t′ p.
       notice-exactly t executing code k line a t′ p (entryOf b) (placeOf t (entryOf b)) (slotsOf t (entryOf b)) (is-body t ok code b e);
+  notice-answer = λ t ok code b e executing k line a t′ p.
+      notice-answer t executing code k line a t′ p (entryOf b) (placeOf t (entryOf b)) (slotsOf t (entryOf b)) (is-body t ok code b e);
   no-such-order = λ t ok code b e executing k line a t′ p.
       no-such-key t executing code k line a t′ p (entryOf b) (placeOf t (entryOf b)) (slotsOf t (entryOf b)) (is-body t ok code b e);
   totals = λ t ok code b e a p.

@@ -1,8 +1,8 @@
 -- ACCEPTED EXACTLY WHEN NO LISTED REFUSAL APPLIES (document 01, "Answers"; what the refusals say: crates/rules/specs/Listed.antt), on a valid body:
 --   order-exactly    an order's outcome code is 0 exactly when no listed refusal applies to it
---   order-refused    and the code of a refusal is that of one that applies
+--   order-answer     it is another number exactly when the refusal of that number applies and none that applies has an earlier turn
 --   notice-exactly   a notice's code is 0 exactly when no listed refusal applies to it
---   notice-refused   and the code of a refusal is that of one that applies
+--   notice-answer    it is another number exactly when the refusal of that number applies and none that applies has an earlier turn
 --   no-such-key      "a kind other than 1 and 2, or a number 0, gets 16"
 use Prim.Native.Nat.{ℕ}
 use mathlib.Core.Path.{_≡_, refl, sym, ap, _∙_, subst}
@@ -24,8 +24,8 @@ use Rattle.rules.specs.declared.Ruling.the-variants.{Accepted, Refused}
 use Rattle.rules.specs.declared.Noticed.{Noticed}
 use Rattle.rules.specs.declared.Noticed.the-variants.{Moved, Unmoved}
 use Rattle.rules.specs.Rules.{nth, noRecord, judgeOrder, orderCode, noticeAt, judgeNotice, noticeCode}
-use Rattle.rules.specs.Listed.{Applies, NoticeApplies, unknown, closed, zeroth, past, already, notYet}
-use Rattle.rules.proofs.Listed.{refused-applies, accepted-none, unmoved-applies, moved-none}
+use Rattle.rules.specs.Listed.{Applies, turn, NoticeApplies, unknown, closed, zeroth, past, already, notYet, noticeTurn}
+use Rattle.rules.proofs.Listed.{refused-applies, applies-by, accepted-none, one-in-turn, unmoved-applies, notice-by, moved-none, one-notice-in-turn}
 use Rattle.service.proofs.Laws.{search-held}
 use Rattle.service.specs.Service.{orderComes, noticeComes, noticeStored}
 use Rattle.address.specs.declared.Addressed.the-variants.{Body}
@@ -35,7 +35,7 @@ use Rattle.notices.specs.declared.NoticeAnswer.{NoticeAnswer}
 use Rattle.notices.specs.declared.NoticeAnswer.the-variants.{Declined}
 use Rattle.notices.specs.Notices.{noticed, noticeBy, noticeTableBy, NoticePromise, noticeCodeOf}
 use Rattle.theorems.proofs.Codes.{order-coded, never-zero, noticed-code}
-use Rattle.theorems.specs.Condition2.{Exactly, None, Strange, kind, number}
+use Rattle.theorems.specs.Condition2.{Exactly, None, InTurn, Strange, kind, number}
 
 -- a record that a search found is valid
 pub found-valid : (t : List ℕ) (at n : ℕ) → bodyOk t at n ≡ true → (k : Key) (i : ℕ) → findIn (recordsAt t at n) 0 k ≡ At i → Valid (nth (recordsAt t at n) i)
@@ -57,19 +57,30 @@ module _ (t : List ℕ) (base n : ℕ) (ok : bodyOk t base n ≡ true) where
     order-exactly = (taken, λ h. go h (judgeOrder n year o records) refl)
       where
         taken : orderCode (judgeOrder n year o records) ≡ 0 → None (Applies n year o records)
-        taken z c a = let w = never-zero (judgeOrder n year o records) (order-coded n year o records) z in accepted-none n year o records (w .0) (w .1) apart (w .2) a
+        taken z c a = let w = never-zero (judgeOrder n year o records) (order-coded n year o records) z in accepted-none n year o records apart (w .2) a
 
         go : None (Applies n year o records) → (j : Ruling) → judgeOrder n year o records ≡ j → orderCode j ≡ 0
         go h (Accepted c i) e = refl
         go h (Refused code) e = absurd (h code (refused-applies n year o records code e))
 
-    pub order-refused : (orderCode (orderComes t base n year o) ≡ 0 → ⊥) → Applies n year o records (orderCode (orderComes t base n year o))
+    order-refused : (orderCode (orderComes t base n year o) ≡ 0 → ⊥) → InTurn turn (Applies n year o records) (orderCode (orderComes t base n year o))
     unfolding orderComes
     order-refused h = go (judgeOrder n year o records) refl h
       where
-        go : (j : Ruling) → judgeOrder n year o records ≡ j → (orderCode j ≡ 0 → ⊥) → Applies n year o records (orderCode j)
+        go : (j : Ruling) → judgeOrder n year o records ≡ j → (orderCode j ≡ 0 → ⊥) → InTurn turn (Applies n year o records) (orderCode j)
         go (Accepted c i) e h = absurd (h refl)
-        go (Refused code) e h = refused-applies n year o records code e
+        go (Refused code) e h = (
+          refused-applies n year o records code e,
+          λ c a. let b = applies-by n year o records apart a in let q : b .code ≡ code = cc (b .is) in omega (arith, b .soon, ap turn q),
+        )
+
+    pub order-answer : (c : ℕ) → (c ≡ 0 → ⊥) → Exactly (orderCode (orderComes t base n year o) ≡ c) (InTurn turn (Applies n year o records) c)
+    order-answer c h = (λ e. subst (InTurn turn (Applies n year o records)) e (order-refused (λ z. h (sym e ∙ z))), given)
+      where
+        given : InTurn turn (Applies n year o records) c → orderCode (orderComes t base n year o) ≡ c
+        given x =
+            let y = order-refused (λ z. order-exactly .0 z c (x .0)) in
+            one-in-turn n year o records apart (y .0) (x .0) (omega (arith, y .1 c (x .0), x .1 (orderCode (orderComes t base n year o)) (y .0)))
 
   -- A NOTICE on the body
   module _ (executing : Bool) (k : Key) (line : ℕ) where
@@ -86,17 +97,20 @@ module _ (t : List ℕ) (base n : ℕ) (ok : bodyOk t base n ≡ true) where
     comes-exactly = (λ z c a. taken (judgeNotice executing k line records) refl z a, λ h. go h (judgeNotice executing k line records) refl)
       where
         taken : (m : Noticed) → judgeNotice executing k line records ≡ m → noticeCode m ≡ 0 → {c : ℕ} → NoticeApplies executing k line records c → ⊥
-        taken (Moved i cents) e z a = moved-none executing k line records apart i cents e a
+        taken (Moved i cents) e z a = moved-none executing k line records apart e a
         taken (Unmoved c) e z a = never (unmoved-applies executing k line records c e) z
 
         go : None (NoticeApplies executing k line records) → (m : Noticed) → judgeNotice executing k line records ≡ m → noticeCode m ≡ 0
         go h (Moved i cents) e = refl
         go h (Unmoved c) e = absurd (h c (unmoved-applies executing k line records c e))
 
-    comes-refused : (m : Noticed) → noticeComes t base n executing k line ≡ m → (noticeCode m ≡ 0 → ⊥) → NoticeApplies executing k line records (noticeCode m)
+    comes-refused : (m : Noticed) → noticeComes t base n executing k line ≡ m → (noticeCode m ≡ 0 → ⊥) → InTurn noticeTurn (NoticeApplies executing k line records) (noticeCode m)
     unfolding noticeComes
     comes-refused (Moved i cents) e h = absurd (h refl)
-    comes-refused (Unmoved c) e h = unmoved-applies executing k line records c e
+    comes-refused (Unmoved code) e h = (
+      unmoved-applies executing k line records code e,
+      λ c a. let b = notice-by executing k line records apart a in let q : b .code ≡ code = cc (b .is) in omega (arith, b .soon, ap noticeTurn q),
+    )
 
 -- A NOTICE'S CALL that keeps its promise, for a code that names a body
 module _ (t : List ℕ) (executing : Bool) (code : List ℕ) (k : Key) (line : ℕ) (a : NoticeAnswer) (t′ : List ℕ) (p : NoticePromise t executing code k line a t′)
@@ -113,8 +127,16 @@ module _ (t : List ℕ) (executing : Bool) (code : List ℕ) (k : Key) (line : �
       let x = comes-exactly t base n (slots t code e .valid) executing k line in
       (λ z. x .0 (sym code-is ∙ z), λ h. code-is ∙ x .1 h)
 
-  pub notice-refused : (noticeCodeOf a ≡ 0 → ⊥) → NoticeApplies executing k line (recordsAt t base n) (noticeCodeOf a)
+  notice-refused : (noticeCodeOf a ≡ 0 → ⊥) → InTurn noticeTurn (NoticeApplies executing k line (recordsAt t base n)) (noticeCodeOf a)
   notice-refused h = rw code-is (comes-refused t base n (slots t code e .valid) executing k line (noticeComes t base n executing k line) refl (λ z. h (code-is ∙ z)))
+
+  pub notice-answer : (c : ℕ) → (c ≡ 0 → ⊥) → Exactly (noticeCodeOf a ≡ c) (InTurn noticeTurn (NoticeApplies executing k line (recordsAt t base n)) c)
+  notice-answer c h = (λ q. subst (InTurn noticeTurn (NoticeApplies executing k line (recordsAt t base n))) q (notice-refused (λ z. h (sym q ∙ z))), given)
+    where
+      given : InTurn noticeTurn (NoticeApplies executing k line (recordsAt t base n)) c → noticeCodeOf a ≡ c
+      given x =
+          let y = notice-refused (λ z. notice-exactly .0 z c (x .0)) in
+          one-notice-in-turn executing k line (recordsAt t base n) (y .0) (x .0) (omega (arith, y .1 c (x .0), x .1 (noticeCodeOf a) (y .0)))
 
   pub no-such-key : Strange k → (a ≡ Declined 16) × (t′ ≡ t)
   unfolding noticeTableBy noticeComes judgeNotice noticeAt noticeStored

@@ -4,6 +4,7 @@ use mathlib.Core.Bool.{Bool, true, false, cond, _||_, _&&_}
 use mathlib.Core.List.{List, [], _∷_, _++_}
 use lib.Dec.{eqb}
 use lib.ListN.{getD, drop}
+use Rattle.service.specs.Service.{outcomeSize}
 use Rattle.theorems.specs.Engine.{Call, flow, execute, reverse, totals}
 
 abbrev pub oneOf : List ℕ → ℕ → Bool
@@ -52,7 +53,7 @@ orderCodes = 0 ∷ orderRefusals
 -- the codes of the first k outcomes of a buffer: "Each writes 16 outcome bytes: .. 2 code"
 abbrev pub outcomeCodes : ℕ → List ℕ → List ℕ
 outcomeCodes zero out = []
-outcomeCodes (suc k) out = getD out 2 0 ∷ outcomeCodes k (drop 16 out)
+outcomeCodes (suc k) out = getD out 2 0 ∷ outcomeCodes k (drop outcomeSize out)
 
 -- "how many of them got outcome code 0"
 abbrev pub zeroCodes : List ℕ → ℕ

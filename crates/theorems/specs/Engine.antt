@@ -14,7 +14,7 @@ use Rattle.record.specs.Slot.{slotSize}
 use Rattle.record.specs.declared.Key.{Key}
 use Rattle.record.specs.declared.Record.{Record}
 use Rattle.slots.specs.Slots.{recordsAt}
-use Rattle.entries.specs.Entry.{entrySize, slotsOf, placeOf}
+use Rattle.entries.specs.Entry.{entrySize, entryFixed, slotsOf, placeOf}
 use Rattle.table.specs.Table.{headSize, bodies, abiOf, bodyOf, entryOf}
 use Rattle.flow.specs.declared.Verdict.{Verdict}
 use Rattle.flow.specs.declared.Verdict.the-variants.{MarkupBreaks, StructureBreaks, FieldBreaks, Stands}
@@ -97,20 +97,16 @@ who t₀ c = position t₀ (names t₀ c)
 abbrev pub recordsOf : ℕ → List ℕ → List Record
 recordsOf b t = recordsAt t (placeOf t (entryOf b)) (slotsOf t (entryOf b))
 
--- an entry's bytes before this one are its code, slots and place
-abbrev pub ownFrom : ℕ
-ownFrom = 24
-
--- WHAT BODY b OWNS of a table t: its entry from there on, and the bytes of its slots, where t₀ has them
+-- WHAT BODY b OWNS of a table t: its entry's bytes past the fixed ones, and the bytes of its slots, where t₀ has them
 abbrev pub owned : List ℕ → ℕ → List ℕ → List ℕ
 owned t₀ b t =
-    part t (entryOf b + ownFrom) (entryOf b + entrySize)
+    part t (entryOf b + entryFixed) (entryOf b + entrySize)
     ++ part t (placeOf t₀ (entryOf b)) (placeOf t₀ (entryOf b) + slotSize * slotsOf t₀ (entryOf b))
 
--- WHAT NO BODY OWNS: the length, the head, and each entry's bytes before `ownFrom`
+-- WHAT NO BODY OWNS: the length, the head, and each entry's fixed bytes
 unfoldable pub fixedBytes : List ℕ → ℕ → ℕ → List (List ℕ)
 fixedBytes t at zero = []
-fixedBytes t at (suc n) = part t at (at + ownFrom) ∷ fixedBytes t (at + entrySize) n
+fixedBytes t at (suc n) = part t at (at + entryFixed) ∷ fixedBytes t (at + entrySize) n
 
 pub record Rest : Type 0 where
   pub long : ℕ

@@ -10,6 +10,7 @@ use Rattle.table.specs.Table.{tableOk, abiOf, bodyOf}
 use Rattle.flow.specs.declared.Verdict.{Verdict}
 use Rattle.flow.specs.declared.Verdict.the-variants.{MarkupBreaks, StructureBreaks, FieldBreaks, Stands}
 use Rattle.flow.specs.Flow.{headerOf, flowOrders}
+use Rattle.service.specs.Service.{outcomeSize}
 use Rattle.desk.specs.Desk.{maxFlow}
 
 -- what of the flow breaks
@@ -60,7 +61,7 @@ flowRefusals t f room v =
     -- "no body has this code"
     ∷ (7, isNothing (bodyOf t (headerOf f (standsAt v) .ente)))
     -- "the outcome buffer has under 16 bytes per order"
-    ∷ (8, not (leb (16 * length (flowOrders f (standsAt v))) room))
+    ∷ (8, not (leb (outcomeSize * length (flowOrders f (standsAt v))) room))
     ∷ []
 
 -- "Checked in that order .. Otherwise the code is 0"

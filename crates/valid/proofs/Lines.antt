@@ -10,35 +10,14 @@ use lib.Dec.{eqb}
 use borrow.Author.Tests.{lt-ltb, le-ltb, eqb-true, eq-eqb, ne-eqb}
 use Rattle.scan.proofs.Laws.{both}
 use Rattle.words.specs.Numbers.{be8}
-use Rattle.record.specs.Slot.{eightAt, be8s, recordAt}
+use Rattle.record.specs.Slot.{statesOffset, amountsOffset, eightAt, be8s, recordAt}
+use Rattle.record.proofs.Back.{eight-at, be8s-at}
 use Rattle.record.specs.declared.Record.{Record}
 use Rattle.valid.specs.Valid.{lineThere, lineAbsent, lineOk, allFrom, sum, rangesOk, recordOk}
 use Rattle.valid.proofs.Valid.{ranges-bounds}
 use Rattle.valid.proofs.Laws.{and-stop, and-go, all-more, all-done, sum-more, sum-over, sum-go}
 
 -- ONE LINE, FROM ITS BYTES
-
-eight-at : (t : List ℕ) (p k : ℕ) → k < 8 → getD (eightAt t p) k 0 ≡ getD t (p + k) 0
-eight-at t p zero h = ap (λ (x : ℕ). getD t x 0) (sym (add-zero p))
-eight-at t p (suc zero) h = refl
-eight-at t p (suc (suc zero)) h = refl
-eight-at t p (suc (suc (suc zero))) h = refl
-eight-at t p (suc (suc (suc (suc zero)))) h = refl
-eight-at t p (suc (suc (suc (suc (suc zero))))) h = refl
-eight-at t p (suc (suc (suc (suc (suc (suc zero)))))) h = refl
-eight-at t p (suc (suc (suc (suc (suc (suc (suc zero))))))) h = refl
-eight-at t p (suc (suc (suc (suc (suc (suc (suc (suc k)))))))) h = absurd (omega arith)
-
-be8s-at : (t : List ℕ) (p k : ℕ) → k < 8 → getD (be8s t p) k 0 ≡ be8 t (p + 8 * k)
-be8s-at t p zero h = ap (be8 t) (sym (add-zero p))
-be8s-at t p (suc zero) h = refl
-be8s-at t p (suc (suc zero)) h = refl
-be8s-at t p (suc (suc (suc zero))) h = refl
-be8s-at t p (suc (suc (suc (suc zero)))) h = refl
-be8s-at t p (suc (suc (suc (suc (suc zero))))) h = refl
-be8s-at t p (suc (suc (suc (suc (suc (suc zero)))))) h = refl
-be8s-at t p (suc (suc (suc (suc (suc (suc (suc zero))))))) h = refl
-be8s-at t p (suc (suc (suc (suc (suc (suc (suc (suc k)))))))) h = absurd (omega arith)
 
 module _ (t : List ℕ) (at k a : ℕ) (h : k < 8) (e : a ≡ be8 t (at + 32 + 8 * k)) where
   amount-is : getD (recordAt t at .amounts) k 0 ≡ a

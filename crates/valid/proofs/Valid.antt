@@ -14,7 +14,8 @@ use Rattle.calendar.specs.Calendar.{isDate}
 use Rattle.calendar.proofs.Laws.{Ranges, date-ranges}
 use Rattle.record.specs.declared.Record.{Record}
 use Rattle.record.proofs.Back.{Sized}
-use Rattle.valid.specs.Valid.{maxCents, lineOk, allFrom, sum, rangesOk, recordOk}
+use Rattle.bounds.specs.Bounds.{maxCents}
+use Rattle.valid.specs.Valid.{lineOk, allFrom, sum, rangesOk, recordOk}
 
 pub record Bounds (r : Record) : Type 0 where
   pub kind : (1 ≤ r .kind) × (r .kind ≤ 2)
@@ -62,7 +63,7 @@ each-all f k (suc m) h =
     λ i. a i && b i
 
 -- one of the numbers is at most their sum
-one-of-sum : (a : List ℕ) (k : ℕ) → getD a k 0 ≤ sum a
+pub one-of-sum : (a : List ℕ) (k : ℕ) → getD a k 0 ≤ sum a
 unfolding sum
 one-of-sum [] k = omega arith
 one-of-sum (x ∷ a) zero = omega arith

@@ -5,12 +5,9 @@ use mathlib.Core.List.{List, [], _∷_}
 use lib.ListN.{getD}
 use lib.Dec.{eqb, leb, ltb}
 use Rattle.scan.specs.Bytes.{between}
+use Rattle.bounds.specs.Bounds.{isYear, isNumero, maxCents}
 use Rattle.calendar.specs.Calendar.{isDate}
 use Rattle.record.specs.declared.Record.{Record}
-
--- the greatest amount, of 1 to 9 digits, a point and two digits
-abbrev pub maxCents : ℕ
-maxCents = 99999999999
 
 -- a line that is there is waiting or executed; "an annulled order has every line waiting"
 unfoldable pub lineThere : Bool → ℕ → ℕ → Bool
@@ -39,8 +36,8 @@ sum (a ∷ rest) = a + sum rest
 -- "fields lie in the ranges above"
 unfoldable pub rangesOk : Record → Bool
 rangesOk r =
-    between 1 2 (r .kind) && (between 1 2 (r .state) && (between 1 8 (r .lines) && (between 2000 2099 (r .esercizio)
-    && (between 1 9999999 (r .number) && (isDate (r .date) && leb (r .total) maxCents)))))
+    between 1 2 (r .kind) && (between 1 2 (r .state) && (between 1 8 (r .lines) && (isYear (r .esercizio)
+    && (isNumero (r .number) && (isDate (r .date) && leb (r .total) maxCents)))))
 
 -- a record that is valid by itself: ranges, its eight lines, and "line amounts sum to the total"
 unfoldable pub recordOk : Record → Bool

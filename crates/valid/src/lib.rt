@@ -1,5 +1,7 @@
 // When the record in a slot is valid by itself: its ranges, its eight lines, and their sum. All is read where the bytes stand.
 use calendar::Date;
+use record::both;
+use record::wide;
 ghost use mathlib.Core.Path.{_≡_};
 ghost use mathlib.Core.Bool.{_&&_, cond};
 ghost use Prim.Native.Nat.{_+_, _-_, _*_, _≤_, _<_};
@@ -7,20 +9,8 @@ ghost use lib.ListN.{length, getD, drop};
 ghost use lib.Dec.{eqb};
 ghost use Rattle.words.specs.Numbers.{be8};
 ghost use Rattle.calendar.specs.Calendar.{isDate};
-ghost use Rattle.record.specs.Slot.{slotSize, dateAt, recordAt};
+ghost use Rattle.record.specs.Slot.{slotSize, statesOffset, amountsOffset, dateAt, recordAt};
 ghost use Rattle.valid.specs.Valid.{lineThere, lineAbsent, lineOk, allFrom, sum, rangesOk, recordOk};
-
-fn wide(x: u8) -> u64
-    ensures { λ r. ⌜ (r ≡ x) × (r < 256) ⌝ }
-{
-    x as u64
-}
-
-fn both(a: bool, b: bool) -> bool
-    ensures { λ r. ⌜ r ≡ (a && b) ⌝ }
-{
-    if a { b } else { false }
-}
 
 fn top_state(annulled: bool) -> u8
     ensures { λ r. ⌜ r ≡ cond annulled 1 2 ⌝ }
@@ -33,7 +23,7 @@ fn line_there(annulled: bool, state: u8, amount: u64) -> bool
 {
     both(
         both(1 <= state, state <= top_state(annulled)),
-        amount <= 99999999999,
+        amount <= bounds::MAX_CENTS,
     )
 }
 
@@ -65,10 +55,13 @@ fn ranges_ok(t: &[u8], at: usize) -> bool
             both(
                 both(1 <= lines, lines <= 8),
                 both(
-                    both(2000 <= esercizio, esercizio <= 2099),
                     both(
-                        both(1 <= number, number <= 9999999),
-                        both(date_ok(t, at + 12), total <= 99999999999),
+                        bounds::FIRST_YEAR <= esercizio,
+                        esercizio <= bounds::LAST_YEAR,
+                    ),
+                    both(
+                        both(1 <= number, number <= bounds::MAX_NUMERO),
+                        both(date_ok(t, at + 12), total <= bounds::MAX_CENTS),
                     ),
                 ),
             ),
@@ -79,12 +72,12 @@ fn ranges_ok(t: &[u8], at: usize) -> bool
 // Whether a line holds nothing. The amount is read only after the state, so that each test is one compare where it stands.
 fn line_absent(t: &[u8], at: usize, k: usize) -> bool
     requires { ⌜ (at + slotSize ≤ length (now t)) × (k < 8) ⌝ }
-    ensures { λ r. ⌜ r ≡ lineAbsent (getD (now (t .entry)) (at + 24 + k) 0) (be8 (now (t .entry)) (at + 32 + 8 * k)) ⌝ }
+    ensures { λ r. ⌜ r ≡ lineAbsent (getD (now (t .entry)) (at + statesOffset + k) 0) (be8 (now (t .entry)) (at + amountsOffset + 8 * k)) ⌝ }
 {
-    if t[at + 24 + k] != 0 {
+    if t[at + record::STATES + k] != 0 {
         return false;
     }
-    words::read8(t, at + 32 + 8 * k) == 0
+    words::read8(t, at + record::AMOUNTS + 8 * k) == 0
 }
 
 // Whether the lines past the record's number of lines all hold nothing.
@@ -104,15 +97,17 @@ fn lines_absent(t: &[u8], at: usize, lines: usize) -> bool
 
 // Whether the lines that are there are right and sum to the total, with no sum that could wrap; the others hold nothing.
 fn lines_there(t: &[u8], at: usize, lines: usize) -> bool
-    requires { ⌜ (at + slotSize ≤ length (now t)) × (lines ≤ 8) × (lines ≡ recordAt (now t) at .lines) × (sum (drop lines (recordAt (now t) at .amounts)) ≡ 0) ⌝ }
-    ensures { λ b. ⌜ b ≡ (allFrom (lineOk (recordAt (now (t .entry)) at)) 0 lines && eqb (sum (recordAt (now (t .entry)) at .amounts)) (recordAt (now (t .entry)) at .total)) ⌝ }
+    requires { ⌜ (at + slotSize ≤ length (now t)) × (lines ≤ 8) × (lines ≡ recordAt (now t) at .lines)
+        × (sum (drop lines (recordAt (now t) at .amounts)) ≡ 0) ⌝ }
+    ensures { λ b. ⌜ b ≡ (allFrom (lineOk (recordAt (now (t .entry)) at)) 0 lines
+        && eqb (sum (recordAt (now (t .entry)) at .amounts)) (recordAt (now (t .entry)) at .total)) ⌝ }
 {
     let annulled = t[at + 1] == 2;
     let mut rest = words::read8(t, at + 16);
     let mut k = 0;
     while k < lines {
-        let amount = words::read8(t, at + 32 + 8 * k);
-        if !line_there(annulled, t[at + 24 + k], amount) {
+        let amount = words::read8(t, at + record::AMOUNTS + 8 * k);
+        if !line_there(annulled, t[at + record::STATES + k], amount) {
             return false;
         }
         if rest < amount {

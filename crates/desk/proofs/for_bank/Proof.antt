@@ -1,34 +1,44 @@
+use mathlib.Core.Path.{_∙_}
 use native.Mathlib.Omega.{arith}
+use borrow.Author.Needs.{needs}
 use borrow.Author.Tests.{not-true, not-false}
 use Rattle.table.proofs.Laws.{head, table}
 use Rattle.flow.proofs.Laws.{flow-stood}
 use Rattle.serving.specs.Served.{ordersFrom}
+use Rattle.header.proofs.Laws.{abi-part, abi-within}
 use Rattle.desk.specs.Steps.{headerFrom}
-use Rattle.desk.proofs.Laws.{bank-other, bank-own, bank-from, bank-rooted}
+use Rattle.desk.proofs.Laws.{bank-other, bank-own, bank-from, bank-rooted, bank-filled}
 use borrow.Author.Needs.{needs}
 use Rattle.desk.proofs.for_bank.Statement.{statement}
 use Rattle.desk.proofs.for_bank.Tie as tie
+use Rattle.desk.proofs.for_bank.Reads as reads
+use Rattle.desk.proofs.for_bank.Lts as lts
+use Rattle.desk.proofs.for_body.Reads as for-body-reads
+use Rattle.header.proofs.header_from.Reads as header-from-reads
+use Rattle.header.proofs.part_at.Reads as part-at-reads
+use Rattle.scan.proofs.same.Reads as same-reads
+use Rattle.scan.proofs.white_end.Reads as white-end-reads
 
 white-end-requires : tie.Need-white-end-requires
 white-end-requires c κs = flow-stood (c .before .before .before .before .args .f .now) (c .before .before .before .before .args .at) (c .before .before .before .before .pre .1) .within
 
-field-text-requires : tie.Need-field-text-requires
-field-text-requires c κs =
-    let a = c .before .before .before .before .before .args in
-    let r = bank-rooted (a .f .now) (a .at) (c .white-end .result) (c .white-end .ensures) (a .past .now) (c .before .before .before .before .before .pre .1) (c .before .before .before .before .before .pre .2) in
-    (r .within, c .before .before .before .before .before .pre .2)
+header-from-requires : tie.Need-header-from-requires
+header-from-requires c κs = (bank-filled (c .before .before .before .before .before .args .f .now) (c .before .before .before .before .before .args .at) (c .white-end .result) (c .white-end .ensures) (c .before .before .before .before .before .pre .1), c .before .before .before .before .before .pre .2)
+
+part-at-requires : tie.Need-part-at-requires
+part-at-requires c κs = abi-within (c .before .before .before .before .before .before .before .args .f .now) (c .before .before .white-end .result) (c .before .header-from .result) (c .before .header-from .ensures)
 
 sub-same : tie.Need-sub-same
 sub-same c = search needs
 
 part-same-start : tie.Need-part-same-start
 part-same-start c =
-    let l = head (c .before .before .before .before .before .before .before .args .t .now) (table (c .before .before .before .before .before .before .before .args .t .now) (c .before .before .before .before .before .before .before .pre .0) .head-ok) .long in
+    let l = head (c .before .before .before .before .before .before .before .before .before .args .t .now) (table (c .before .before .before .before .before .before .before .before .before .args .t .now) (c .before .before .before .before .before .before .before .before .before .pre .0) .head-ok) .long in
     omega arith
 
 part-same-end : tie.Need-part-same-end
 part-same-end c =
-    let l = head (c .before .before .before .before .before .before .before .args .t .now) (table (c .before .before .before .before .before .before .before .args .t .now) (c .before .before .before .before .before .before .before .pre .0) .head-ok) .long in
+    let l = head (c .before .before .before .before .before .before .before .before .before .args .t .now) (table (c .before .before .before .before .before .before .before .before .before .args .t .now) (c .before .before .before .before .before .before .before .before .before .pre .0) .head-ok) .long in
     omega arith
 
 same-requires : tie.Need-same-requires
@@ -39,14 +49,15 @@ same-length c = search needs
 
 returns : tie.Need-returns
 returns c =
-    let a = c .before .before .before .before .before .before .before .before .before .before .args in
-    bank-from (a .f .now) (a .at) (c .before .before .before .before .before .white-end .result) (c .before .before .before .before .before .white-end .ensures) (a .t .now) (a .out .now) (bank-other (a .t .now) (a .out .now) (headerFrom (a .f .now) (c .before .before .before .before .before .white-end .result)) (ordersFrom (a .f .now) (c .before .before .before .before .before .white-end .result)) (c .before .before .before .before .field-text .ensures) (c .before .same .ensures) (not-true _ (c .if1 .taken)))
+    let a = c .before .before .before .before .before .before .before .before .before .before .before .before .args in
+    let i = c .before .before .before .before .before .before .before .white-end .result in
+    let c0 = c .before .before .before .before .part-at .ensures ∙ abi-part (a .f .now) i (c .before .before .before .before .before .before .header-from .result) (c .before .before .before .before .before .before .header-from .ensures) in
+    bank-from (a .f .now) (a .at) i (c .before .before .before .before .before .before .before .white-end .ensures) (a .t .now) (a .out .now) (bank-other (a .t .now) (a .out .now) (headerFrom (a .f .now) i) (ordersFrom (a .f .now) i) c0 (c .before .same .ensures) (not-true _ (c .if1 .taken)))
 
 for-body-requires : tie.Need-for-body-requires
 for-body-requires c κs =
-    let a = c .before .before .before .before .before .before .before .before .before .before .before .before .args in
-    let r = bank-rooted (a .f .now) (a .at) (c .before .before .before .before .before .before .before .white-end .result) (c .before .before .before .before .before .before .before .white-end .ensures) (a .past .now) (c .before .before .before .before .before .before .before .before .before .before .before .before .pre .1) (c .before .before .before .before .before .before .before .before .before .before .before .before .pre .2) in
-    (c .before .before .before .before .before .before .before .before .before .before .before .before .pre .0, r, c .before .before .before .before .before .before .before .before .before .before .before .before .pre .3)
+    let r = bank-rooted (c .before .before .before .before .before .before .before .before .before .before .before .before .before .before .args .f .now) (c .before .before .before .before .before .before .before .before .before .before .before .before .before .before .args .at) (c .before .before .before .before .before .before .before .before .before .white-end .result) (c .before .before .before .before .before .before .before .before .before .white-end .ensures) (c .before .before .before .before .before .before .before .before .before .before .before .before .before .before .args .past .now) (c .before .before .before .before .before .before .before .before .before .before .before .before .before .before .pre .1) (c .before .before .before .before .before .before .before .before .before .before .before .before .before .before .pre .2) in
+    (c .before .before .before .before .before .before .before .before .before .before .before .before .before .before .pre .0, r, c .before .before .before .before .before .before .before .before .before .before .before .before .before .before .pre .3, c .before .before .before .before .before .before .before .before .header-from .ensures)
 
 same-length-2 : tie.Need-same-length-2
 same-length-2 c = search needs
@@ -56,15 +67,18 @@ same-length-3 c = search needs
 
 returns-2 : tie.Need-returns-2
 returns-2 c =
-    let a = c .before .before .before .before .before .before .before .before .before .before .before .before .before .before .before .before .before .args in
-    bank-from (a .f .now) (a .at) (c .before .before .before .before .before .before .before .before .before .before .before .before .white-end .result) (c .before .before .before .before .before .before .before .before .before .before .before .before .white-end .ensures) (a .t .now) (a .out .now) (bank-own (a .t .now) (a .out .now) (headerFrom (a .f .now) (c .before .before .before .before .before .before .before .before .before .before .before .before .white-end .result)) (ordersFrom (a .f .now) (c .before .before .before .before .before .before .before .before .before .before .before .before .white-end .result)) (c .before .before .before .before .before .before .before .before .before .before .before .field-text .ensures) (c .before .before .before .before .before .before .before .before .same .ensures) (not-false _ (c .before .before .before .before .before .before .before .if1 .left)) (c .before .before .before .before .for-body .ensures))
+    let a = c .before .before .before .before .before .before .before .before .before .before .before .before .before .before .before .before .before .before .before .args in
+    let i = c .before .before .before .before .before .before .before .before .before .before .before .before .before .before .white-end .result in
+    let c0 = c .before .before .before .before .before .before .before .before .before .before .before .part-at .ensures ∙ abi-part (a .f .now) i (c .before .before .before .before .before .before .before .before .before .before .before .before .before .header-from .result) (c .before .before .before .before .before .before .before .before .before .before .before .before .before .header-from .ensures) in
+    bank-from (a .f .now) (a .at) i (c .before .before .before .before .before .before .before .before .before .before .before .before .before .before .white-end .ensures) (a .t .now) (a .out .now) (bank-own (a .t .now) (a .out .now) (headerFrom (a .f .now) i) (ordersFrom (a .f .now) i) c0 (c .before .before .before .before .before .before .before .before .same .ensures) (not-false _ (c .before .before .before .before .before .before .before .if1 .left)) (c .before .before .before .before .for-body .ensures))
 
 pub for-bank-spec : {M : Type 1} → statement M
 for-bank-spec =
     tie.close
     (tie.spec
     white-end-requires
-    field-text-requires
+    header-from-requires
+    part-at-requires
     sub-same
     part-same-start
     part-same-end

@@ -1,19 +1,15 @@
 use mathlib.Core.Path.{refl, sym, _∙_}
 use Rattle.serving.specs.Served.{ordersFrom}
+use Rattle.header.proofs.Laws.{ente-part, ente-within, year-part}
 use Rattle.address.proofs.Laws.{named-slots}
 use Rattle.desk.specs.Steps.{headerFrom}
 use Rattle.desk.proofs.Laws.{body-read}
 use borrow.Author.Needs.{needs}
 use Rattle.desk.proofs.for_body.Statement.{statement}
 use Rattle.desk.proofs.for_body.Tie as tie
-use Rattle.desk.proofs.for_body.Reads as reads
-use Rattle.desk.proofs.for_body.Lts as lts
-use Rattle.address.proofs.body_named.Reads as body-named-reads
-use Rattle.desk.proofs.with_room.Reads as with-room-reads
-use Rattle.orders.proofs.field_text.Reads as field-text-reads
 
-field-text-requires : tie.Need-field-text-requires
-field-text-requires c κs = search needs
+part-at-requires : tie.Need-part-at-requires
+part-at-requires c κs = ente-within (c .before .before .before .before .before .args .f .now) (c .before .before .before .before .before .args .from) (c .before .before .before .before .before .args .h) (c .before .before .before .before .before .pre .3)
 
 body-named-requires : tie.Need-body-named-requires
 body-named-requires c κs = search needs
@@ -23,8 +19,8 @@ enum-known-base c = search needs
 
 with-room-requires : tie.Need-with-room-requires
 with-room-requires c κs =
-    let s = named-slots (c .before .before .before .before .before .before .before .before .before .before .before .before .args .t .now) _ (c .before .before .before .before .before .before .before .before .before .before .before .before .pre .0) (sym (c .before .before .before .before .before .body-named .ensures) ∙ c .before .before .before .base .given .1) in
-    (s .inside, c .before .before .before .before .before .before .before .before .before .before .before .before .pre .1, c .before .before .before .before .before .before .before .before .before .before .before .before .pre .2)
+    let s = named-slots (c .before .before .before .before .before .before .before .before .before .before .before .before .before .args .t .now) _ (c .before .before .before .before .before .before .before .before .before .before .before .before .before .pre .0) (sym (c .before .before .before .before .before .body-named .ensures) ∙ c .before .before .before .base .given .1) in
+    (s .inside, c .before .before .before .before .before .before .before .before .before .before .before .before .before .pre .1, c .before .before .before .before .before .before .before .before .before .before .before .before .before .pre .2, year-part (c .before .before .before .before .before .before .before .before .before .before .before .before .before .args .f .now) (c .before .before .before .before .before .before .before .before .before .before .before .before .before .args .from) (c .before .before .before .before .before .before .before .before .before .before .before .before .before .args .h) (c .before .before .before .before .before .before .before .before .before .before .before .before .before .pre .3))
 
 enum-told : tie.Need-enum-told
 enum-told c = search needs
@@ -39,31 +35,25 @@ same-length-2 : tie.Need-same-length-2
 same-length-2 c = search needs
 
 returns : tie.Need-returns
-returns c =
-    let a = c .before .before .before .before .before .before .before .before .before .before .before .before .before .before .before .before .before .args in
-    body-read (a .t .now) (a .out .now) (headerFrom (a .f .now) (a .from)) (ordersFrom (a .f .now) (a .from)) (c .before .before .before .before .before .before .before .before .before .before .before .before .field-text .ensures) (c .before .before .before .before .before .before .before .before .before .before .body-named .ensures) (c .before .before .before .before .before .before .before .before .base .given .1) (c .before .before .before .before .with-room .ensures)
+returns c = body-read (c .before .before .before .before .before .before .before .before .before .before .before .before .before .before .before .before .before .before .args .t .now) (c .before .before .before .before .before .before .before .before .before .before .before .before .before .before .before .before .before .before .args .out .now) (headerFrom (c .before .before .before .before .before .before .before .before .before .before .before .before .before .before .before .before .before .before .args .f .now) (c .before .before .before .before .before .before .before .before .before .before .before .before .before .before .before .before .before .before .args .from)) (ordersFrom (c .before .before .before .before .before .before .before .before .before .before .before .before .before .before .before .before .before .before .args .f .now) (c .before .before .before .before .before .before .before .before .before .before .before .before .before .before .before .before .before .before .args .from)) (c .before .before .before .before .before .before .before .before .before .before .before .before .part-at .ensures ∙ ente-part (c .before .before .before .before .before .before .before .before .before .before .before .before .before .before .before .before .before .before .args .f .now) (c .before .before .before .before .before .before .before .before .before .before .before .before .before .before .before .before .before .before .args .from) (c .before .before .before .before .before .before .before .before .before .before .before .before .before .before .before .before .before .before .args .h) (c .before .before .before .before .before .before .before .before .before .before .before .before .before .before .before .before .before .before .pre .3)) (c .before .before .before .before .before .before .before .before .before .before .body-named .ensures) (c .before .before .before .before .before .before .before .before .base .given .1) (c .before .before .before .before .with-room .ensures)
 
 same-length-3 : tie.Need-same-length-3
 same-length-3 c = search needs
 
 returns-2 : tie.Need-returns-2
-returns-2 c =
-    let a = c .before .before .before .before .before .before .before .before .before .args in
-    body-read (a .t .now) (a .out .now) (headerFrom (a .f .now) (a .from)) (ordersFrom (a .f .now) (a .from)) (c .before .before .before .before .field-text .ensures) (c .before .before .body-named .ensures) (c .enum-told .given .1) (refl, refl, refl)
+returns-2 c = body-read (c .before .before .before .before .before .before .before .before .before .before .args .t .now) (c .before .before .before .before .before .before .before .before .before .before .args .out .now) (headerFrom (c .before .before .before .before .before .before .before .before .before .before .args .f .now) (c .before .before .before .before .before .before .before .before .before .before .args .from)) (ordersFrom (c .before .before .before .before .before .before .before .before .before .before .args .f .now) (c .before .before .before .before .before .before .before .before .before .before .args .from)) (c .before .before .before .before .part-at .ensures ∙ ente-part (c .before .before .before .before .before .before .before .before .before .before .args .f .now) (c .before .before .before .before .before .before .before .before .before .before .args .from) (c .before .before .before .before .before .before .before .before .before .before .args .h) (c .before .before .before .before .before .before .before .before .before .before .pre .3)) (c .before .before .body-named .ensures) (c .enum-told .given .1) (refl, refl, refl)
 
 same-length-4 : tie.Need-same-length-4
 same-length-4 c = search needs
 
 returns-3 : tie.Need-returns-3
-returns-3 c =
-    let a = c .before .before .before .before .before .before .before .before .before .args in
-    body-read (a .t .now) (a .out .now) (headerFrom (a .f .now) (a .from)) (ordersFrom (a .f .now) (a .from)) (c .before .before .before .before .field-text .ensures) (c .before .before .body-named .ensures) (c .enum-told2 .given .1) (refl, refl, refl)
+returns-3 c = body-read (c .before .before .before .before .before .before .before .before .before .before .args .t .now) (c .before .before .before .before .before .before .before .before .before .before .args .out .now) (headerFrom (c .before .before .before .before .before .before .before .before .before .before .args .f .now) (c .before .before .before .before .before .before .before .before .before .before .args .from)) (ordersFrom (c .before .before .before .before .before .before .before .before .before .before .args .f .now) (c .before .before .before .before .before .before .before .before .before .before .args .from)) (c .before .before .before .before .part-at .ensures ∙ ente-part (c .before .before .before .before .before .before .before .before .before .before .args .f .now) (c .before .before .before .before .before .before .before .before .before .before .args .from) (c .before .before .before .before .before .before .before .before .before .before .args .h) (c .before .before .before .before .before .before .before .before .before .before .pre .3)) (c .before .before .body-named .ensures) (c .enum-told2 .given .1) (refl, refl, refl)
 
 pub for-body-spec : {M : Type 1} → statement M
 for-body-spec =
     tie.close
     (tie.spec
-    field-text-requires
+    part-at-requires
     body-named-requires
     enum-known-base
     with-room-requires

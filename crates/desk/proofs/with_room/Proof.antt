@@ -6,35 +6,27 @@ use Rattle.desk.proofs.Laws.{room-none, room-served}
 use borrow.Author.Needs.{needs}
 use Rattle.desk.proofs.with_room.Statement.{statement}
 use Rattle.desk.proofs.with_room.Tie as tie
-use Rattle.desk.proofs.with_room.Reads as reads
-use Rattle.desk.proofs.with_room.Lts as lts
-use Rattle.desk.proofs.year_of.Reads as year-of-reads
-use Rattle.orders.proofs.count_orders.Reads as count-orders-reads
-use Rattle.serving.proofs.serve_all.Reads as serve-all-reads
 
 count-orders-requires : tie.Need-count-orders-requires
 count-orders-requires c κs = search needs
 
 mul-if1 : tie.Need-mul-if1
 mul-if1 c =
-    let n = orders-few (c .before .before .before .before .before .args .f .now) (c .before .before .before .before .before .args .from) (c .before .before .before .before .before .pre .1 .within) in
     let e = orders-count (c .before .before .before .before .before .args .f .now) (c .before .before .before .before .before .args .from) (c .count-orders .ensures) in
+    let n = orders-few (c .before .before .before .before .before .args .f .now) (c .before .before .before .before .before .args .from) (c .before .before .before .before .before .pre .1 .within) in
     let l = c .before .before .before .before .before .pre .2 in
     omega arith
 
 returns : tie.Need-returns
 returns c =
-    let a = c .before .before .before .before .before .before .args in
-    room-none (a .t .now) (a .out .now) (headerFrom (a .f .now) (a .from)) (ordersFrom (a .f .now) (a .from)) (a .base) (a .n) (orders-count (a .f .now) (a .from) (c .before .count-orders .ensures)) (c .if1 .taken)
-
-year-of-requires : tie.Need-year-of-requires
-year-of-requires c κs = search needs
+    let e = orders-count (c .before .before .before .before .before .before .args .f .now) (c .before .before .before .before .before .before .args .from) (c .before .count-orders .ensures) in
+    room-none (c .before .before .before .before .before .before .args .t .now) (c .before .before .before .before .before .before .args .out .now) (headerFrom (c .before .before .before .before .before .before .args .f .now) (c .before .before .before .before .before .before .args .from)) (ordersFrom (c .before .before .before .before .before .before .args .f .now) (c .before .before .before .before .before .before .args .from)) (c .before .before .before .before .before .before .args .base) (c .before .before .before .before .before .before .args .n) e (c .if1 .taken)
 
 serve-all-requires : tie.Need-serve-all-requires
 serve-all-requires c κs =
-    let e = orders-count (c .before .before .before .before .before .before .before .before .before .args .f .now) (c .before .before .before .before .before .before .before .before .before .args .from) (c .before .before .before .before .count-orders .ensures) in
-    let g = c .before .before .before .if1 .left in
-    (c .before .before .before .before .before .before .before .before .before .pre .0, c .before .before .before .before .before .before .before .before .before .pre .1, omega arith)
+    let e = orders-count (c .before .before .before .before .before .before .before .before .args .f .now) (c .before .before .before .before .before .before .before .before .args .from) (c .before .before .before .count-orders .ensures) in
+    let g = c .before .before .if1 .left in
+    (c .before .before .before .before .before .before .before .before .pre .0, c .before .before .before .before .before .before .before .before .pre .1, omega arith)
 
 same-length : tie.Need-same-length
 same-length c = search needs
@@ -44,8 +36,8 @@ same-length-2 c = search needs
 
 returns-2 : tie.Need-returns-2
 returns-2 c =
-    let a = c .before .before .before .before .before .before .before .before .before .before .before .before .before .before .args in
-    room-served (a .t .now) (a .out .now) (headerFrom (a .f .now) (a .from)) (ordersFrom (a .f .now) (a .from)) (a .base) (a .n) (orders-count (a .f .now) (a .from) (c .before .before .before .before .before .before .before .before .before .count-orders .ensures)) (c .before .before .before .before .before .before .before .before .if1 .left) (c .before .before .before .before .before .before .before .year-of .ensures) (c .before .before .before .before .serve-all .ensures .0) (c .before .before .before .before .serve-all .ensures .1) (c .before .before .before .before .serve-all .ensures .2)
+    let e = orders-count (c .before .before .before .before .before .before .before .before .before .before .before .before .before .args .f .now) (c .before .before .before .before .before .before .before .before .before .before .before .before .before .args .from) (c .before .before .before .before .before .before .before .before .count-orders .ensures) in
+    room-served (c .before .before .before .before .before .before .before .before .before .before .before .before .before .args .t .now) (c .before .before .before .before .before .before .before .before .before .before .before .before .before .args .out .now) (headerFrom (c .before .before .before .before .before .before .before .before .before .before .before .before .before .args .f .now) (c .before .before .before .before .before .before .before .before .before .before .before .before .before .args .from)) (ordersFrom (c .before .before .before .before .before .before .before .before .before .before .before .before .before .args .f .now) (c .before .before .before .before .before .before .before .before .before .before .before .before .before .args .from)) (c .before .before .before .before .before .before .before .before .before .before .before .before .before .args .base) (c .before .before .before .before .before .before .before .before .before .before .before .before .before .args .n) e (c .before .before .before .before .before .before .before .if1 .left) (c .before .before .before .before .before .before .before .before .before .before .before .before .before .pre .3) (c .before .before .before .before .serve-all .ensures .0) (c .before .before .before .before .serve-all .ensures .1) (c .before .before .before .before .serve-all .ensures .2)
 
 pub with-room-spec : {M : Type 1} → statement M
 with-room-spec =
@@ -54,7 +46,6 @@ with-room-spec =
     count-orders-requires
     mul-if1
     returns
-    year-of-requires
     serve-all-requires
     same-length
     same-length-2

@@ -1,4 +1,5 @@
 use mathlib.Core.Path.{ap, _∙_}
+use Rattle.bounds.specs.Bounds.{isYear}
 use Rattle.digits.specs.Digits.{within, esercizio}
 use borrow.Author.Needs.{needs}
 use Rattle.digits.proofs.esercizio_of.Statement.{statement}
@@ -12,7 +13,7 @@ number-within-requires c κs = search needs
 
 returns : tie.Need-returns
 unfolding esercizio
-returns c = c .number-within .ensures ∙ ap (within 2000 2099) (c .before .digits-of .ensures)
+returns c = c .number-within .ensures ∙ ap (within isYear) (c .before .digits-of .ensures)
 
 pub esercizio-of-spec : {M : Type 1} → statement M
 esercizio-of-spec = tie.close (tie.spec digits-of-requires number-within-requires returns)

@@ -1,4 +1,5 @@
 use mathlib.Core.Path.{ap, _∙_}
+use Rattle.bounds.specs.Bounds.{isNumero}
 use Rattle.digits.specs.Digits.{within, numero}
 use borrow.Author.Needs.{needs}
 use Rattle.digits.proofs.numero_of.Statement.{statement}
@@ -12,7 +13,7 @@ number-within-requires c κs = search needs
 
 returns : tie.Need-returns
 unfolding numero
-returns c = c .number-within .ensures ∙ ap (within 1 9999999) (c .before .digits-of .ensures)
+returns c = c .number-within .ensures ∙ ap (within isNumero) (c .before .digits-of .ensures)
 
 pub numero-of-spec : {M : Type 1} → statement M
 numero-of-spec = tie.close (tie.spec digits-of-requires number-within-requires returns)

@@ -1,4 +1,4 @@
-use Prim.Native.Nat.{_≤_, _-_, _+_, _*_}
+use Prim.Native.Nat.{ℕ, suc, _≤_, _<_, _-_, _+_, _*_}
 use mathlib.Core.Path.{_≡_, refl, sym, _∙_}
 use mathlib.Core.Bool.{true}
 use native.Mathlib.Nat.{sub-zero}
@@ -11,6 +11,9 @@ use Rattle.entries.proofs.find_code.Reads as reads
 use Rattle.entries.proofs.find_code.Lts as lts
 use Rattle.entries.proofs.code_is.Reads as code-is-reads
 
+more : (n i : ℕ) → i < n → n - i ≡ suc (n - (i + 1))
+more n i h = omega arith
+
 abbrev Inv-loop : tie.InvT-loop
 Inv-loop t first size n code at₀ i₀ at i = (i ≤ n) × (at + size * (n - i) ≡ first + size * n) × (formsOk size t at (n - i) ≡ true) × (findCode (codesFrom size t first n) 0 code ≡ findCode (codesFrom size t at (n - i)) i code)
 
@@ -22,33 +25,23 @@ loop-holds c = (omega arith, rw sub-zero refl, rw sub-zero (c .before .before .p
 
 code-is-requires : tie.Need-code-is-requires Inv-loop μ-loop
 code-is-requires c κs =
+    let a = c .before .before .before .before .args in
     let l = c .before .loop in
-    let t = c .before .before .before .before .args .t .now in
-    let s = c .before .before .before .before .args .size in
-    let k = c .before .before .before .before .args .n - l .i in
-    let m = c .before .before .before .before .args .n - (l .i + 1) in
-    let w = times s k m (omega arith) in
-    let f = form t (l .at) (forms-split s t (l .at) k m (omega arith) (l .inv .2) .0) in
-    (omega arith, f .short)
+    let e = more (a .n) (l .i) (omega arith) in
+    let w = times (a .size) _ _ e in
+    (omega arith, form (a .t .now) (l .at) (forms-split (a .size) (a .t .now) (l .at) _ _ e (l .inv .2) .0) .short)
 
 returns : tie.Need-returns Inv-loop μ-loop
 returns c =
+    let a = c .before .before .before .before .before .before .args in
     let l = c .before .before .before .loop in
-    let t = c .before .before .before .before .before .before .args .t .now in
-    let s = c .before .before .before .before .before .before .args .size in
-    let k = c .before .before .before .before .before .before .args .n - l .i in
-    let m = c .before .before .before .before .before .before .args .n - (l .i + 1) in
-    let w = times s k m (omega arith) in
-    sym (l .inv .3 ∙ find-hit s t (l .at) k m (omega arith) (l .i) (c .before .before .before .before .before .before .args .code .now) (sym (c .before .code-is .ensures) ∙ c .if1 .taken))
+    sym (l .inv .3 ∙ find-hit (a .size) (a .t .now) (l .at) _ _ (more (a .n) (l .i) (omega arith)) (l .i) (a .code .now) (sym (c .before .code-is .ensures) ∙ c .if1 .taken))
 
 add-at : tie.Need-add-at Inv-loop μ-loop
 add-at c =
+    let a = c .before .before .before .before .before .before .args in
     let l = c .before .before .before .loop in
-    let t = c .before .before .before .before .before .before .args .t .now in
-    let s = c .before .before .before .before .before .before .args .size in
-    let k = c .before .before .before .before .before .before .args .n - l .i in
-    let m = c .before .before .before .before .before .before .args .n - (l .i + 1) in
-    let w = times s k m (omega arith) in
+    let w = times (a .size) _ _ (more (a .n) (l .i) (omega arith)) in
     omega arith
 
 add-i : tie.Need-add-i Inv-loop μ-loop
@@ -59,13 +52,11 @@ loop-less c = omega arith
 
 loop-again : tie.Need-loop-again Inv-loop μ-loop
 loop-again c =
+    let a = c .before .before .before .before .before .before .args in
     let l = c .before .before .before .loop in
-    let t = c .before .before .before .before .before .before .args .t .now in
-    let s = c .before .before .before .before .before .before .args .size in
-    let k = c .before .before .before .before .before .before .args .n - l .i in
-    let m = c .before .before .before .before .before .before .args .n - (l .i + 1) in
-    let w = times s k m (omega arith) in
-    (omega arith, omega arith, forms-split s t (l .at) k m (omega arith) (l .inv .2) .1, l .inv .3 ∙ find-on s t (l .at) k m (omega arith) (l .i) (c .before .before .before .before .before .before .args .code .now) (sym (c .before .code-is .ensures) ∙ c .if1 .left))
+    let e = more (a .n) (l .i) (omega arith) in
+    let w = times (a .size) _ _ e in
+    (omega arith, omega arith, forms-split (a .size) (a .t .now) (l .at) _ _ e (l .inv .2) .1, l .inv .3 ∙ find-on (a .size) (a .t .now) (l .at) _ _ e (l .i) (a .code .now) (sym (c .before .code-is .ensures) ∙ c .if1 .left))
 
 returns-2 : tie.Need-returns-2 Inv-loop μ-loop
 returns-2 c =

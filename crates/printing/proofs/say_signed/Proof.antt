@@ -12,14 +12,14 @@ say-requires c κs = search needs
 magnitude-requires : tie.Need-magnitude-requires
 magnitude-requires c κs = search needs
 
+print-decimal-requires : tie.Need-print-decimal-requires
+print-decimal-requires c κs = search needs
+
+cast-say-number : tie.Need-cast-say-number
+cast-say-number c = plain-cast (c .before .args .n) (c .if1 .left) (c .before .fits .n)
+
 say-number-requires : tie.Need-say-number-requires
 say-number-requires c κs = search needs
-
-cast-say-next : tie.Need-cast-say-next
-cast-say-next c = plain-cast (c .before .args .n) (c .if1 .left) (c .before .fits .n)
-
-say-next-requires : tie.Need-say-next-requires
-say-next-requires c κs = search needs
 
 returns : tie.Need-returns
 returns c = search needs
@@ -37,9 +37,9 @@ say-signed-spec =
     slice-aggregate-say
     say-requires
     magnitude-requires
+    print-decimal-requires
+    cast-say-number
     say-number-requires
-    cast-say-next
-    say-next-requires
     returns
     returns-2
     returns-3)

@@ -3,7 +3,7 @@ use Prim.Native.Nat.{ℕ}
 use native.Mathlib.Omega.{arith}
 use borrow.Author.Tests.{not-true, not-false}
 use lib.Dec.{leb}
-use Rattle.table.specs.Table.{maxLength}
+use Rattle.bounds.specs.Bounds.{maxLength}
 use Rattle.request.proofs.Laws.{bodies-form, bodies-code, bodies-fit}
 use borrow.Author.Needs.{needs}
 use Rattle.request.proofs.bodies_ok.Statement.{statement}

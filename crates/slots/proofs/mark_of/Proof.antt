@@ -1,6 +1,6 @@
 use mathlib.Core.Path.{refl}
 use native.Mathlib.Omega.{arith}
-use Rattle.slots.specs.Slots.{markOf}
+use Rattle.slots.specs.Inner.{markOf}
 use borrow.Author.Needs.{needs}
 use Rattle.slots.proofs.mark_of.Statement.{statement}
 use Rattle.slots.proofs.mark_of.Tie as tie

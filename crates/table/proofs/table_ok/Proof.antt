@@ -60,7 +60,6 @@ returns-3 : tie.Need-returns-3
 returns-3 c =
     let t = c .before .before .before .before .before .before .before .before .args .t .now in
     let g : headOk t ≡ true = sym (c .before .before .before .before .before .before .head-ok .ensures) ∙ not-false _ (c .before .before .before .before .before .if1 .left) in
-    let h = head t g in
     let e : c .before .before .before .before .body-count .result ≡ bodies t = c .before .before .before .before .body-count .ensures .0 in
     let n = c .before .before .before .before .body-count .result in
     let l : layoutOk t headSize n (headSize + entrySize * n) ≡ true = sym (c .before .before .before .layout-ok .ensures) ∙ not-false _ (c .before .before .if2 .left) in
@@ -69,10 +68,10 @@ returns-3 c =
 bodies-ok-requires : tie.Need-bodies-ok-requires
 bodies-ok-requires c κs =
     let t = c .before .before .before .before .before .before .before .before .args .t .now in
+    let n = c .before .before .before .before .body-count .result in
+    let e : c .before .before .before .before .body-count .result ≡ bodies t = c .before .before .before .before .body-count .ensures .0 in
     let g : headOk t ≡ true = sym (c .before .before .before .before .before .before .head-ok .ensures) ∙ not-false _ (c .before .before .before .before .before .if1 .left) in
     let h = head t g in
-    let e : c .before .before .before .before .body-count .result ≡ bodies t = c .before .before .before .before .body-count .ensures .0 in
-    let n = c .before .before .before .before .body-count .result in
     let l : layoutOk t headSize n (headSize + entrySize * n) ≡ true = sym (c .before .before .before .layout-ok .ensures) ∙ not-false _ (c .before .before .if2 .left) in
     (omega (arith, h .room), h .fits, l)
 

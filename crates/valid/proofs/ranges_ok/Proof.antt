@@ -3,10 +3,11 @@ use mathlib.Core.Path.{ap, _∙_}
 use lib.Dec.{leb}
 use Rattle.scan.specs.Bytes.{between}
 use Rattle.record.specs.Slot.{recordAt}
-use Rattle.valid.specs.Valid.{maxCents, rangesOk}
+use Rattle.valid.specs.Valid.{rangesOk}
 use Rattle.valid.proofs.Laws.{and-eq}
 use borrow.Author.Needs.{needs}
 use Rattle.valid.proofs.ranges_ok.Statement.{statement}
+use Rattle.bounds.specs.Bounds.{maxCents}
 use Rattle.valid.proofs.ranges_ok.Tie as tie
 
 shared-slice-read-kind : tie.Need-shared-slice-read-kind

@@ -1,0 +1,92 @@
+use borrow.Author.Needs.{needs}
+use Rattle.rows.proofs.spot_of.Statement.{statement}
+use Rattle.rows.proofs.spot_of.Tie as tie
+
+enum-told : tie.Need-enum-told
+enum-told c = search needs
+
+flusso-spot-requires : tie.Need-flusso-spot-requires
+flusso-spot-requires c κs = search needs
+
+enum-told-2 : tie.Need-enum-told-2
+enum-told-2 c = search needs
+
+mandato-spot-requires : tie.Need-mandato-spot-requires
+mandato-spot-requires c κs = search needs
+
+enum-told-3 : tie.Need-enum-told-3
+enum-told-3 c = search needs
+
+reversale-spot-requires : tie.Need-reversale-spot-requires
+reversale-spot-requires c κs = search needs
+
+enum-told-4 : tie.Need-enum-told-4
+enum-told-4 c = search needs
+
+informazioni-beneficiario-spot-requires : tie.Need-informazioni-beneficiario-spot-requires
+informazioni-beneficiario-spot-requires c κs = search needs
+
+enum-told-5 : tie.Need-enum-told-5
+enum-told-5 c = search needs
+
+informazioni-versante-spot-requires : tie.Need-informazioni-versante-spot-requires
+informazioni-versante-spot-requires c κs = search needs
+
+enum-told-6 : tie.Need-enum-told-6
+enum-told-6 c = search needs
+
+beneficiario-spot-requires : tie.Need-beneficiario-spot-requires
+beneficiario-spot-requires c κs = search needs
+
+enum-told-7 : tie.Need-enum-told-7
+enum-told-7 c = search needs
+
+versante-spot-requires : tie.Need-versante-spot-requires
+versante-spot-requires c κs = search needs
+
+returns : tie.Need-returns
+returns c = rw (c .before .enum-told .given .1) (c .flusso-spot .ensures)
+
+returns-2 : tie.Need-returns-2
+returns-2 c = rw (c .before .enum-told2 .given .1) (c .mandato-spot .ensures)
+
+returns-3 : tie.Need-returns-3
+returns-3 c = rw (c .before .enum-told3 .given .1) (c .reversale-spot .ensures)
+
+returns-4 : tie.Need-returns-4
+returns-4 c = rw (c .before .enum-told4 .given .1) (c .informazioni-beneficiario-spot .ensures)
+
+returns-5 : tie.Need-returns-5
+returns-5 c = rw (c .before .enum-told5 .given .1) (c .informazioni-versante-spot .ensures)
+
+returns-6 : tie.Need-returns-6
+returns-6 c = rw (c .before .enum-told6 .given .1) (c .beneficiario-spot .ensures)
+
+returns-7 : tie.Need-returns-7
+returns-7 c = rw (c .before .enum-told7 .given .1) (c .versante-spot .ensures)
+
+pub spot-of-spec : {M : Type 1} → statement M
+spot-of-spec =
+    tie.close
+    (tie.spec
+    enum-told
+    flusso-spot-requires
+    enum-told-2
+    mandato-spot-requires
+    enum-told-3
+    reversale-spot-requires
+    enum-told-4
+    informazioni-beneficiario-spot-requires
+    enum-told-5
+    informazioni-versante-spot-requires
+    enum-told-6
+    beneficiario-spot-requires
+    enum-told-7
+    versante-spot-requires
+    returns
+    returns-2
+    returns-3
+    returns-4
+    returns-5
+    returns-6
+    returns-7)
