@@ -12,7 +12,7 @@ use Rattle.codes.specs.declared.Operation.the-variants.{Inserimento, Var
 use Rattle.codes.specs.declared.Asked.{Asked}
 use Rattle.codes.specs.declared.Asked.the-variants.{Operazione, NoOperation}
 
--- codice_ABI_BT: five digits, compared as digits
+-- codice_ABI_BT: five digits. (They are compared as they stand, where a flow is for a bank: the desk)
 unfoldable pub codiceAbi : List ℕ → Bool
 codiceAbi t = eqb (length t) abiLength && all isDigit t
 

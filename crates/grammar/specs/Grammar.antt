@@ -1,4 +1,5 @@
--- The markup as a grammar: document 01, "The markup", line by line. It says which lists of bytes are a flow, and nothing of how they are read.
+-- The markup as a grammar: document 01, "The markup", line by line. It says which lists of bytes have a flow's markup,
+-- whatever its elements are called, and nothing of how they are read.
 -- (The limit of 32,768 bytes is a rule of its own, with a code of its own.)
 use mathlib.Core.Path.{_≡_}
 use Prim.Native.Nat.{ℕ, suc, _+_, _*_, _≤_, _<_}

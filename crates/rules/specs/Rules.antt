@@ -61,7 +61,7 @@ stepCode Annul s = row 16 17 0 18 s
 abbrev pub keyFor : ℕ → Ordinativo → Key
 keyFor year o = record { kind = o .kind; esercizio = year; number = o .number }
 
--- the record at an index of a body's records
+-- no record: nothing ever looks past the last one
 abbrev pub noRecord : Record
 noRecord = record {
   kind = 0;
@@ -75,6 +75,7 @@ noRecord = record {
   amounts = replicate 8 0;
 }
 
+-- the record at an index of a body's records
 abbrev pub nth : List Record → ℕ → Record
 nth rs i = getD rs i noRecord
 
@@ -190,7 +191,7 @@ written year o r Annul = annulled r
 
 -- A NOTICE: "Execution sets the line executed; reversal sets it waiting again"
 
--- the state of the line that a notice looks for, and the code where it isn't there: "for execution 21 (already executed), for reversal 22"
+-- 0 where a line of this state moves, else "for execution 21 (already executed), for reversal 22 (not executed)"
 unfoldable pub lineMoves : Bool → ℕ → ℕ
 lineMoves true state = cond (eqb state 2) 21 0
 lineMoves false state = cond (eqb state 2) 0 22

@@ -1,5 +1,5 @@
 -- Bytes of a flow (document 01, "The markup", "The fields"). Positions are counted from 0 at the flow's first byte; past the end a flow
--- reads as the byte 0, which no rule accepts.
+-- reads as the byte 0, which no rule of a flow accepts.
 use Prim.Native.Nat.{ℕ, zero, suc, _+_, _-_}
 use Prim.Native.String.{String}
 use Prim.Native.Char.{Char, code}

@@ -17,7 +17,7 @@ use Rattle.slots.specs.Slots.{recordsAt}
 use Rattle.body.specs.Body.{bodyOk}
 use Rattle.body.proofs.Same.{records-agree, body-agree, fewer}
 use Rattle.ranges.specs.Ranges.{zeros}
-use Rattle.entries.specs.Entry.{entrySize, requestSize, slotsOf, placeOf, codesFrom, findCode}
+use Rattle.entries.specs.Entry.{entrySize, entryFixed, requestSize, slotsOf, placeOf, codesFrom, findCode}
 use Rattle.entries.proofs.Same.{part-agree, zeros-agree, slots-agree, place-agree, form-agree, Rows, codes-rows}
 use Rattle.entries.proofs.Same.Rows.{none, row}
 use Rattle.bounds.specs.Bounds.{maxLength}
@@ -32,10 +32,6 @@ module _ (P : ℕ → Type 0) (at n : ℕ) (f : (b : ℕ) → b < suc n → P (a
 
   pub later : (b : ℕ) → b < n → P (at + entrySize + entrySize * b)
   later b h = let z : at + entrySize * suc b ≡ at + entrySize + entrySize * b = omega arith in subst P z (f (suc b) (omega arith))
-
--- the bytes of an entry that no call changes: code, slots and place
-abbrev pub entryFixed : ℕ
-entryFixed = 24
 
 -- u has t's length and head, and those bytes of each entry
 pub record Contents (u t : List ℕ) : Type 0 where

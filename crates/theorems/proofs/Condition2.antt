@@ -17,6 +17,7 @@ use Rattle.address.specs.declared.Addressed.the-variants.{Body}
 use Rattle.notices.specs.declared.TotalsAnswer.{TotalsAnswer}
 use Rattle.address.specs.Address.{addressed}
 use Rattle.notices.specs.Notices.{noticed, noticeBy, NoticePromise, bodyTotals, totalsOf, TotalsPromise}
+use Rattle.tree.proofs.Theorem.{answered}
 use Rattle.theorems.specs.Engine.{recordsOf}
 use Rattle.theorems.specs.Condition2.{Condition2}
 use Rattle.theorems.proofs.Given.{given-when}
@@ -47,6 +48,7 @@ module _ (t : List ℕ) (ok : tableOk t ≡ true) (code : List ℕ) (b : ℕ) (e
 pub condition2 : Condition2
 unfolding bodyTotals
 condition2 = record {
+  reading = answered;
   refusals = given-when;
   orders = orders-in-turn;
   accepted = accepted-counts;

@@ -15,12 +15,12 @@ use Rattle.words.proofs.Laws.{Agree}
 use Rattle.record.specs.Slot.{slotSize}
 use Rattle.body.specs.Body.{bodyOk}
 use Rattle.body.proofs.Same.{body-agree}
-use Rattle.entries.specs.Entry.{entrySize, slotsOf, placeOf}
+use Rattle.entries.specs.Entry.{entrySize, entryFixed, slotsOf, placeOf}
 use Rattle.entries.proofs.Same.{part-agree, zeros-agree}
 use Rattle.table.specs.Table.{headSize, bodies, abiOf, entryOk, layoutOk, tableOk, bodyOf, entryOf}
 use Rattle.table.proofs.Laws.{entry, lay-split, head, table}
 use Rattle.table.proofs.Bodies.{body-at, apart}
-use Rattle.table.proofs.Kept.{entryFixed, Contents, TailOk, first, later, same-bodies, same-abi, same-find, same-slots, same-place, same-table}
+use Rattle.table.proofs.Kept.{Contents, TailOk, first, later, same-bodies, same-abi, same-find, same-slots, same-place, same-table}
 use Rattle.opening.proofs.Laws.{length-part}
 use Rattle.rules.proofs.Kept.{split}
 use Rattle.service.proofs.Kept.{Kept}

@@ -1,5 +1,4 @@
--- CONDITION 2 of the tender letter, about the calls' own promises: whatever keeps them does this. Proved: `condition2 : Condition2`. That the markup
--- that breaks is what the profile refuses is the theorem of crates/grammar.
+-- CONDITION 2 of the tender letter, about the calls' own promises: whatever keeps them does this. Proved: `condition2 : Condition2`.
 use Prim.Native.Nat.{ℕ, _<_, _≤_}
 use lib.IntN.{pos, _-ℤ_}
 use mathlib.Core.Path.{_≡_}
@@ -15,6 +14,7 @@ use Rattle.entries.specs.Entry.{slotsOf, placeOf}
 use Rattle.table.specs.Table.{tableOk, bodies, bodyOf, entryOf}
 use Rattle.flow.specs.Flow.{verdictOf}
 use Rattle.order.specs.Ordinativo.{Ordinativo}
+use Rattle.tree.specs.Flow.{Answered}
 use Rattle.rules.specs.Rules.{orderCode, judgeOrder, judgeNotice}
 use Rattle.rules.specs.declared.Ruling.{Ruling}
 use Rattle.rules.specs.Listed.{Applies, turn, NoticeApplies, noticeTurn}
@@ -64,7 +64,9 @@ EachNotice P = (t : List ℕ) → tableOk t ≡ true → (code : List ℕ) (b : 
     → P t b executing k line a t′
 
 pub record Condition2 : Type 0 where
-  -- "A flow is read as the profile in document 01 says": each refusal given exactly when it says, with "place .. 0 but for code 5"
+  -- "A flow is read as the profile in document 01 says": of any bytes, by grammar, tree, schema and fields alone (crates/tree/specs/Flow)
+  pub reading : (s : List ℕ) → Answered s
+  -- and each refusal of a flow is given exactly when document 01 says, with "place .. 0 but for code 5"
   pub refusals : (t f out : List ℕ) (a : FlowAnswer) (t′ out′ : List ℕ) → FlowPromise t f out a t′ out′
       → (flowCode a ≡ firstOf (flowRefusals t f (length out) (verdictOf f))) × (flowReply a .place ≡ cond (eqb (flowCode a) 5) (breaksAt (verdictOf f)) 0)
   -- "each order .. is answered by the step table": the outcome codes of a flow served are those of the rules over the body's records
@@ -76,7 +78,8 @@ pub record Condition2 : Type 0 where
       → flowReply a .accepted ≡ zeroCodes (outcomeCodes (flowReply a .orders) out′)
   -- "execution and reversal is answered by the .. notice rules there": by those over the records of the body with that code
   pub notices : EachNotice (λ t b executing k line a t′. a ≡ noticed (judgeNotice executing k line (recordsOf b t)))
-  -- "An order is accepted exactly when no listed refusal applies." (What each says: rules/specs/Listed.) Its code is another exactly when that refusal is the first that does
+  -- "An order is accepted exactly when no listed refusal applies." (What each says: rules/specs/Listed.) Its code is another exactly when that refusal
+  -- is the first that does
   pub exactly : EachOrder (λ t b year o. Exactly (orderCode (comesTo t b year o) ≡ 0) (None (Applies (slotsOf t (entryOf b)) year o (recordsOf b t))))
   pub answer : EachOrder (λ t b year o. (c : ℕ) → (c ≡ 0 → ⊥)
       → Exactly (orderCode (comesTo t b year o) ≡ c) (InTurn turn (Applies (slotsOf t (entryOf b)) year o (recordsOf b t)) c))
