@@ -33,13 +33,13 @@ pub fn child_alone(s: &[u8], i: usize) -> Step
     requires { ⌜ i ≤ length (now s) ⌝ }
     ensures { λ r. ⌜ r ≡ childAt (now (s .entry)) i ⌝ }
 {
-    if scan::byte(s, i) != 60 {
+    if scan::byte(s, i) != b'<' {
         return Step::End;
     }
     let Walk::Past(e) = tokens::name_end(s, i + 1) else {
         return Step::End;
     };
-    if scan::byte(s, e) != 62 {
+    if scan::byte(s, e) != b'>' {
         return Step::End;
     }
     let Walk::Past(p) = markup::content_alone(s, e + 1) else {
@@ -76,7 +76,7 @@ pub fn child_at(s: &[u8], i: usize, past: &[u32]) -> Step
     requires { ⌜ (i ≤ length (now s)) × Noted (now s) (now past) ⌝ }
     ensures { λ r. ⌜ r ≡ childAt (now (s .entry)) i ⌝ }
 {
-    if scan::byte(s, i) != 60 {
+    if scan::byte(s, i) != b'<' {
         return Step::End;
     }
     let Told::Ends(k, q) = markup::note_at(past, i + 1) else {

@@ -2,9 +2,9 @@
 use Prim.Native.Nat.{ℕ, _+_, _*_, _-_}
 use mathlib.Core.List.{List, [], _∷_}
 use mathlib.Core.Bool.{Bool, cond, not, _&&_}
-use lib.ListN.{length}
+use lib.ListN.{length, take, drop}
 use lib.Dec.{eqb}
-use Rattle.scan.specs.Bytes.{byte, byteAt, part, between, isDigit}
+use Rattle.scan.specs.Bytes.{byte, byteAt, between, isDigit, run}
 use Rattle.bounds.specs.Bounds.{isYear, isNumero}
 use Rattle.digits.specs.declared.Number.{Number}
 use Rattle.digits.specs.declared.Number.the-variants.{Value, NoNumber}
@@ -36,16 +36,17 @@ inCents (Value w) (Value c) = Value (w * 100 + c)
 inCents (Value w) NoNumber = NoNumber
 inCents NoNumber c = NoNumber
 
--- a zero in front that isn't the only digit before the point
+-- "no zero in front unless it is the only digit there"
 unfoldable pub zeroInFront : List ℕ → Bool
-zeroInFront t = eqb (byteAt t 0) (byte "0") && not (eqb (length t) 4)
+zeroInFront w = eqb (byteAt w 0) (byte "0") && not (eqb (length w) 1)
 
--- importo: 1 to 9 digits, a point, two digits; no zero in front unless it is the only digit there; held in cents
+-- the digits w, and after them a point and two digits
+abbrev pub amountOf : List ℕ → List ℕ → Number
+amountOf w rest = cond (eqb (byteAt rest 0) (byte ".") && not (zeroInFront w)) (inCents (digits 1 9 w) (digits 2 2 (drop 1 rest))) NoNumber
+
+-- importo: "1 to 9 digits, a point, two digits; .. held in cents": the digits at the front of t, and what follows them
 unfoldable pub importo : List ℕ → Number
-importo t =
-    cond (between 4 12 (length t) && (eqb (byteAt t (length t - 3)) (byte ".") && not (zeroInFront t)))
-    (inCents (digits 1 9 (part t 0 (length t - 3))) (digits 2 2 (part t (length t - 2) (length t))))
-    NoNumber
+importo t = amountOf (take (run isDigit t) t) (drop (run isDigit t) t)
 
 -- progressivo: 1 to 3 digits, as a number; leading zeros don't count
 unfoldable pub progressivo : List ℕ → Number

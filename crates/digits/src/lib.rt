@@ -2,7 +2,8 @@
 ghost use mathlib.Core.Path.{_≡_};
 ghost use Prim.Native.Nat.{_≤_};
 ghost use Rattle.scan.specs.Bytes.{between};
-ghost use Rattle.digits.specs.Digits.{within, digits, esercizio, numero, progressivo, zeroInFront, importo};
+ghost use Rattle.digits.specs.Digits.{within, digits, esercizio, numero, progressivo, importo};
+ghost use Rattle.digits.specs.Inner.{zeroFirst};
 
 pub enum Number {
     Value(u64),
@@ -88,7 +89,7 @@ pub fn progressivo_of(t: &[u8]) -> Number
 }
 
 fn zero_in_front(t: &[u8]) -> bool
-    ensures { λ r. ⌜ r ≡ zeroInFront (now (t .entry)) ⌝ }
+    ensures { λ r. ⌜ r ≡ zeroFirst (now (t .entry)) ⌝ }
 {
     if scan::byte(t, 0) != b'0' {
         return false;

@@ -54,7 +54,7 @@ pub fn element(s: &[u8], at: usize, depth: usize, past: &mut [u32]) -> Walk
     let Walk::Past(e) = name else {
         return name;
     };
-    if scan::byte(s, e) != 62 {
+    if scan::byte(s, e) != b'>' {
         return Walk::Broken(e);
     }
     let inside = content(s, e + 1, depth - 1, past);
@@ -75,15 +75,15 @@ pub fn content(s: &[u8], at: usize, depth: usize, past: &mut [u32]) -> Walk
     ensures { λ r. ⌜ (r ≡ contentAt depth (now (s .entry)) at) × Noted (now (s .entry)) (now (past .exit)) ⌝ }
 {
     let w = scan::white_end(s, at);
-    if scan::byte(s, w) != 60 {
+    if scan::byte(s, w) != b'<' {
         return tokens::text(s, at);
     }
-    if scan::byte(s, w + 1) == 47 {
+    if scan::byte(s, w + 1) == b'/' {
         return tokens::text(s, at);
     }
     let mut i = w;
     while !tokens::closes(s, i) {
-        if scan::byte(s, i) != 60 {
+        if scan::byte(s, i) != b'<' {
             return Walk::Broken(i);
         }
         match element(s, i + 1, depth, past) {
@@ -106,7 +106,7 @@ pub fn markup_noted(s: &[u8], past: &mut [u32]) -> Walk
     let a = tokens::optional(s, 0, b"\xef\xbb\xbf");
     let d = tokens::optional(s, a, b"<?xml version=\"1.0\" encoding=\"UTF-8\"?>");
     let w = scan::white_end(s, d);
-    if scan::byte(s, w) != 60 {
+    if scan::byte(s, w) != b'<' {
         return Walk::Broken(w);
     }
     let root = element(s, w + 1, 12, past);

@@ -11,14 +11,14 @@ use lib.Dec.{leb}
 use borrow.Author.Tests.{ne-eqb, leb-true, leb-false}
 use Rattle.scan.specs.Bytes.{bytes, byteAt, startsWith, hasAt}
 use Rattle.scan.proofs.Laws.{has-within}
-use Rattle.names.specs.Names.{refTail, replacedAfter}
+use Rattle.names.specs.Names.{references, tailBy, meantBy, replacedAfter}
 
 -- where no & stands there is no reference
-pub ref-plain : (t : List ℕ) (at : ℕ) → (byteAt t at ≡ 38 → ⊥) → refTail (drop at t) ≡ 0
-unfolding refTail startsWith
+pub ref-plain : (t : List ℕ) (at : ℕ) → (byteAt t at ≡ 38 → ⊥) → tailBy references (drop at t) ≡ 0
+unfolding tailBy startsWith
 ref-plain t at n = go (leb (suc at) (length t)) refl
   where
-    go : (k : Bool) → leb (suc at) (length t) ≡ k → refTail (drop at t) ≡ 0
+    go : (k : Bool) → leb (suc at) (length t) ≡ k → tailBy references (drop at t) ≡ 0
     go true h = rw (drop-cons t at 0 (leb-true (suc at) (length t) h), ne-eqb _ _ n)
     go false h = let w : length t ≤ at = omega (arith, leb-false (suc at) (length t) h) in rw (drop-of-length-le t w)
 
@@ -30,8 +30,8 @@ ref-one x t at k r h l w = go (hasAt x t at) refl
     go true e = omega (arith, has-within x t at (omega arith) e)
     go false e = w
 
-ref-in : (t : List ℕ) (at : ℕ) → at < length t → at + suc (refTail (drop at t)) ≤ length t
-unfolding refTail hasAt
+ref-in : (t : List ℕ) (at : ℕ) → at < length t → at + suc (tailBy references (drop at t)) ≤ length t
+unfolding tailBy hasAt
 ref-in t at h =
     ref-one (bytes "&amp;") t at 4 _ h refl
     (ref-one (bytes "&lt;") t at 3 _ h refl
@@ -50,18 +50,18 @@ replaced-skip (suc k) t j h =
 -- past one byte, or one reference, the count is one more
 pub record OnePast (t : List ℕ) (i k : ℕ) : Type 0 where
   pub past : i + (1 + k) ≤ length t
-  pub counted : replacedAfter 0 (drop i t) ≡ suc (replacedAfter 0 (drop (i + (1 + k)) t))
+  pub counted : length (replacedAfter 0 (drop i t)) ≡ suc (length (replacedAfter 0 (drop (i + (1 + k)) t)))
 
-counted-past : (t : List ℕ) (i k : ℕ) → i < length t → k ≡ refTail (drop i t) → replacedAfter 0 (drop i t) ≡ suc (replacedAfter k (drop (suc i) t))
+counted-past : (t : List ℕ) (i k : ℕ) → i < length t → k ≡ tailBy references (drop i t) → length (replacedAfter 0 (drop i t)) ≡ suc (length (replacedAfter k (drop (suc i) t)))
 unfolding replacedAfter
 counted-past t i k h e = rw (e, drop-cons t i 0 h)
 
-pub one-past : (t : List ℕ) (i k : ℕ) → i < length t → k ≡ refTail (drop i t) → OnePast t i k
+pub one-past : (t : List ℕ) (i k : ℕ) → i < length t → k ≡ tailBy references (drop i t) → OnePast t i k
 one-past t i k h e =
     let w : i + suc k ≤ length t = rw e (ref-in t i h) in
     let q : suc i + k ≡ i + (1 + k) = omega arith in
-    record { past = omega arith; counted = counted-past t i k h e ∙ rw (← q) (ap suc (replaced-skip k t (suc i) (omega arith))) }
+    record { past = omega arith; counted = counted-past t i k h e ∙ rw (← q) (ap (λ (l : List ℕ). suc (length l)) (replaced-skip k t (suc i) (omega arith))) }
 
-pub replaced-end : (t : List ℕ) (i : ℕ) → length t ≤ i → replacedAfter 0 (drop i t) ≡ 0
+pub replaced-end : (t : List ℕ) (i : ℕ) → length t ≤ i → length (replacedAfter 0 (drop i t)) ≡ 0
 unfolding replacedAfter
 replaced-end t i h = rw (drop-of-length-le t h)

@@ -2,14 +2,14 @@
 ghost use mathlib.Core.Path.{_≡_};
 ghost use Prim.Native.Nat.{_≤_};
 ghost use lib.ListN.{length, drop};
-ghost use Rattle.names.specs.Names.{refTail, replacedLength, anagrafica};
+ghost use Rattle.names.specs.Names.{references, tailBy, replaced, anagrafica};
 
 // How many bytes follow the & of a reference that stands at a position, 0 where none does.
 fn ref_tail(t: &[u8], at: usize) -> usize
     requires { ⌜ at ≤ length (now t) ⌝ }
-    ensures { λ r. ⌜ r ≡ refTail (drop at (now (t .entry))) ⌝ }
+    ensures { λ r. ⌜ r ≡ tailBy references (drop at (now (t .entry))) ⌝ }
 {
-    if scan::byte(t, at) != 38 {
+    if scan::byte(t, at) != b'&' {
         return 0;
     }
     if scan::has(t, at, b"&amp;") {
@@ -29,7 +29,7 @@ fn ref_tail(t: &[u8], at: usize) -> usize
 
 // How many bytes a text has once the five references are replaced, counted without replacing them.
 fn replaced_length(t: &[u8]) -> usize
-    ensures { λ r. ⌜ r ≡ replacedLength (now (t .entry)) ⌝ }
+    ensures { λ r. ⌜ r ≡ length (replaced (now (t .entry))) ⌝ }
 {
     let mut i = 0;
     let mut n: usize = 0;

@@ -34,13 +34,13 @@ fn is_identifying(b: u8) -> bool
     if scan::is_alnum(b) {
         return true;
     }
-    if b == 45 {
+    if b == b'-' {
         return true;
     }
-    if b == 95 {
+    if b == b'_' {
         return true;
     }
-    b == 46
+    b == b'.'
 }
 
 fn is_of(c: Class, b: u8) -> bool

@@ -22,25 +22,25 @@ pub fn byte(s: &[u8], at: usize) -> u8
 pub fn is_letter(b: u8) -> bool
     ensures { λ r. ⌜ r ≡ isLetter b ⌝ }
 {
-    if b < 65 {
+    if b < b'A' {
         return false;
     }
-    if b <= 90 {
+    if b <= b'Z' {
         return true;
     }
-    if b < 97 {
+    if b < b'a' {
         return false;
     }
-    b <= 122
+    b <= b'z'
 }
 
 pub fn is_digit(b: u8) -> bool
     ensures { λ r. ⌜ r ≡ isDigit b ⌝ }
 {
-    if b < 48 {
+    if b < b'0' {
         return false;
     }
-    b <= 57
+    b <= b'9'
 }
 
 pub fn is_alnum(b: u8) -> bool
@@ -56,34 +56,34 @@ pub fn is_alnum(b: u8) -> bool
 pub fn is_name_byte(b: u8) -> bool
     ensures { λ r. ⌜ r ≡ isNameByte b ⌝ }
 {
-    if 97 <= b {
-        return b <= 122;
+    if b'a' <= b {
+        return b <= b'z';
     }
-    if b == 95 {
+    if b == b'_' {
         return true;
     }
-    if 65 <= b {
-        return b <= 90;
+    if b'A' <= b {
+        return b <= b'Z';
     }
-    if b < 48 {
+    if b < b'0' {
         return false;
     }
-    b <= 57
+    b <= b'9'
 }
 
 pub fn is_white(b: u8) -> bool
     ensures { λ r. ⌜ r ≡ isWhite b ⌝ }
 {
-    if b == 32 {
+    if b == b' ' {
         return true;
     }
-    if b == 9 {
+    if b == b'\t' {
         return true;
     }
-    if b == 10 {
+    if b == b'\n' {
         return true;
     }
-    b == 13
+    b == b'\r'
 }
 
 // The end of the run of name bytes that starts at a position.

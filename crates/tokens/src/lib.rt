@@ -58,7 +58,7 @@ fn piece(s: &[u8], at: usize) -> Walk
     requires { ⌜ at ≤ length (now s) ⌝ }
     ensures { λ r. ⌜ r ≡ pieceAt (now (s .entry)) at ⌝ }
 {
-    if scan::byte(s, at) == 38 {
+    if scan::byte(s, at) == b'&' {
         return reference(s, at);
     }
     if scan::has(s, at, b"]]>") {
@@ -77,10 +77,10 @@ fn is_plain(b: u8) -> bool
     if 127 < b {
         return false;
     }
-    if b == 38 {
+    if b == b'&' {
         return false;
     }
-    b != 93
+    b != b']'
 }
 
 // Past the plain bytes and up to what is not plain.
@@ -90,7 +90,7 @@ fn plain_end(s: &[u8], at: usize) -> usize
 {
     let mut i = at;
     while i < s.len() {
-        if s[i] == 60 {
+        if s[i] == b'<' {
             return i;
         }
         if !is_plain(s[i]) {
@@ -107,7 +107,7 @@ pub fn text(s: &[u8], at: usize) -> Walk
     ensures { λ r. ⌜ r ≡ textAt (now (s .entry)) at ⌝ }
 {
     let mut i = plain_end(s, at);
-    while scan::byte(s, i) != 60 {
+    while scan::byte(s, i) != b'<' {
         match piece(s, i) {
             Walk::Past(q) => {
                 i = plain_end(s, q);
@@ -136,7 +136,7 @@ pub fn end_tag(s: &[u8], a: usize, e: usize, p: usize) -> Walk
     if s.len() - b <= n {
         return Walk::Broken(p);
     }
-    if s[b + n] == 62 {
+    if s[b + n] == b'>' {
         Walk::Past(b + n + 1)
     } else {
         Walk::Broken(p)

@@ -9,7 +9,7 @@ use Rattle.names.proofs.replaced_length.Statement.{statement}
 use Rattle.names.proofs.replaced_length.Tie as tie
 
 abbrev Inv-loop : tie.InvT-loop
-Inv-loop t i₀ n₀ i n = (i ≤ length t) × (n ≤ i) × (n + replacedAfter 0 (drop i t) ≡ replacedAfter 0 t)
+Inv-loop t i₀ n₀ i n = (i ≤ length t) × (n ≤ i) × (n + length (replacedAfter 0 (drop i t)) ≡ length (replacedAfter 0 t))
 
 abbrev μ-loop : tie.MeasureT-loop
 μ-loop t i₀ n₀ i n = length t - i
