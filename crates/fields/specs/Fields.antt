@@ -14,36 +14,60 @@ use Rattle.dates.specs.Dates.{dataOra, dataOf}
 use Rattle.names.specs.Names.{anagrafica}
 use Rattle.fields.specs.declared.Judged.{Judged}
 use Rattle.fields.specs.declared.Judged.the-variants.{Stands, Breaks}
+use Rattle.fields.specs.declared.Value.the-variants as value
+use Rattle.fields.specs.declared.Reading.{Reading}
+use Rattle.fields.specs.declared.Reading.the-variants as reading
 use Rattle.fields.specs.declared.Form.{Form}
 use Rattle.fields.specs.declared.Form.the-variants.{CodiceAbi, Identificativo, DataOra, CodiceEnte, Esercizio, TipoOperazione, Numero, Data, Importo, Progressivo, Anagrafica}
 
-abbrev pub judged : Bool → Judged
-judged true = Stands
-judged false = Breaks
+-- A READING: the value that a text of the form says, or that it breaks. Of a text that stays bytes only that it has the form is said.
+abbrev pub ofText : Bool → Reading
+ofText true = reading.Holds value.Text
+ofText false = reading.Breaks
 
--- a number, a date or an operation that is there
-abbrev pub isNumber : Number → Judged
-isNumber (Value v) = Stands
-isNumber NoNumber = Breaks
+abbrev pub ofNumber : Number → Reading
+ofNumber (Value v) = reading.Holds (value.Number v)
+ofNumber NoNumber = reading.Breaks
 
-abbrev pub isDay : Day → Judged
-isDay (On d) = Stands
-isDay NoDay = Breaks
+abbrev pub ofDay : Day → Reading
+ofDay (On d) = reading.Holds (value.Day d)
+ofDay NoDay = reading.Breaks
 
-abbrev pub isOperation : Asked → Judged
-isOperation (Operazione o) = Stands
-isOperation NoOperation = Breaks
+abbrev pub ofOperation : Asked → Reading
+ofOperation (Operazione o) = reading.Holds (value.Operation o)
+ofOperation NoOperation = reading.Breaks
 
 -- which form asks what, in the table's order
+abbrev pub readingOf : Form → List ℕ → Reading
+readingOf CodiceAbi t = ofText (codiceAbi t)
+readingOf Identificativo t = ofText (identificativo t)
+readingOf DataOra t = ofText (dataOra t)
+readingOf CodiceEnte t = ofText (codiceEnte t)
+readingOf Esercizio t = ofNumber (esercizio t)
+readingOf TipoOperazione t = ofOperation (tipoOperazione t)
+readingOf Numero t = ofNumber (numero t)
+readingOf Data t = ofDay (dataOf t)
+readingOf Importo t = ofNumber (importo t)
+readingOf Progressivo t = ofNumber (progressivo t)
+readingOf Anagrafica t = ofText (anagrafica t)
+
+-- IT STANDS: its reading is a value
+abbrev pub standsBy : Reading → Judged
+standsBy (reading.Holds v) = Stands
+standsBy reading.Breaks = Breaks
+
 unfoldable pub fieldStands : Form → List ℕ → Judged
-fieldStands CodiceAbi t = judged (codiceAbi t)
-fieldStands Identificativo t = judged (identificativo t)
-fieldStands DataOra t = judged (dataOra t)
-fieldStands CodiceEnte t = judged (codiceEnte t)
-fieldStands Esercizio t = isNumber (esercizio t)
-fieldStands TipoOperazione t = isOperation (tipoOperazione t)
-fieldStands Numero t = isNumber (numero t)
-fieldStands Data t = isDay (dataOf t)
-fieldStands Importo t = isNumber (importo t)
-fieldStands Progressivo t = isNumber (progressivo t)
-fieldStands Anagrafica t = judged (anagrafica t)
+fieldStands f t = standsBy (readingOf f t)
+
+-- the same of each kind of form
+abbrev pub judged : Bool → Judged
+judged b = standsBy (ofText b)
+
+abbrev pub isNumber : Number → Judged
+isNumber n = standsBy (ofNumber n)
+
+abbrev pub isDay : Day → Judged
+isDay d = standsBy (ofDay d)
+
+abbrev pub isOperation : Asked → Judged
+isOperation a = standsBy (ofOperation a)

@@ -1,5 +1,6 @@
 // The header of a flow that stands, read once, in one pass over the root's first children: the structure says which row each is.
 use children::Child;
+use fields::Form;
 use rows::Parent;
 ghost use mathlib.Core.Path.{_≡_};
 ghost use Prim.Native.Nat.{_+_, _≤_};
@@ -57,7 +58,7 @@ pub fn header_from(s: &[u8], from: usize, past: &[u32]) -> Heading
     let e = orders::first_named(s, d.after, Parent::FlussoOrdinativi, past).child;
     let abi = span_of(a);
     let ente = span_of(d);
-    let esercizio = orders::value_of(digits::esercizio_of(orders::text_of(s, e)));
+    let esercizio = orders::number_of(rows::read_field(s, e, Form::Esercizio));
     Heading {
         abi,
         ente,

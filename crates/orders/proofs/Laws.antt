@@ -14,8 +14,19 @@ use Rattle.scan.specs.Bytes.{part, isWhite}
 use Rattle.scan.proofs.Laws.{both, run-within}
 use Rattle.tokens.specs.Tokens.{whiteAt}
 use Rattle.fields.specs.declared.Form.{Form}
+use Rattle.fields.specs.declared.Form.the-variants.{Esercizio, TipoOperazione, Numero, Data, Importo, Progressivo}
+use Rattle.fields.specs.Fields.{ofNumber, ofDay, ofOperation}
+use Rattle.codes.specs.declared.Asked.{Asked}
+use Rattle.codes.specs.declared.Asked.the-variants.{Operazione, NoOperation}
+use Rattle.digits.specs.declared.Number.{Number}
+use Rattle.digits.specs.declared.Number.the-variants.{Value, NoNumber}
+use Rattle.dates.specs.declared.Day.{Day}
+use Rattle.dates.specs.declared.Day.the-variants.{On, NoDay}
+use Rattle.children.specs.declared.Child.{Child}
+use Rattle.rows.specs.Read.{readAt, fieldRead}
+use Rattle.orders.specs.Said.{numberOf, dayOf, saidOperation}
 use Rattle.codes.specs.Codes.{tipoOperazione}
-use Rattle.digits.specs.Digits.{numero, importo, progressivo}
+use Rattle.digits.specs.Digits.{esercizio, numero, importo, progressivo}
 use Rattle.dates.specs.Dates.{dataOf}
 use Rattle.rows.specs.declared.Parent.{Parent}
 use Rattle.rows.specs.declared.Parent.the-variants.{FlussoOrdinativi, Mandato, Reversale, InformazioniBeneficiario, InformazioniVersante, Beneficiario, Versante}
@@ -267,6 +278,44 @@ module _ (p : Parent) (s : List ℕ) (from : ℕ) where
 pub lines-same : (s : List ℕ) (ks js : List Kept) → inRow 4 ks ≡ inRow 4 js → linesIn s ks ≡ linesIn s js
 unfolding linesIn
 lines-same s ks js e = rw e
+
+-- WHAT A FIELD SAYS is the value of its form's text
+number-said : (c : Child) (n : Number) → numberOf (readAt c (ofNumber n)) ≡ valueOf n
+number-said c (Value v) = refl
+number-said c NoNumber = refl
+
+day-said : (c : Child) (d : Day) → dayOf (readAt c (ofDay d)) ≡ dateOf d
+day-said c (On d) = refl
+day-said c NoDay = refl
+
+operation-said : (c : Child) (a : Asked) → saidOperation (readAt c (ofOperation a)) ≡ operationOf a
+operation-said c (Operazione o) = refl
+operation-said c NoOperation = refl
+
+module _ (s : List ℕ) (c : Child) (t : List ℕ) (e : t ≡ part s (c .gt + 1) (c .to)) where
+  pub says-progressivo : numberOf (fieldRead s Progressivo c) ≡ valueOf (progressivo t)
+  unfolding fieldRead
+  says-progressivo = rw (← e) (number-said c (progressivo t))
+
+  pub says-numero : numberOf (fieldRead s Numero c) ≡ valueOf (numero t)
+  unfolding fieldRead
+  says-numero = rw (← e) (number-said c (numero t))
+
+  pub says-importo : numberOf (fieldRead s Importo c) ≡ valueOf (importo t)
+  unfolding fieldRead
+  says-importo = rw (← e) (number-said c (importo t))
+
+  pub says-esercizio : numberOf (fieldRead s Esercizio c) ≡ valueOf (esercizio t)
+  unfolding fieldRead
+  says-esercizio = rw (← e) (number-said c (esercizio t))
+
+  pub says-data : dayOf (fieldRead s Data c) ≡ dateOf (dataOf t)
+  unfolding fieldRead
+  says-data = rw (← e) (day-said c (dataOf t))
+
+  pub says-operazione : saidOperation (fieldRead s TipoOperazione c) ≡ operationOf (tipoOperazione t)
+  unfolding fieldRead
+  says-operazione = rw (← e) (operation-said c (tipoOperazione t))
 
 -- A LINE AND AN ORDER, put together of their parts
 pub line-made : (s : List ℕ) (ks : List Kept) (l : Line) → l .progressivo ≡ valueOf (progressivo (textIn 0 s ks)) → l .amount ≡ valueOf (importo (textIn 1 s ks)) → l ≡ lineBy s ks

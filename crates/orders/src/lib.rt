@@ -1,13 +1,13 @@
 // The header and the orders of a flow that stands, as values. Children are read one after the other: the structure says which row each is.
 use calendar::Date;
 use children::Child;
-use codes::Asked;
 use codes::Operation;
-use dates::Day;
-use digits::Number;
+use fields::Form;
+use fields::Value;
 use order::Line;
 use order::Lines;
 use order::Order;
+use rows::FieldRead;
 use rows::Holds;
 use rows::Kept;
 use rows::Next;
@@ -17,7 +17,6 @@ ghost use Prim.Native.Nat.{ℕ, _+_, _≤_, _<_};
 ghost use lib.ListN.{length, drop};
 ghost use Rattle.markup.specs.Noted.{Noted};
 ghost use Rattle.tokens.specs.Tokens.{whiteAt};
-ghost use Rattle.scan.specs.Bytes.{part};
 ghost use Rattle.rows.specs.declared.Parent.the-variants.{FlussoOrdinativi};
 ghost use Rattle.rows.specs.declared.Holds.the-variants.{Rows};
 ghost use Rattle.rows.specs.declared.Next.the-variants.{Named, Done};
@@ -25,23 +24,52 @@ ghost use Rattle.rows.specs.Table.{table};
 ghost use Rattle.rows.specs.Kept.{keptFrom, nextOf};
 ghost use Rattle.structure.specs.Structure.{ranges};
 ghost use Rattle.orders.specs.Shape.{orderRows, lineRows, Shaped, Filled};
-ghost use Rattle.orders.specs.Orders.{inRow, valueOf, dateOf, operationOf, lineBy, lineOf, linesIn, kindOf, orderBy, orderOf, ordersIn};
+ghost use Rattle.orders.specs.Said.{numberSaid, numberOf, daySaid, dayOf, operationSaid, saidOperation};
+ghost use Rattle.orders.specs.Orders.{inRow, lineBy, lineOf, linesIn, kindOf, orderBy, orderOf, ordersIn};
 
-pub fn value_of(n: Number) -> u64
-    ensures { λ r. ⌜ r ≡ valueOf n ⌝ }
+// The number, the date or the operation that a field says. (The defaults are never used: the field stands.)
+fn number_said(v: Value) -> u64
+    ensures { λ r. ⌜ r ≡ numberSaid v ⌝ }
 {
-    match n {
-        Number::Value(v) => v,
-        Number::NoNumber => 0,
+    match v {
+        Value::Text => 0,
+        Value::Number(n) => n,
+        Value::Day(_) => 0,
+        Value::Operation(_) => 0,
     }
 }
 
-fn date_of(d: Day) -> Date
-    ensures { λ r. ⌜ r ≡ dateOf d ⌝ }
+pub fn number_of(r: FieldRead) -> u64
+    ensures { λ x. ⌜ x ≡ numberOf r ⌝ }
 {
-    match d {
-        Day::On(date) => date,
-        Day::NoDay => Date {
+    match r {
+        FieldRead::Said(v, _) => number_said(v),
+        FieldRead::Broken(_) => 0,
+    }
+}
+
+fn day_said(v: Value) -> Date
+    ensures { λ r. ⌜ r ≡ daySaid v ⌝ }
+{
+    let none = Date {
+        year: 0,
+        month: 0,
+        day: 0,
+    };
+    match v {
+        Value::Text => none,
+        Value::Number(_) => none,
+        Value::Day(d) => d,
+        Value::Operation(_) => none,
+    }
+}
+
+fn day_of(r: FieldRead) -> Date
+    ensures { λ x. ⌜ x ≡ dayOf r ⌝ }
+{
+    match r {
+        FieldRead::Said(v, _) => day_said(v),
+        FieldRead::Broken(_) => Date {
             year: 0,
             month: 0,
             day: 0,
@@ -49,12 +77,23 @@ fn date_of(d: Day) -> Date
     }
 }
 
-fn operation_of(a: Asked) -> Operation
-    ensures { λ r. ⌜ r ≡ operationOf a ⌝ }
+fn operation_said(v: Value) -> Operation
+    ensures { λ r. ⌜ r ≡ operationSaid v ⌝ }
 {
-    match a {
-        Asked::Operazione(o) => o,
-        Asked::NoOperation => Operation::Sostituzione,
+    match v {
+        Value::Text => Operation::Sostituzione,
+        Value::Number(_) => Operation::Sostituzione,
+        Value::Day(_) => Operation::Sostituzione,
+        Value::Operation(o) => o,
+    }
+}
+
+fn operation_of(r: FieldRead) -> Operation
+    ensures { λ x. ⌜ x ≡ saidOperation r ⌝ }
+{
+    match r {
+        FieldRead::Said(v, _) => operation_said(v),
+        FieldRead::Broken(_) => Operation::Sostituzione,
     }
 }
 
@@ -74,16 +113,6 @@ pub fn next_row(s: &[u8], from: usize, parent: Parent, row: usize, past: &[u32])
         }
         i = c.after;
     }
-}
-
-// An element's text, as the part of the flow itself.
-pub fn text_of(s: &[u8], c: Child) -> &[u8]
-    requires { ⌜ (c .gt + 1 ≤ c .to) × (c .to ≤ length (now s)) ⌝ }
-    ensures { λ r. ⌜ now r ≡ part (now (s .entry)) (c .gt + 1) (c .to) ⌝ }
-{
-    let a = c.gt + 1;
-    let e = c.to;
-    &s[a..e]
 }
 
 // The first named child from a place on, where the structure says that there is one.
@@ -112,9 +141,9 @@ fn line_from(s: &[u8], from: usize, parent: Parent, past: &[u32]) -> Line
     ensures { λ r. ⌜ r ≡ lineBy (now (s .entry)) (keptFrom parent (now (s .entry)) from) ⌝ }
 {
     let a = first_named(s, from, parent, past).child;
-    let progressivo = value_of(digits::progressivo_of(text_of(s, a)));
+    let progressivo = number_of(rows::read_field(s, a, Form::Progressivo));
     let b = first_named(s, a.after, parent, past).child;
-    let amount = value_of(digits::importo_of(text_of(s, b)));
+    let amount = number_of(rows::read_field(s, b, Form::Importo));
     Line {
         progressivo,
         amount,
@@ -181,13 +210,13 @@ fn order_from(s: &[u8], from: usize, parent: Parent, past: &[u32]) -> Order
     ensures { λ r. ⌜ (r ≡ orderBy (kindOf (Rows parent)) (now (s .entry)) (keptFrom parent (now (s .entry)) from)) × (r .lines .count ≤ 8) ⌝ }
 {
     let a = first_named(s, from, parent, past).child;
-    let operation = operation_of(codes::tipo_operazione(text_of(s, a)));
+    let operation = operation_of(rows::read_field(s, a, Form::TipoOperazione));
     let b = first_named(s, a.after, parent, past).child;
-    let number = value_of(digits::numero_of(text_of(s, b)));
+    let number = number_of(rows::read_field(s, b, Form::Numero));
     let c = first_named(s, b.after, parent, past).child;
-    let date = date_of(dates::data_of(text_of(s, c)));
+    let date = day_of(rows::read_field(s, c, Form::Data));
     let d = first_named(s, c.after, parent, past).child;
-    let total = value_of(digits::importo_of(text_of(s, d)));
+    let total = number_of(rows::read_field(s, d, Form::Importo));
     let lines = lines_from(s, d.after, parent, past);
     let kind = kind_of(parent);
     Order {

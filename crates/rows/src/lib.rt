@@ -2,12 +2,15 @@
 use children::Child;
 use children::Step;
 use fields::Form;
+use fields::Reading;
+use fields::Value;
 ghost use mathlib.Core.Path.{_≡_};
 ghost use Prim.Native.Nat.{_+_, _≤_, _<_};
 ghost use lib.ListN.{length};
 ghost use Rattle.markup.specs.Noted.{Noted};
 ghost use Rattle.rows.specs.Table.{nameIs, table, spotIn};
 ghost use Rattle.rows.specs.Kept.{keptFrom, nextOf};
+ghost use Rattle.rows.specs.Read.{fieldRead};
 
 // The parents of document 01's table.
 pub enum Parent {
@@ -42,6 +45,12 @@ pub struct Kept {
 pub enum Next {
     Named(Kept),
     Done,
+}
+
+// A field of the flow, read by its form: its value and the place after it, or the place of the `<` of one that breaks.
+pub enum FieldRead {
+    Said(Value, usize),
+    Broken(usize),
 }
 
 // Whether the name from a up to e is x.
@@ -219,5 +228,18 @@ pub fn next_named(s: &[u8], from: usize, parent: Parent, past: &[u32]) -> Next
                 i = c.after;
             }
         }
+    }
+}
+
+// The one reader of a field, for those who judge it and those who take its value.
+pub fn read_field(s: &[u8], c: Child, f: Form) -> FieldRead
+    requires { ⌜ (c .gt + 1 ≤ c .to) × (c .to ≤ length (now s)) ⌝ }
+    ensures { λ r. ⌜ r ≡ fieldRead (now (s .entry)) f c ⌝ }
+{
+    let from = c.gt + 1;
+    let to = c.to;
+    match fields::field_of(f, &s[from..to]) {
+        Reading::Holds(v) => FieldRead::Said(v, c.after),
+        Reading::Breaks => FieldRead::Broken(c.lt),
     }
 }

@@ -8,10 +8,14 @@ use lib.ListN.{length}
 use Rattle.scan.specs.Bytes.{part}
 use Rattle.tokens.specs.Tokens.{whiteAt}
 use Rattle.fields.specs.declared.Form.{Form}
-use Rattle.fields.specs.declared.Judged.{Judged}
-use Rattle.fields.specs.Fields.{fieldStands}
+use Rattle.fields.specs.declared.Reading.{Reading}
+use Rattle.fields.specs.declared.Reading.the-variants.{Holds, Breaks}
+use Rattle.fields.specs.Fields.{readingOf, standsBy, fieldStands}
+use Rattle.rows.specs.declared.FieldRead.{FieldRead}
+use Rattle.rows.specs.declared.FieldRead.the-variants.{Said, Broken}
+use Rattle.rows.specs.Read.{readAt, fieldRead}
 use Rattle.rows.specs.declared.Parent.{Parent}
-use Rattle.rows.specs.declared.Holds.{Holds}
+use Rattle.rows.specs.declared.Holds as held
 use Rattle.rows.specs.declared.Holds.the-variants.{Text, Rows}
 use Rattle.rows.specs.declared.Kept.{Kept}
 use Rattle.rows.specs.declared.Next.the-variants.{Named, Done}
@@ -66,22 +70,30 @@ both-parts true false (Place p) y = refl
 both-parts true false Nowhere y = refl
 both-parts false b x y = refl
 
--- ONE FIELD
+-- ONE FIELD, as its reading says
+abbrev pub readStanding : FieldRead → Standing
+readStanding (Said v i) = Stands
+readStanding (Broken p) = FieldBreaks p
+
 module _ (s : List ℕ) (f : Form) (c : Child) where
   pub field-other : textOnly s (c .gt + 1) ≡ false → StructureBreaks ≡ fieldStanding s f c
   unfolding fieldStanding
   field-other e = rw e
 
-  pub field-judged : (j : Judged) → textOnly s (c .gt + 1) ≡ true → fieldStands f (part s (c .gt + 1) (c .to)) ≡ j → byFields (badOr (c .lt) Nowhere j) ≡ fieldStanding s f c
-  unfolding fieldStanding
-  field-judged j e g = rw (e, g)
+  pub field-judged : (r : FieldRead) → textOnly s (c .gt + 1) ≡ true → fieldRead s f c ≡ r → readStanding r ≡ fieldStanding s f c
+  unfolding fieldStanding fieldRead fieldStands
+  field-judged r e g = rw (e, ← g) (go (readingOf f (part s (c .gt + 1) (c .to))))
+    where
+      go : (w : Reading) → readStanding (readAt c w) ≡ byFields (badOr (c .lt) Nowhere (standsBy w))
+      go (Holds v) = refl
+      go Breaks = refl
 
 -- what a named child holds
-abbrev pub heldStanding : ℕ → List ℕ → Child → Holds → Standing
+abbrev pub heldStanding : ℕ → List ℕ → Child → held.Holds → Standing
 heldStanding d s c (Text f) = fieldStanding s f c
 heldStanding d s c (Rows q) = standingAt (d - 1) q s (c .gt + 1)
 
-held-by : (d : ℕ) (s : List ℕ) (k : Kept) (h : Holds) → standingBy (holdsAt (deeper d s) s h (k .child .gt + 1)) (firstBad (fieldsIn (below d s) s k h)) ≡ heldStanding d s (k .child) h
+held-by : (d : ℕ) (s : List ℕ) (k : Kept) (h : held.Holds) → standingBy (holdsAt (deeper d s) s h (k .child .gt + 1)) (firstBad (fieldsIn (below d s) s k h)) ≡ heldStanding d s (k .child) h
 unfolding standingAt fieldStanding firstBad
 held-by d s k (Text f) = refl
 held-by d s k (Rows q) = refl
@@ -124,7 +136,7 @@ Goes w d p s so i row n = (i ≤ length s) × (n ≤ i) × (row < length (ranges
 pub record Found (w : Standing) (d : ℕ) (p : Parent) (s : List ℕ) (so : Standing) (i row n : ℕ) (k : Kept) : Type 0 where
   pub lies : Lies s i (k .child)
   pub short : filledFrom (ranges (table p)) row n (k .row) ≡ false → StructureBreaks ≡ w
-  pub on : filledFrom (ranges (table p)) row n (k .row) ≡ true → (m : ℕ) → m ≡ countedOf row n (k .row) → (h : Holds) → k .holds ≡ h → (x : Standing) → x ≡ heldStanding d s (k .child) h
+  pub on : filledFrom (ranges (table p)) row n (k .row) ≡ true → (m : ℕ) → m ≡ countedOf row n (k .row) → (h : held.Holds) → k .holds ≡ h → (x : Standing) → x ≡ heldStanding d s (k .child) h
       → (y : Standing) → y ≡ after so x → Goes w d p s y (k .child .after) (k .row) m
 
 module _ (w : Standing) (d : ℕ) (p : Parent) (s : List ℕ) (so : Standing) (i row n : ℕ) (g : Goes w d p s so i row n) where

@@ -1,7 +1,7 @@
 // What a flow's content comes to, in one walk: its structure breaks, or a field does, or it stands.
 use children::Child;
 use fields::Form;
-use fields::Judged;
+use rows::FieldRead;
 use rows::Holds;
 use rows::Next;
 use rows::Parent;
@@ -51,14 +51,12 @@ fn field_standing(s: &[u8], c: Child, f: Form, past: &[u32]) -> Standing
     requires { ⌜ (c .gt + 1 ≤ c .to) × (c .to ≤ length (now s)) × Noted (now s) (now past) ⌝ }
     ensures { λ r. ⌜ r ≡ fieldStanding (now (s .entry)) f c ⌝ }
 {
-    let from = c.gt + 1;
-    let to = c.to;
-    if !structure::text_only(s, from, past) {
+    if !structure::text_only(s, c.gt + 1, past) {
         return Standing::StructureBreaks;
     }
-    match fields::field_stands(f, &s[from..to]) {
-        Judged::Stands => Standing::Stands,
-        Judged::Breaks => Standing::FieldBreaks(c.lt),
+    match rows::read_field(s, c, f) {
+        FieldRead::Said(_, _) => Standing::Stands,
+        FieldRead::Broken(p) => Standing::FieldBreaks(p),
     }
 }
 

@@ -1,20 +1,18 @@
 use mathlib.Core.Path.{refl, ap, _∙_}
 use native.Mathlib.Omega.{arith}
-use Rattle.digits.specs.Digits.{esercizio}
 use Rattle.rows.specs.declared.Parent.the-variants.{FlussoOrdinativi}
-use Rattle.orders.specs.Orders.{valueOf}
-use Rattle.orders.proofs.Laws.{found, found-some}
+use Rattle.orders.specs.Said.{numberOf}
+use Rattle.orders.proofs.Laws.{found, found-some, says-esercizio}
 use Rattle.header.proofs.Laws.{heading-made}
 use borrow.Author.Needs.{needs}
 use Rattle.header.proofs.header_from.Statement.{statement}
 use Rattle.header.proofs.header_from.Tie as tie
 use Rattle.header.proofs.header_from.Reads as reads
 use Rattle.header.proofs.header_from.Lts as lts
-use Rattle.digits.proofs.esercizio_of.Reads as esercizio-of-reads
 use Rattle.header.proofs.span_of.Reads as span-of-reads
 use Rattle.orders.proofs.first_named.Reads as first-named-reads
-use Rattle.orders.proofs.text_of.Reads as text-of-reads
-use Rattle.orders.proofs.value_of.Reads as value-of-reads
+use Rattle.orders.proofs.number_of.Reads as number-of-reads
+use Rattle.rows.proofs.read_field.Reads as read-field-reads
 
 first-named-requires : tie.Need-first-named-requires
 first-named-requires c κs = (c .before .before .pre .0 .within, c .before .before .pre .1, found-some 3 FlussoOrdinativi (c .before .before .args .s .now) 0 (c .before .before .args .from) (c .before .before .pre .0))
@@ -100,8 +98,8 @@ span-of-requires-2 c κs =
     let i4 = d .child .after in
     fd .lies .inner
 
-text-of-requires : tie.Need-text-of-requires
-text-of-requires c κs =
+read-field-requires : tie.Need-read-field-requires
+read-field-requires c κs =
     let s = c .before .before .before .before .before .before .before .before .before .before .before .before .before .before .args .s .now in
     let i0 = c .before .before .before .before .before .before .before .before .before .before .before .before .before .before .args .from in
     let a = c .before .before .before .before .before .before .before .before .before .before .before .first-named .result in
@@ -122,32 +120,29 @@ text-of-requires c κs =
     let l = fe .lies in
     (l .inner, omega arith)
 
-esercizio-of-requires : tie.Need-esercizio-of-requires
-esercizio-of-requires c κs = search needs
-
-value-of-requires : tie.Need-value-of-requires
-value-of-requires c κs = search needs
+number-of-requires : tie.Need-number-of-requires
+number-of-requires c κs = search needs
 
 returns : tie.Need-returns
 returns c =
-    let s = c .before .before .before .before .before .before .before .before .before .before .before .before .before .before .before .before .before .args .s .now in
-    let i0 = c .before .before .before .before .before .before .before .before .before .before .before .before .before .before .before .before .before .args .from in
-    let a = c .before .before .before .before .before .before .before .before .before .before .before .before .before .before .first-named .result in
-    let fa = found 3 FlussoOrdinativi s 0 i0 (c .before .before .before .before .before .before .before .before .before .before .before .before .before .before .before .before .before .pre .0) a (c .before .before .before .before .before .before .before .before .before .before .before .before .before .before .first-named .ensures) in
+    let s = c .before .before .before .before .before .before .before .before .before .before .before .before .before .before .before .before .args .s .now in
+    let i0 = c .before .before .before .before .before .before .before .before .before .before .before .before .before .before .before .before .args .from in
+    let a = c .before .before .before .before .before .before .before .before .before .before .before .before .before .first-named .result in
+    let fa = found 3 FlussoOrdinativi s 0 i0 (c .before .before .before .before .before .before .before .before .before .before .before .before .before .before .before .before .pre .0) a (c .before .before .before .before .before .before .before .before .before .before .before .before .before .first-named .ensures) in
     let i1 = a .child .after in
-    let b = c .before .before .before .before .before .before .before .before .before .before .before .before .first-named2 .result in
-    let fb = found 3 FlussoOrdinativi s 1 i1 (fa .on) b (c .before .before .before .before .before .before .before .before .before .before .before .before .first-named2 .ensures) in
+    let b = c .before .before .before .before .before .before .before .before .before .before .before .first-named2 .result in
+    let fb = found 3 FlussoOrdinativi s 1 i1 (fa .on) b (c .before .before .before .before .before .before .before .before .before .before .before .first-named2 .ensures) in
     let i2 = b .child .after in
-    let c3 = c .before .before .before .before .before .before .before .before .before .before .first-named3 .result in
-    let fc = found 3 FlussoOrdinativi s 2 i2 (fb .on) c3 (c .before .before .before .before .before .before .before .before .before .before .first-named3 .ensures) in
+    let c3 = c .before .before .before .before .before .before .before .before .before .first-named3 .result in
+    let fc = found 3 FlussoOrdinativi s 2 i2 (fb .on) c3 (c .before .before .before .before .before .before .before .before .before .first-named3 .ensures) in
     let i3 = c3 .child .after in
-    let d = c .before .before .before .before .before .before .before .before .first-named4 .result in
-    let fd = found 3 FlussoOrdinativi s 3 i3 (fc .on) d (c .before .before .before .before .before .before .before .before .first-named4 .ensures) in
+    let d = c .before .before .before .before .before .before .before .first-named4 .result in
+    let fd = found 3 FlussoOrdinativi s 3 i3 (fc .on) d (c .before .before .before .before .before .before .before .first-named4 .ensures) in
     let i4 = d .child .after in
-    let e = c .before .before .before .before .before .before .first-named5 .result in
-    let fe = found 3 FlussoOrdinativi s 4 i4 (fd .on) e (c .before .before .before .before .before .before .first-named5 .ensures) in
+    let e = c .before .before .before .before .before .first-named5 .result in
+    let fe = found 3 FlussoOrdinativi s 4 i4 (fd .on) e (c .before .before .before .before .before .first-named5 .ensures) in
     let i5 = e .child .after in
-    heading-made s i0 a b c3 d e fa fb fc fd fe (c .before .before .before .before .before .before .before .before .before .before .before .before .before .before .first-named .ensures) (c .before .before .before .before .before .before .before .before .first-named4 .ensures) (c .before .before .before .before .before .before .first-named5 .ensures) _ (c .before .before .before .before .span-of .ensures .0) (c .before .before .before .before .span-of .ensures .1) (c .before .before .before .span-of2 .ensures .0) (c .before .before .before .span-of2 .ensures .1) (c .value-of .ensures ∙ ap valueOf (c .before .esercizio-of .ensures ∙ ap esercizio (c .before .before .text-of .ensures))) refl
+    heading-made s i0 a b c3 d e fa fb fc fd fe (c .before .before .before .before .before .before .before .before .before .before .before .before .before .first-named .ensures) (c .before .before .before .before .before .before .before .first-named4 .ensures) (c .before .before .before .before .before .first-named5 .ensures) _ (c .before .before .before .span-of .ensures .0) (c .before .before .before .span-of .ensures .1) (c .before .before .span-of2 .ensures .0) (c .before .before .span-of2 .ensures .1) (c .number-of .ensures ∙ ap numberOf (c .before .read-field .ensures) ∙ says-esercizio s (e .child) _ refl) refl
 
 pub header-from-spec : {M : Type 1} → statement M
 header-from-spec =
@@ -160,7 +155,6 @@ header-from-spec =
     first-named-requires-5
     span-of-requires
     span-of-requires-2
-    text-of-requires
-    esercizio-of-requires
-    value-of-requires
+    read-field-requires
+    number-of-requires
     returns)

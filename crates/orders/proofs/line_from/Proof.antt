@@ -1,88 +1,82 @@
-use mathlib.Core.Path.{sym, ap, _∙_}
+use mathlib.Core.Path.{ap, _∙_}
 use native.Mathlib.Omega.{arith}
-use Rattle.digits.specs.Digits.{progressivo, importo}
 use Rattle.rows.specs.Kept.{keptFrom}
-use Rattle.orders.specs.Orders.{valueOf}
-use Rattle.orders.proofs.Laws.{found, found-some, line-made}
+use Rattle.orders.specs.Said.{numberOf, dayOf, saidOperation}
+use Rattle.orders.proofs.Laws.{found, found-some, says-progressivo, says-importo, line-made}
 use borrow.Author.Needs.{needs}
 use Rattle.orders.proofs.line_from.Statement.{statement}
 use Rattle.orders.proofs.line_from.Tie as tie
+use Rattle.orders.proofs.line_from.Reads as reads
+use Rattle.orders.proofs.line_from.Lts as lts
+use Rattle.orders.proofs.first_named.Reads as first-named-reads
+use Rattle.orders.proofs.number_of.Reads as number-of-reads
+use Rattle.rows.proofs.read_field.Reads as read-field-reads
 
 first-named-requires : tie.Need-first-named-requires
-first-named-requires c κs =
-    let s = c .before .before .args .s .now in
-    let p = c .before .before .args .parent in
-    let i = c .before .before .args .from in
-    (c .before .before .pre .0 .within, c .before .before .pre .1, found-some 1 p s 0 i (c .before .before .pre .0))
+first-named-requires c κs = (c .before .before .pre .0 .within, c .before .before .pre .1, found-some 1 (c .before .before .args .parent) (c .before .before .args .s .now) 0 (c .before .before .args .from) (c .before .before .pre .0))
 
-text-of-requires : tie.Need-text-of-requires
-text-of-requires c κs =
+read-field-requires : tie.Need-read-field-requires
+read-field-requires c κs =
     let s = c .before .before .before .before .args .s .now in
     let p = c .before .before .before .before .args .parent in
-    let i = c .before .before .before .before .args .from in
-    let a = c .before .first-named .result in
-    let f = found 1 p s 0 i (c .before .before .before .before .pre .0) a (c .before .first-named .ensures) in
-    let l = f .lies in
+    let i0 = c .before .before .before .before .args .from in
+    let xa = c .before .first-named .result in
+    let fa = found 1 p s 0 i0 (c .before .before .before .before .pre .0) xa (c .before .first-named .ensures) in
+    let i1 = xa .child .after in
+    let l = fa .lies in
     (l .inner, omega arith)
 
-progressivo-of-requires : tie.Need-progressivo-of-requires
-progressivo-of-requires c κs = search needs
-
-value-of-requires : tie.Need-value-of-requires
-value-of-requires c κs = search needs
+number-of-requires : tie.Need-number-of-requires
+number-of-requires c κs = search needs
 
 first-named-requires-2 : tie.Need-first-named-requires-2
 first-named-requires-2 c κs =
-    let s = c .before .before .before .before .before .before .before .args .s .now in
-    let p = c .before .before .before .before .before .before .before .args .parent in
-    let i = c .before .before .before .before .before .before .before .args .from in
-    let a = c .before .before .before .before .first-named .result in
-    let f = found 1 p s 0 i (c .before .before .before .before .before .before .before .pre .0) a (c .before .before .before .before .first-named .ensures) in
-    (f .lies .within, c .before .before .before .before .before .before .before .pre .1, found-some 1 p s 1 (a .child .after) (f .on))
+    let s = c .before .before .before .before .before .before .args .s .now in
+    let p = c .before .before .before .before .before .before .args .parent in
+    let i0 = c .before .before .before .before .before .before .args .from in
+    let xa = c .before .before .before .first-named .result in
+    let fa = found 1 p s 0 i0 (c .before .before .before .before .before .before .pre .0) xa (c .before .before .before .first-named .ensures) in
+    let i1 = xa .child .after in
+    (fa .lies .within, c .before .before .before .before .before .before .pre .1, found-some 1 p s 1 i1 (fa .on))
 
-text-of-requires-2 : tie.Need-text-of-requires-2
-text-of-requires-2 c κs =
-    let s = c .before .before .before .before .before .before .before .before .before .args .s .now in
-    let p = c .before .before .before .before .before .before .before .before .before .args .parent in
-    let i = c .before .before .before .before .before .before .before .before .before .args .from in
-    let a = c .before .before .before .before .before .before .first-named .result in
-    let f = found 1 p s 0 i (c .before .before .before .before .before .before .before .before .before .pre .0) a (c .before .before .before .before .before .before .first-named .ensures) in
-    let j = a .child .after in
-    let b = c .before .first-named2 .result in
-    let g = found 1 p s 1 j (f .on) b (c .before .first-named2 .ensures) in
-    let l = g .lies in
+read-field-requires-2 : tie.Need-read-field-requires-2
+read-field-requires-2 c κs =
+    let s = c .before .before .before .before .before .before .before .before .args .s .now in
+    let p = c .before .before .before .before .before .before .before .before .args .parent in
+    let i0 = c .before .before .before .before .before .before .before .before .args .from in
+    let xa = c .before .before .before .before .before .first-named .result in
+    let fa = found 1 p s 0 i0 (c .before .before .before .before .before .before .before .before .pre .0) xa (c .before .before .before .before .before .first-named .ensures) in
+    let i1 = xa .child .after in
+    let xb = c .before .first-named2 .result in
+    let fb = found 1 p s 1 i1 (fa .on) xb (c .before .first-named2 .ensures) in
+    let i2 = xb .child .after in
+    let l = fb .lies in
     (l .inner, omega arith)
 
-importo-of-requires : tie.Need-importo-of-requires
-importo-of-requires c κs = search needs
-
-value-of-requires-2 : tie.Need-value-of-requires-2
-value-of-requires-2 c κs = search needs
+number-of-requires-2 : tie.Need-number-of-requires-2
+number-of-requires-2 c κs = search needs
 
 returns : tie.Need-returns
 returns c =
-    let s = c .before .before .before .before .before .before .before .before .before .before .before .before .args .s .now in
-    let p = c .before .before .before .before .before .before .before .before .before .before .before .before .args .parent in
-    let i = c .before .before .before .before .before .before .before .before .before .before .before .before .args .from in
-    let a = c .before .before .before .before .before .before .before .before .before .first-named .result in
-    let f = found 1 p s 0 i (c .before .before .before .before .before .before .before .before .before .before .before .before .pre .0) a (c .before .before .before .before .before .before .before .before .before .first-named .ensures) in
-    let j = a .child .after in
-    let b = c .before .before .before .before .first-named2 .result in
-    let g = found 1 p s 1 j (f .on) b (c .before .before .before .before .first-named2 .ensures) in
-    let t = c .before .before .before .before .before .before .before .text-of .ensures ∙ sym (f .text) in
-    let u = c .before .before .text-of2 .ensures ∙ sym (f .texts 1 (omega arith) ∙ g .text) in
-    line-made s (keptFrom p s i) _ (c .before .before .before .before .before .value-of .ensures ∙ ap valueOf (c .before .before .before .before .before .before .progressivo-of .ensures ∙ ap progressivo t)) (c .value-of2 .ensures ∙ ap valueOf (c .before .importo-of .ensures ∙ ap importo u))
+    let s = c .before .before .before .before .before .before .before .before .before .before .args .s .now in
+    let p = c .before .before .before .before .before .before .before .before .before .before .args .parent in
+    let i0 = c .before .before .before .before .before .before .before .before .before .before .args .from in
+    let xa = c .before .before .before .before .before .before .before .first-named .result in
+    let fa = found 1 p s 0 i0 (c .before .before .before .before .before .before .before .before .before .before .pre .0) xa (c .before .before .before .before .before .before .before .first-named .ensures) in
+    let i1 = xa .child .after in
+    let xb = c .before .before .before .first-named2 .result in
+    let fb = found 1 p s 1 i1 (fa .on) xb (c .before .before .before .first-named2 .ensures) in
+    let i2 = xb .child .after in
+    line-made s (keptFrom p s i0) _ (c .before .before .before .before .number-of .ensures ∙ ap numberOf (c .before .before .before .before .before .read-field .ensures) ∙ says-progressivo s (xa .child) _ (fa .text)) (c .number-of2 .ensures ∙ ap numberOf (c .before .read-field2 .ensures) ∙ says-importo s (xb .child) _ (fa .texts 1 (omega arith) ∙ fb .text))
 
 pub line-from-spec : {M : Type 1} → statement M
 line-from-spec =
     tie.close
     (tie.spec
     first-named-requires
-    text-of-requires
-    progressivo-of-requires
-    value-of-requires
+    read-field-requires
+    number-of-requires
     first-named-requires-2
-    text-of-requires-2
-    importo-of-requires
-    value-of-requires-2
+    read-field-requires-2
+    number-of-requires-2
     returns)

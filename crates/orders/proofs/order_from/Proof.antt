@@ -1,212 +1,205 @@
 use mathlib.Core.Path.{sym, ap, _∙_}
 use native.Mathlib.Omega.{arith}
-use Rattle.codes.specs.Codes.{tipoOperazione}
-use Rattle.digits.specs.Digits.{numero, importo}
-use Rattle.dates.specs.Dates.{dataOf}
 use Rattle.rows.specs.declared.Holds.the-variants.{Rows}
 use Rattle.rows.specs.Kept.{keptFrom}
-use Rattle.orders.specs.Orders.{operationOf, valueOf, dateOf, kindOf}
-use Rattle.orders.proofs.Laws.{found, found-some, lines-same, order-made}
+use Rattle.orders.specs.Orders.{kindOf}
+use Rattle.orders.specs.Said.{numberOf, dayOf, saidOperation}
+use Rattle.orders.proofs.Laws.{found, found-some, says-operazione, says-numero, says-data, says-importo, lines-same, order-made}
 use borrow.Author.Needs.{needs}
 use Rattle.orders.proofs.order_from.Statement.{statement}
 use Rattle.orders.proofs.order_from.Tie as tie
+use Rattle.orders.proofs.order_from.Reads as reads
+use Rattle.orders.proofs.order_from.Lts as lts
+use Rattle.orders.proofs.day_of.Reads as day-of-reads
+use Rattle.orders.proofs.first_named.Reads as first-named-reads
+use Rattle.orders.proofs.kind_of.Reads as kind-of-reads
+use Rattle.orders.proofs.lines_from.Reads as lines-from-reads
+use Rattle.orders.proofs.number_of.Reads as number-of-reads
+use Rattle.orders.proofs.operation_of.Reads as operation-of-reads
+use Rattle.rows.proofs.read_field.Reads as read-field-reads
 
 first-named-requires : tie.Need-first-named-requires
-first-named-requires c κs =
-    let s = c .before .before .args .s .now in
-    let p = c .before .before .args .parent in
-    let i = c .before .before .args .from in
-    (c .before .before .pre .1 .within, c .before .before .pre .2, found-some 2 p s 0 i (c .before .before .pre .1))
+first-named-requires c κs = (c .before .before .pre .1 .within, c .before .before .pre .2, found-some 2 (c .before .before .args .parent) (c .before .before .args .s .now) 0 (c .before .before .args .from) (c .before .before .pre .1))
 
-text-of-requires : tie.Need-text-of-requires
-text-of-requires c κs =
+read-field-requires : tie.Need-read-field-requires
+read-field-requires c κs =
     let s = c .before .before .before .before .args .s .now in
     let p = c .before .before .before .before .args .parent in
-    let i = c .before .before .before .before .args .from in
-    let a = c .before .first-named .result in
-    let j = a .child .after in
-    let f = found 2 p s 0 i (c .before .before .before .before .pre .1) a (c .before .first-named .ensures) in
-    let l = f .lies in
+    let i0 = c .before .before .before .before .args .from in
+    let xa = c .before .first-named .result in
+    let fa = found 2 p s 0 i0 (c .before .before .before .before .pre .1) xa (c .before .first-named .ensures) in
+    let i1 = xa .child .after in
+    let l = fa .lies in
     (l .inner, omega arith)
-
-tipo-operazione-requires : tie.Need-tipo-operazione-requires
-tipo-operazione-requires c κs = search needs
 
 operation-of-requires : tie.Need-operation-of-requires
 operation-of-requires c κs = search needs
 
 first-named-requires-2 : tie.Need-first-named-requires-2
 first-named-requires-2 c κs =
-    let s = c .before .before .before .before .before .before .before .args .s .now in
-    let p = c .before .before .before .before .before .before .before .args .parent in
-    let i = c .before .before .before .before .before .before .before .args .from in
-    let a = c .before .before .before .before .first-named .result in
-    let j = a .child .after in
-    let f = found 2 p s 0 i (c .before .before .before .before .before .before .before .pre .1) a (c .before .before .before .before .first-named .ensures) in
-    (f .lies .within, c .before .before .before .before .before .before .before .pre .2, found-some 2 p s 1 j (f .on))
+    let s = c .before .before .before .before .before .before .args .s .now in
+    let p = c .before .before .before .before .before .before .args .parent in
+    let i0 = c .before .before .before .before .before .before .args .from in
+    let xa = c .before .before .before .first-named .result in
+    let fa = found 2 p s 0 i0 (c .before .before .before .before .before .before .pre .1) xa (c .before .before .before .first-named .ensures) in
+    let i1 = xa .child .after in
+    (fa .lies .within, c .before .before .before .before .before .before .pre .2, found-some 2 p s 1 i1 (fa .on))
 
-text-of-requires-2 : tie.Need-text-of-requires-2
-text-of-requires-2 c κs =
-    let s = c .before .before .before .before .before .before .before .before .before .args .s .now in
-    let p = c .before .before .before .before .before .before .before .before .before .args .parent in
-    let i = c .before .before .before .before .before .before .before .before .before .args .from in
-    let a = c .before .before .before .before .before .before .first-named .result in
-    let j = a .child .after in
-    let f = found 2 p s 0 i (c .before .before .before .before .before .before .before .before .before .pre .1) a (c .before .before .before .before .before .before .first-named .ensures) in
-    let b = c .before .first-named2 .result in
-    let k = b .child .after in
-    let g = found 2 p s 1 j (f .on) b (c .before .first-named2 .ensures) in
-    let l = g .lies in
+read-field-requires-2 : tie.Need-read-field-requires-2
+read-field-requires-2 c κs =
+    let s = c .before .before .before .before .before .before .before .before .args .s .now in
+    let p = c .before .before .before .before .before .before .before .before .args .parent in
+    let i0 = c .before .before .before .before .before .before .before .before .args .from in
+    let xa = c .before .before .before .before .before .first-named .result in
+    let fa = found 2 p s 0 i0 (c .before .before .before .before .before .before .before .before .pre .1) xa (c .before .before .before .before .before .first-named .ensures) in
+    let i1 = xa .child .after in
+    let xb = c .before .first-named2 .result in
+    let fb = found 2 p s 1 i1 (fa .on) xb (c .before .first-named2 .ensures) in
+    let i2 = xb .child .after in
+    let l = fb .lies in
     (l .inner, omega arith)
 
-numero-of-requires : tie.Need-numero-of-requires
-numero-of-requires c κs = search needs
-
-value-of-requires : tie.Need-value-of-requires
-value-of-requires c κs = search needs
+number-of-requires : tie.Need-number-of-requires
+number-of-requires c κs = search needs
 
 first-named-requires-3 : tie.Need-first-named-requires-3
 first-named-requires-3 c κs =
+    let s = c .before .before .before .before .before .before .before .before .before .before .args .s .now in
+    let p = c .before .before .before .before .before .before .before .before .before .before .args .parent in
+    let i0 = c .before .before .before .before .before .before .before .before .before .before .args .from in
+    let xa = c .before .before .before .before .before .before .before .first-named .result in
+    let fa = found 2 p s 0 i0 (c .before .before .before .before .before .before .before .before .before .before .pre .1) xa (c .before .before .before .before .before .before .before .first-named .ensures) in
+    let i1 = xa .child .after in
+    let xb = c .before .before .before .first-named2 .result in
+    let fb = found 2 p s 1 i1 (fa .on) xb (c .before .before .before .first-named2 .ensures) in
+    let i2 = xb .child .after in
+    (fb .lies .within, c .before .before .before .before .before .before .before .before .before .before .pre .2, found-some 2 p s 2 i2 (fb .on))
+
+read-field-requires-3 : tie.Need-read-field-requires-3
+read-field-requires-3 c κs =
     let s = c .before .before .before .before .before .before .before .before .before .before .before .before .args .s .now in
     let p = c .before .before .before .before .before .before .before .before .before .before .before .before .args .parent in
-    let i = c .before .before .before .before .before .before .before .before .before .before .before .before .args .from in
-    let a = c .before .before .before .before .before .before .before .before .before .first-named .result in
-    let j = a .child .after in
-    let f = found 2 p s 0 i (c .before .before .before .before .before .before .before .before .before .before .before .before .pre .1) a (c .before .before .before .before .before .before .before .before .before .first-named .ensures) in
-    let b = c .before .before .before .before .first-named2 .result in
-    let k = b .child .after in
-    let g = found 2 p s 1 j (f .on) b (c .before .before .before .before .first-named2 .ensures) in
-    (g .lies .within, c .before .before .before .before .before .before .before .before .before .before .before .before .pre .2, found-some 2 p s 2 k (g .on))
-
-text-of-requires-3 : tie.Need-text-of-requires-3
-text-of-requires-3 c κs =
-    let s = c .before .before .before .before .before .before .before .before .before .before .before .before .before .before .args .s .now in
-    let p = c .before .before .before .before .before .before .before .before .before .before .before .before .before .before .args .parent in
-    let i = c .before .before .before .before .before .before .before .before .before .before .before .before .before .before .args .from in
-    let a = c .before .before .before .before .before .before .before .before .before .before .before .first-named .result in
-    let j = a .child .after in
-    let f = found 2 p s 0 i (c .before .before .before .before .before .before .before .before .before .before .before .before .before .before .pre .1) a (c .before .before .before .before .before .before .before .before .before .before .before .first-named .ensures) in
-    let b = c .before .before .before .before .before .before .first-named2 .result in
-    let k = b .child .after in
-    let g = found 2 p s 1 j (f .on) b (c .before .before .before .before .before .before .first-named2 .ensures) in
-    let u = c .before .first-named3 .result in
-    let m = u .child .after in
-    let h = found 2 p s 2 k (g .on) u (c .before .first-named3 .ensures) in
-    let l = h .lies in
+    let i0 = c .before .before .before .before .before .before .before .before .before .before .before .before .args .from in
+    let xa = c .before .before .before .before .before .before .before .before .before .first-named .result in
+    let fa = found 2 p s 0 i0 (c .before .before .before .before .before .before .before .before .before .before .before .before .pre .1) xa (c .before .before .before .before .before .before .before .before .before .first-named .ensures) in
+    let i1 = xa .child .after in
+    let xb = c .before .before .before .before .before .first-named2 .result in
+    let fb = found 2 p s 1 i1 (fa .on) xb (c .before .before .before .before .before .first-named2 .ensures) in
+    let i2 = xb .child .after in
+    let xc = c .before .first-named3 .result in
+    let fc = found 2 p s 2 i2 (fb .on) xc (c .before .first-named3 .ensures) in
+    let i3 = xc .child .after in
+    let l = fc .lies in
     (l .inner, omega arith)
 
-data-of-requires : tie.Need-data-of-requires
-data-of-requires c κs = search needs
-
-date-of-requires : tie.Need-date-of-requires
-date-of-requires c κs = search needs
+day-of-requires : tie.Need-day-of-requires
+day-of-requires c κs = search needs
 
 first-named-requires-4 : tie.Need-first-named-requires-4
 first-named-requires-4 c κs =
-    let s = c .before .before .before .before .before .before .before .before .before .before .before .before .before .before .before .before .before .args .s .now in
-    let p = c .before .before .before .before .before .before .before .before .before .before .before .before .before .before .before .before .before .args .parent in
-    let i = c .before .before .before .before .before .before .before .before .before .before .before .before .before .before .before .before .before .args .from in
-    let a = c .before .before .before .before .before .before .before .before .before .before .before .before .before .before .first-named .result in
-    let j = a .child .after in
-    let f = found 2 p s 0 i (c .before .before .before .before .before .before .before .before .before .before .before .before .before .before .before .before .before .pre .1) a (c .before .before .before .before .before .before .before .before .before .before .before .before .before .before .first-named .ensures) in
-    let b = c .before .before .before .before .before .before .before .before .before .first-named2 .result in
-    let k = b .child .after in
-    let g = found 2 p s 1 j (f .on) b (c .before .before .before .before .before .before .before .before .before .first-named2 .ensures) in
-    let u = c .before .before .before .before .first-named3 .result in
-    let m = u .child .after in
-    let h = found 2 p s 2 k (g .on) u (c .before .before .before .before .first-named3 .ensures) in
-    (h .lies .within, c .before .before .before .before .before .before .before .before .before .before .before .before .before .before .before .before .before .pre .2, found-some 2 p s 3 m (h .on))
+    let s = c .before .before .before .before .before .before .before .before .before .before .before .before .before .before .args .s .now in
+    let p = c .before .before .before .before .before .before .before .before .before .before .before .before .before .before .args .parent in
+    let i0 = c .before .before .before .before .before .before .before .before .before .before .before .before .before .before .args .from in
+    let xa = c .before .before .before .before .before .before .before .before .before .before .before .first-named .result in
+    let fa = found 2 p s 0 i0 (c .before .before .before .before .before .before .before .before .before .before .before .before .before .before .pre .1) xa (c .before .before .before .before .before .before .before .before .before .before .before .first-named .ensures) in
+    let i1 = xa .child .after in
+    let xb = c .before .before .before .before .before .before .before .first-named2 .result in
+    let fb = found 2 p s 1 i1 (fa .on) xb (c .before .before .before .before .before .before .before .first-named2 .ensures) in
+    let i2 = xb .child .after in
+    let xc = c .before .before .before .first-named3 .result in
+    let fc = found 2 p s 2 i2 (fb .on) xc (c .before .before .before .first-named3 .ensures) in
+    let i3 = xc .child .after in
+    (fc .lies .within, c .before .before .before .before .before .before .before .before .before .before .before .before .before .before .pre .2, found-some 2 p s 3 i3 (fc .on))
 
-text-of-requires-4 : tie.Need-text-of-requires-4
-text-of-requires-4 c κs =
-    let s = c .before .before .before .before .before .before .before .before .before .before .before .before .before .before .before .before .before .before .before .args .s .now in
-    let p = c .before .before .before .before .before .before .before .before .before .before .before .before .before .before .before .before .before .before .before .args .parent in
-    let i = c .before .before .before .before .before .before .before .before .before .before .before .before .before .before .before .before .before .before .before .args .from in
-    let a = c .before .before .before .before .before .before .before .before .before .before .before .before .before .before .before .before .first-named .result in
-    let j = a .child .after in
-    let f = found 2 p s 0 i (c .before .before .before .before .before .before .before .before .before .before .before .before .before .before .before .before .before .before .before .pre .1) a (c .before .before .before .before .before .before .before .before .before .before .before .before .before .before .before .before .first-named .ensures) in
-    let b = c .before .before .before .before .before .before .before .before .before .before .before .first-named2 .result in
-    let k = b .child .after in
-    let g = found 2 p s 1 j (f .on) b (c .before .before .before .before .before .before .before .before .before .before .before .first-named2 .ensures) in
-    let u = c .before .before .before .before .before .before .first-named3 .result in
-    let m = u .child .after in
-    let h = found 2 p s 2 k (g .on) u (c .before .before .before .before .before .before .first-named3 .ensures) in
-    let v = c .before .first-named4 .result in
-    let o = found 2 p s 3 m (h .on) v (c .before .first-named4 .ensures) in
-    let l = o .lies in
+read-field-requires-4 : tie.Need-read-field-requires-4
+read-field-requires-4 c κs =
+    let s = c .before .before .before .before .before .before .before .before .before .before .before .before .before .before .before .before .args .s .now in
+    let p = c .before .before .before .before .before .before .before .before .before .before .before .before .before .before .before .before .args .parent in
+    let i0 = c .before .before .before .before .before .before .before .before .before .before .before .before .before .before .before .before .args .from in
+    let xa = c .before .before .before .before .before .before .before .before .before .before .before .before .before .first-named .result in
+    let fa = found 2 p s 0 i0 (c .before .before .before .before .before .before .before .before .before .before .before .before .before .before .before .before .pre .1) xa (c .before .before .before .before .before .before .before .before .before .before .before .before .before .first-named .ensures) in
+    let i1 = xa .child .after in
+    let xb = c .before .before .before .before .before .before .before .before .before .first-named2 .result in
+    let fb = found 2 p s 1 i1 (fa .on) xb (c .before .before .before .before .before .before .before .before .before .first-named2 .ensures) in
+    let i2 = xb .child .after in
+    let xc = c .before .before .before .before .before .first-named3 .result in
+    let fc = found 2 p s 2 i2 (fb .on) xc (c .before .before .before .before .before .first-named3 .ensures) in
+    let i3 = xc .child .after in
+    let xd = c .before .first-named4 .result in
+    let fd = found 2 p s 3 i3 (fc .on) xd (c .before .first-named4 .ensures) in
+    let i4 = xd .child .after in
+    let l = fd .lies in
     (l .inner, omega arith)
 
-importo-of-requires : tie.Need-importo-of-requires
-importo-of-requires c κs = search needs
-
-value-of-requires-2 : tie.Need-value-of-requires-2
-value-of-requires-2 c κs = search needs
+number-of-requires-2 : tie.Need-number-of-requires-2
+number-of-requires-2 c κs = search needs
 
 lines-from-requires : tie.Need-lines-from-requires
 lines-from-requires c κs =
-    let s = c .before .before .before .before .before .before .before .before .before .before .before .before .before .before .before .before .before .before .before .before .before .before .args .s .now in
-    let p = c .before .before .before .before .before .before .before .before .before .before .before .before .before .before .before .before .before .before .before .before .before .before .args .parent in
-    let i = c .before .before .before .before .before .before .before .before .before .before .before .before .before .before .before .before .before .before .before .before .before .before .args .from in
-    let a = c .before .before .before .before .before .before .before .before .before .before .before .before .before .before .before .before .before .before .before .first-named .result in
-    let j = a .child .after in
-    let f = found 2 p s 0 i (c .before .before .before .before .before .before .before .before .before .before .before .before .before .before .before .before .before .before .before .before .before .before .pre .1) a (c .before .before .before .before .before .before .before .before .before .before .before .before .before .before .before .before .before .before .before .first-named .ensures) in
-    let b = c .before .before .before .before .before .before .before .before .before .before .before .before .before .before .first-named2 .result in
-    let k = b .child .after in
-    let g = found 2 p s 1 j (f .on) b (c .before .before .before .before .before .before .before .before .before .before .before .before .before .before .first-named2 .ensures) in
-    let u = c .before .before .before .before .before .before .before .before .before .first-named3 .result in
-    let m = u .child .after in
-    let h = found 2 p s 2 k (g .on) u (c .before .before .before .before .before .before .before .before .before .first-named3 .ensures) in
-    let v = c .before .before .before .before .first-named4 .result in
-    let o = found 2 p s 3 m (h .on) v (c .before .before .before .before .first-named4 .ensures) in
-    (c .before .before .before .before .before .before .before .before .before .before .before .before .before .before .before .before .before .before .before .before .before .before .pre .0, o .on, c .before .before .before .before .before .before .before .before .before .before .before .before .before .before .before .before .before .before .before .before .before .before .pre .2)
+    let s = c .before .before .before .before .before .before .before .before .before .before .before .before .before .before .before .before .before .before .args .s .now in
+    let p = c .before .before .before .before .before .before .before .before .before .before .before .before .before .before .before .before .before .before .args .parent in
+    let i0 = c .before .before .before .before .before .before .before .before .before .before .before .before .before .before .before .before .before .before .args .from in
+    let xa = c .before .before .before .before .before .before .before .before .before .before .before .before .before .before .before .first-named .result in
+    let fa = found 2 p s 0 i0 (c .before .before .before .before .before .before .before .before .before .before .before .before .before .before .before .before .before .before .pre .1) xa (c .before .before .before .before .before .before .before .before .before .before .before .before .before .before .before .first-named .ensures) in
+    let i1 = xa .child .after in
+    let xb = c .before .before .before .before .before .before .before .before .before .before .before .first-named2 .result in
+    let fb = found 2 p s 1 i1 (fa .on) xb (c .before .before .before .before .before .before .before .before .before .before .before .first-named2 .ensures) in
+    let i2 = xb .child .after in
+    let xc = c .before .before .before .before .before .before .before .first-named3 .result in
+    let fc = found 2 p s 2 i2 (fb .on) xc (c .before .before .before .before .before .before .before .first-named3 .ensures) in
+    let i3 = xc .child .after in
+    let xd = c .before .before .before .first-named4 .result in
+    let fd = found 2 p s 3 i3 (fc .on) xd (c .before .before .before .first-named4 .ensures) in
+    let i4 = xd .child .after in
+    (c .before .before .before .before .before .before .before .before .before .before .before .before .before .before .before .before .before .before .pre .0, fd .on, c .before .before .before .before .before .before .before .before .before .before .before .before .before .before .before .before .before .before .pre .2)
 
 kind-of-requires : tie.Need-kind-of-requires
 kind-of-requires c κs = search needs
 
 returns : tie.Need-returns
 returns c =
-    let s = c .before .before .before .before .before .before .before .before .before .before .before .before .before .before .before .before .before .before .before .before .before .before .before .before .args .s .now in
-    let p = c .before .before .before .before .before .before .before .before .before .before .before .before .before .before .before .before .before .before .before .before .before .before .before .before .args .parent in
-    let i = c .before .before .before .before .before .before .before .before .before .before .before .before .before .before .before .before .before .before .before .before .before .before .before .before .args .from in
-    let a = c .before .before .before .before .before .before .before .before .before .before .before .before .before .before .before .before .before .before .before .before .before .first-named .result in
-    let j = a .child .after in
-    let f = found 2 p s 0 i (c .before .before .before .before .before .before .before .before .before .before .before .before .before .before .before .before .before .before .before .before .before .before .before .before .pre .1) a (c .before .before .before .before .before .before .before .before .before .before .before .before .before .before .before .before .before .before .before .before .before .first-named .ensures) in
-    let b = c .before .before .before .before .before .before .before .before .before .before .before .before .before .before .before .before .first-named2 .result in
-    let k = b .child .after in
-    let g = found 2 p s 1 j (f .on) b (c .before .before .before .before .before .before .before .before .before .before .before .before .before .before .before .before .first-named2 .ensures) in
-    let u = c .before .before .before .before .before .before .before .before .before .before .before .first-named3 .result in
-    let m = u .child .after in
-    let h = found 2 p s 2 k (g .on) u (c .before .before .before .before .before .before .before .before .before .before .before .first-named3 .ensures) in
-    let v = c .before .before .before .before .before .before .first-named4 .result in
-    let o = found 2 p s 3 m (h .on) v (c .before .before .before .before .before .before .first-named4 .ensures) in
-    let t0 = c .before .before .before .before .before .before .before .before .before .before .before .before .before .before .before .before .before .before .before .text-of .ensures ∙ sym (f .text) in
-    let t1 = c .before .before .before .before .before .before .before .before .before .before .before .before .before .before .text-of2 .ensures ∙ sym (f .texts 1 (omega arith) ∙ g .text) in
-    let t2 = c .before .before .before .before .before .before .before .before .before .text-of3 .ensures ∙ sym (f .texts 2 (omega arith) ∙ g .texts 2 (omega arith) ∙ h .text) in
-    let t3 = c .before .before .before .before .text-of4 .ensures ∙ sym (f .texts 3 (omega arith) ∙ g .texts 3 (omega arith) ∙ h .texts 3 (omega arith) ∙ o .text) in
-    let r = f .later 4 (omega arith) ∙ g .later 4 (omega arith) ∙ h .later 4 (omega arith) ∙ o .later 4 (omega arith) in
-    let w = c .before .lines-from .ensures .0 ∙ sym (lines-same s (keptFrom p s i) (keptFrom p s (v .child .after)) r) in
-    (order-made (kindOf (Rows p)) s (keptFrom p s i) _ (c .kind-of .ensures) (c .before .before .before .before .before .before .before .before .before .before .before .before .before .before .before .before .before .operation-of .ensures ∙ ap operationOf (c .before .before .before .before .before .before .before .before .before .before .before .before .before .before .before .before .before .before .tipo-operazione .ensures ∙ ap tipoOperazione t0)) (c .before .before .before .before .before .before .before .before .before .before .before .before .value-of .ensures ∙ ap valueOf (c .before .before .before .before .before .before .before .before .before .before .before .before .before .numero-of .ensures ∙ ap numero t1)) (c .before .before .before .before .before .before .before .date-of .ensures ∙ ap dateOf (c .before .before .before .before .before .before .before .before .data-of .ensures ∙ ap dataOf t2)) (c .before .before .value-of2 .ensures ∙ ap valueOf (c .before .before .before .importo-of .ensures ∙ ap importo t3)) w, c .before .lines-from .ensures .1)
+    let s = c .before .before .before .before .before .before .before .before .before .before .before .before .before .before .before .before .before .before .before .before .args .s .now in
+    let p = c .before .before .before .before .before .before .before .before .before .before .before .before .before .before .before .before .before .before .before .before .args .parent in
+    let i0 = c .before .before .before .before .before .before .before .before .before .before .before .before .before .before .before .before .before .before .before .before .args .from in
+    let xa = c .before .before .before .before .before .before .before .before .before .before .before .before .before .before .before .before .before .first-named .result in
+    let fa = found 2 p s 0 i0 (c .before .before .before .before .before .before .before .before .before .before .before .before .before .before .before .before .before .before .before .before .pre .1) xa (c .before .before .before .before .before .before .before .before .before .before .before .before .before .before .before .before .before .first-named .ensures) in
+    let i1 = xa .child .after in
+    let xb = c .before .before .before .before .before .before .before .before .before .before .before .before .before .first-named2 .result in
+    let fb = found 2 p s 1 i1 (fa .on) xb (c .before .before .before .before .before .before .before .before .before .before .before .before .before .first-named2 .ensures) in
+    let i2 = xb .child .after in
+    let xc = c .before .before .before .before .before .before .before .before .before .first-named3 .result in
+    let fc = found 2 p s 2 i2 (fb .on) xc (c .before .before .before .before .before .before .before .before .before .first-named3 .ensures) in
+    let i3 = xc .child .after in
+    let xd = c .before .before .before .before .before .first-named4 .result in
+    let fd = found 2 p s 3 i3 (fc .on) xd (c .before .before .before .before .before .first-named4 .ensures) in
+    let i4 = xd .child .after in
+    let t1 = fa .texts 1 (omega arith) ∙ fb .text in
+    let t2 = fa .texts 2 (omega arith) ∙ fb .texts 2 (omega arith) ∙ fc .text in
+    let t3 = fa .texts 3 (omega arith) ∙ fb .texts 3 (omega arith) ∙ fc .texts 3 (omega arith) ∙ fd .text in
+    let r = fa .later 4 (omega arith) ∙ fb .later 4 (omega arith) ∙ fc .later 4 (omega arith) ∙ fd .later 4 (omega arith) in
+    let w = c .before .lines-from .ensures .0 ∙ sym (lines-same s (keptFrom p s i0) (keptFrom p s i4) r) in
+    let u0 = c .before .before .before .before .before .before .before .before .before .before .before .before .before .before .operation-of .ensures ∙ ap saidOperation (c .before .before .before .before .before .before .before .before .before .before .before .before .before .before .before .read-field .ensures) ∙ says-operazione s (xa .child) _ (fa .text) in
+    let u1 = c .before .before .before .before .before .before .before .before .before .before .number-of .ensures ∙ ap numberOf (c .before .before .before .before .before .before .before .before .before .before .before .read-field2 .ensures) ∙ says-numero s (xb .child) _ t1 in
+    let u2 = c .before .before .before .before .before .before .day-of .ensures ∙ ap dayOf (c .before .before .before .before .before .before .before .read-field3 .ensures) ∙ says-data s (xc .child) _ t2 in
+    let u3 = c .before .before .number-of2 .ensures ∙ ap numberOf (c .before .before .before .read-field4 .ensures) ∙ says-importo s (xd .child) _ t3 in
+    (order-made (kindOf (Rows p)) s (keptFrom p s i0) _ (c .kind-of .ensures) u0 u1 u2 u3 w, c .before .lines-from .ensures .1)
 
 pub order-from-spec : {M : Type 1} → statement M
 order-from-spec =
     tie.close
     (tie.spec
     first-named-requires
-    text-of-requires
-    tipo-operazione-requires
+    read-field-requires
     operation-of-requires
     first-named-requires-2
-    text-of-requires-2
-    numero-of-requires
-    value-of-requires
+    read-field-requires-2
+    number-of-requires
     first-named-requires-3
-    text-of-requires-3
-    data-of-requires
-    date-of-requires
+    read-field-requires-3
+    day-of-requires
     first-named-requires-4
-    text-of-requires-4
-    importo-of-requires
-    value-of-requires-2
+    read-field-requires-4
+    number-of-requires-2
     lines-from-requires
     kind-of-requires
     returns)

@@ -1,0 +1,34 @@
+use borrow.Author.Needs.{needs}
+use Rattle.orders.proofs.day_said.Statement.{statement}
+use Rattle.orders.proofs.day_said.Tie as tie
+use Rattle.orders.proofs.day_said.Reads as reads
+use Rattle.orders.proofs.day_said.Lts as lts
+
+enum-told : tie.Need-enum-told
+enum-told c = search needs
+
+enum-told-2 : tie.Need-enum-told-2
+enum-told-2 c = search needs
+
+enum-known-v : tie.Need-enum-known-v
+enum-known-v c = search needs
+
+enum-told-3 : tie.Need-enum-told-3
+enum-told-3 c = search needs
+
+returns : tie.Need-returns
+returns c = rw (c .enum-told .given .1)
+
+returns-2 : tie.Need-returns-2
+returns-2 c = rw (c .enum-told2 .given .1)
+
+returns-3 : tie.Need-returns-3
+returns-3 c = search needs
+
+returns-4 : tie.Need-returns-4
+returns-4 c = rw (c .enum-told3 .given .1)
+
+pub day-said-spec : {M : Type 1} → statement M
+day-said-spec =
+    tie.close
+    (tie.spec enum-told enum-told-2 enum-known-v enum-told-3 returns returns-2 returns-3 returns-4)
