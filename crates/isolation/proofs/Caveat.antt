@@ -2,7 +2,7 @@
 -- what its reader has to believe. Assumes nothing.
 use mathlib.Core.Path.{_≡_, refl, ap}
 use mathlib.Core.Option.{Option, none, some}
-use Prim.Native.Nat.{ℕ, _<_}
+use Prim.Native.Nat.{ℕ}
 use native.Mathlib.Omega.{arith}
 use Rattle.isolation.specs.Machine.{Machine, Laws, Isolated}
 use Rattle.isolation.proofs.Isolated.{isolated}

@@ -1,9 +1,6 @@
 pub mod OrderLaws
 pub mod Runs
 pub mod Isolated
-pub mod Rules
 pub mod Carry
-pub mod Regions
-pub mod Lists
 pub mod History
 pub mod Caveat

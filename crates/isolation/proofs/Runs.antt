@@ -1,22 +1,21 @@
 -- What the laws give of a run and its log. Assumes nothing.
 use mathlib.Core.Path.{_≡_, refl, sym, _∙_, ap, ap₂}
 use mathlib.Core.Bool.{Bool, true, false, true≢false}
-use mathlib.Core.Logic.{_≢_}
 use mathlib.Core.Option.{Option, none, some}
 use mathlib.Core.List.{List, [], _∷_, _++_}
 use Prim.Native.Nat.{ℕ, zero, suc, _<_, _≤_}
 use native.Mathlib.Omega.{arith}
-use Rattle.isolation.specs.Order.{is, nobody, mine, strays, bodies, inOrder}
-use Rattle.isolation.proofs.OrderLaws.{is-some, is-same, mine-inOrder, mine-bodies-past}
-use Rattle.isolation.specs.Machine.{Machine, Laws, Line, whose, run, log}
+use Rattle.isolation.specs.Order.{is, mine, strays, firstBodies, bodyByBody}
+use Rattle.isolation.proofs.OrderLaws.{is-some, is-same, mine-bodies-past}
+use Rattle.isolation.specs.Machine.{Machine, Laws, Line, whose, stateAfter, log}
 
 -- a sequence in two parts
 module _ (M : Machine) where
-  pub run-append : (xs ys : List (M .Call)) (s : M .State) → run M (xs ++ ys) s ≡ run M ys (run M xs s)
+  pub run-append : (xs ys : List (M .Call)) (s : M .State) → stateAfter M (xs ++ ys) s ≡ stateAfter M ys (stateAfter M xs s)
   run-append [] ys s = refl
   run-append (x ∷ xs) ys s = run-append xs ys (M .next x s)
 
-  pub log-append : (xs ys : List (M .Call)) (s : M .State) → log M (xs ++ ys) s ≡ log M xs s ++ log M ys (run M xs s)
+  pub log-append : (xs ys : List (M .Call)) (s : M .State) → log M (xs ++ ys) s ≡ log M xs s ++ log M ys (stateAfter M xs s)
   log-append [] ys s = refl
   log-append (x ∷ xs) ys s = ap {B = List (Line M)} (λ l. (x, M .answer x s) ∷ l) (log-append xs ys (M .next x s))
 
@@ -24,15 +23,15 @@ module _ (M : Machine) where
 abbrev pub Alone : (M : Machine) → List (M .Call) → ℕ → M .State → M .State → Type 0
 Alone M cs b s t =
     (mine (whose M) b (log M cs s) ≡ log M (mine (M .who) b cs) t)
-    × (M .part b (run M cs s) ≡ M .part b (run M (mine (M .who) b cs) t))
+    × (M .part b (stateAfter M cs s) ≡ M .part b (stateAfter M (mine (M .who) b cs) t))
 
 module _ (M : Machine) (Good : M .State → Type 0) (laws : Laws M Good) where
-  pub good-run : (cs : List (M .Call)) (s : M .State) → Good s → Good (run M cs s)
+  pub good-run : (cs : List (M .Call)) (s : M .State) → Good s → Good (stateAfter M cs s)
   good-run [] s g = g
   good-run (c ∷ cs) s g = good-run cs (M .next c s) (laws .stays c s g)
 
   -- what no body owns
-  pub rest-run : (cs : List (M .Call)) (s : M .State) → Good s → M .rest (run M cs s) ≡ M .rest s
+  pub rest-run : (cs : List (M .Call)) (s : M .State) → Good s → M .rest (stateAfter M cs s) ≡ M .rest s
   rest-run [] s g = refl
   rest-run (c ∷ cs) s g = rest-run cs (M .next c s) (laws .stays c s g) ∙ laws .frame c s g
 
@@ -66,53 +65,34 @@ module _ (M : Machine) (Good : M .State → Type 0) (laws : Laws M Good) where
       go ih none e = rw e (ap₂ {C = List (Line M)} (λ a l. (c, a) ∷ l) (laws .stray-answer c s t g h e) (ih (M .next c s) (M .next c t) (laws .stays c s g) (laws .stays c t h)))
       go ih (some b) e = rw e (ih (M .next c s) t (laws .stays c s g) h)
 
-  bodies-log : (n : ℕ) → n ≤ M .count → (cs : List (M .Call)) (s : M .State) → Good s → log M (bodies (M .who) n cs) s ≡ bodies (whose M) n (log M cs s)
+  bodies-log : (n : ℕ) → n ≤ M .count → (cs : List (M .Call)) (s : M .State) → Good s → log M (firstBodies (M .who) n cs) s ≡ firstBodies (whose M) n (log M cs s)
   bodies-log zero l cs s g = refl
   bodies-log (suc n) l cs s g =
-      let t = run M (bodies (M .who) n cs) s in
-      let h : Good t = good-run (bodies (M .who) n cs) s g in
-      let e : M .part n s ≡ M .part n t = sym (rw (mine-bodies-past (M .who) n n (omega arith) cs) at (alone (bodies (M .who) n cs) n (omega arith) s s g g refl .1)) in
-      log-append M (bodies (M .who) n cs) (mine (M .who) n cs) s
+      let t = stateAfter M (firstBodies (M .who) n cs) s in
+      let h : Good t = good-run (firstBodies (M .who) n cs) s g in
+      let e : M .part n s ≡ M .part n t = sym (rw (mine-bodies-past (M .who) n n (omega arith) cs) at (alone (firstBodies (M .who) n cs) n (omega arith) s s g g refl .1)) in
+      log-append M (firstBodies (M .who) n cs) (mine (M .who) n cs) s
       ∙ ap₂ {C = List (Line M)} _++_ (bodies-log n (omega arith) cs s g) (sym (alone cs n (omega arith) s t g h e .0))
 
   -- the log of serving body after body is the log in the order called, sorted body by body
-  pub sorted-log : (cs : List (M .Call)) (s : M .State) → Good s → log M (inOrder (M .who) (M .count) cs) s ≡ inOrder (whose M) (M .count) (log M cs s)
+  pub sorted-log : (cs : List (M .Call)) (s : M .State) → Good s → log M (bodyByBody (M .who) (M .count) cs) s ≡ bodyByBody (whose M) (M .count) (log M cs s)
   sorted-log cs s g =
-      let first = bodies (M .who) (M .count) cs in
+      let first = firstBodies (M .who) (M .count) cs in
       log-append M first (strays (M .who) cs) s
-      ∙ ap₂ {C = List (Line M)} _++_ (bodies-log (M .count) (omega arith) cs s g) (sym (strays-log cs s (run M first s) g (good-run first s g)))
-
-  -- the same by the place of a call: c, called after `before` and before `after`, is answered as when it is served in its body's turn,
-  -- after every call of the bodies listed before b and after b's own earlier calls
-  pub in-turn : (fresh : M .State) → Good fresh → (before : List (M .Call)) (c : M .Call) (after : List (M .Call)) (b : ℕ) → M .who c ≡ some b
-      → M .answer c (run M before fresh) ≡ M .answer c (run M (bodies (M .who) b (before ++ c ∷ after) ++ mine (M .who) b before) fresh)
-  in-turn s g before c after b e =
-      let l = laws .named c b e in
-      let first = bodies (M .who) b (before ++ c ∷ after) in
-      let t = run M first s in
-      let h : Good t = good-run first s g in
-      let p : M .part b s ≡ M .part b t = sym (rw (mine-bodies-past (M .who) b b (omega arith) (before ++ c ∷ after)) at (alone first b l s s g g refl .1)) in
-      rw run-append (laws .own c (run M before s) (run M (mine (M .who) b before) t) b (good-run before s g) (good-run (mine (M .who) b before) t h) e
-      (alone before b l s t g h p .1) .0)
-
-  -- and as if the other bodies had never called
-  pub by-itself : (fresh : M .State) → Good fresh → (before : List (M .Call)) (c : M .Call) (b : ℕ) → M .who c ≡ some b
-      → M .answer c (run M before fresh) ≡ M .answer c (run M (mine (M .who) b before) fresh)
-  by-itself s g before c b e =
-      laws .own c (run M before s) (run M (mine (M .who) b before) s) b (good-run before s g) (good-run (mine (M .who) b before) s g) e (alone before b (laws .named c b e) s s g g refl .1) .0
+      ∙ ap₂ {C = List (Line M)} _++_ (bodies-log (M .count) (omega arith) cs s g) (sym (strays-log cs s (stateAfter M first s) g (good-run first s g)))
 
   -- two sequences in which body b makes the same calls in the same order, whatever else they hold
   pub two-runs : (fresh : M .State) → Good fresh → (cs ds : List (M .Call)) (b : ℕ) → b < M .count → mine (M .who) b cs ≡ mine (M .who) b ds
-      → (mine (whose M) b (log M cs fresh) ≡ mine (whose M) b (log M ds fresh)) × (M .part b (run M cs fresh) ≡ M .part b (run M ds fresh))
+      → (mine (whose M) b (log M cs fresh) ≡ mine (whose M) b (log M ds fresh)) × (M .part b (stateAfter M cs fresh) ≡ M .part b (stateAfter M ds fresh))
   two-runs s g cs ds b k e =
       let x = alone cs b k s s g g refl in
       let y = alone ds b k s s g g refl in
-      (x .0 ∙ ap (λ l. log M l s) e ∙ sym (y .0), x .1 ∙ ap (λ l. M .part b (run M l s)) e ∙ sym (y .1))
+      (x .0 ∙ ap (λ l. log M l s) e ∙ sym (y .0), x .1 ∙ ap (λ l. M .part b (stateAfter M l s)) e ∙ sym (y .1))
 
   -- any two sequences in which each body makes the same calls in the same order, whatever else they hold
   pub any-order : (fresh : M .State) → Good fresh → (cs ds : List (M .Call)) → ((b : ℕ) → b < M .count → mine (M .who) b cs ≡ mine (M .who) b ds)
-      → (run M cs fresh ≡ run M ds fresh) × ((b : ℕ) → b < M .count → mine (whose M) b (log M cs fresh) ≡ mine (whose M) b (log M ds fresh))
+      → (stateAfter M cs fresh ≡ stateAfter M ds fresh) × ((b : ℕ) → b < M .count → mine (whose M) b (log M cs fresh) ≡ mine (whose M) b (log M ds fresh))
   any-order s g cs ds h = (
-    laws .whole (run M cs s) (run M ds s) (good-run cs s g) (good-run ds s g) (rest-run cs s g ∙ sym (rest-run ds s g)) (λ b k. two-runs s g cs ds b k (h b k) .1),
+    laws .whole (stateAfter M cs s) (stateAfter M ds s) (good-run cs s g) (good-run ds s g) (rest-run cs s g ∙ sym (rest-run ds s g)) (λ b k. two-runs s g cs ds b k (h b k) .1),
     λ b k. two-runs s g cs ds b k (h b k) .0,
   )

@@ -1,69 +1,26 @@
--- `accepted` IS HOW MANY OUTCOME BYTES SAY 0 ("accepted (how many of them got outcome code 0)"): a reader needs the outcome buffer alone to check it.
-use Prim.Native.Nat.{ℕ, _+_, _*_}
+-- THE OUTCOME BYTES: each order's code there is a numbered one, and `accepted` is how many of them are 0 ("accepted (how many of them got outcome code
+-- 0)"): a reader needs the outcome buffer alone to check it.
+use Prim.Native.Nat.{ℕ, _+_}
 use mathlib.Core.Path.{_≡_, refl, sym, ap, _∙_}
-use mathlib.Core.Bool.{Bool, true, false, cond}
+use mathlib.Core.Bool.{Bool, true, false, cond, _&&_}
 use mathlib.Core.List.{List, [], _∷_, _++_}
 use native.Mathlib.Omega.{arith}
-use lib.Dec.{eqb, leb}
+use lib.Dec.{eqb}
 use borrow.Author.Tests.{eqb-true}
 use lib.ListN.{length, drop}
-use Rattle.scan.specs.Bytes.{textIs}
 use Rattle.words.specs.Numbers.{put}
-use Rattle.table.specs.Table.{tableOk, abiOf, bodyOf}
 use Rattle.slots.specs.Slots.{recordsAt}
 use Rattle.order.specs.Ordinativo.{Ordinativo}
-use Rattle.orders.specs.Orders.{Header}
-use Rattle.flow.specs.declared.Verdict.{Verdict}
-use Rattle.flow.specs.declared.Verdict.the-variants.{MarkupBreaks, StructureBreaks, FieldBreaks, Stands}
-use Rattle.flow.specs.Flow.{verdictOf, headerOf, flowOrders}
 use Rattle.rules.specs.declared.Ruling.{Ruling}
 use Rattle.rules.specs.declared.Ruling.the-variants.{Accepted, Refused}
-use Rattle.rules.specs.Rules.{orderCode}
+use Rattle.rules.specs.Rules.{orderCode, judgeOrder}
 use Rattle.service.specs.Service.{orderComes, orderLeaves, outcomeBytes, allOutcomes, allAccepted, one}
-use Rattle.address.specs.declared.Addressed.{Addressed}
-use Rattle.address.specs.declared.Addressed.the-variants.{Invalid, Unknown, Body}
-use Rattle.address.specs.Address.{bodyNamed}
 use Rattle.desk.specs.declared.FlowAnswer.{FlowAnswer}
-use Rattle.desk.specs.declared.FlowAnswer.the-variants.{InvalidTable, TooLong, OtherBank, NoRoom}
-use Rattle.desk.specs.Desk.{Reading, refused, served, forBody, forBank, forFlow, maxFlow, flowReads, flowAnswer, flowOutcomes, FlowPromise, flowReply}
-use Rattle.theorems.specs.Codes.{oneOf, orderRefusals, zeroCodes}
-use Rattle.theorems.proofs.Codes.{Coded, order-coded}
-
--- A REFUSED READING has a code other than 0
-abbrev Coding : Reading → Type 0
-Coding (refused a) = flowReply a .code ≡ 0 → ⊥
-Coding (served base n year os) = Unit
-
-body-coding : (room year : ℕ) (os : List Ordinativo) (b : Addressed) → Coding (forBody room year os b)
-body-coding room year os Invalid = λ e. omega arith
-body-coding room year os Unknown = λ e. omega arith
-body-coding room year os (Body e base n) = go (leb (16 * length os) room)
-  where
-    go : (u : Bool) → Coding (cond u (served base n year os) (refused NoRoom))
-    go true = tt
-    go false = λ e. omega arith
-
-bank-coding : (t : List ℕ) (room : ℕ) (h : Header) (os : List Ordinativo) → Coding (forBank t room h os)
-bank-coding t room h os = go (textIs (abiOf t) (h .abi))
-  where
-    go : (u : Bool) → Coding (cond u (forBody room (h .esercizio) os (bodyNamed t (h .ente))) (refused OtherBank))
-    go true = body-coding room (h .esercizio) os (bodyNamed t (h .ente))
-    go false = λ e. omega arith
-
-verdict-coding : (t f : List ℕ) (room : ℕ) (v : Verdict) → Coding (forFlow t f room v)
-verdict-coding t f room (MarkupBreaks p) = λ e. omega arith
-verdict-coding t f room StructureBreaks = λ e. omega arith
-verdict-coding t f room (FieldBreaks p) = λ e. omega arith
-verdict-coding t f room (Stands at) = bank-coding t room (headerOf f at) (flowOrders f at)
-
-pub coding : (t f : List ℕ) (room : ℕ) → Coding (flowReads t f room)
-unfolding flowReads
-coding t f room = go (tableOk t) (leb (length f) maxFlow)
-  where
-    go : (u v : Bool) → Coding (cond u (cond v (forFlow t f room (verdictOf f)) (refused TooLong)) (refused InvalidTable))
-    go false v = λ e. omega arith
-    go true false = λ e. omega arith
-    go true true = verdict-coding t f room (verdictOf f)
+use Rattle.desk.specs.Desk.{Reading, refused, served, flowReads, flowAnswer, FlowPromise, flowReply, flowCode}
+use Rattle.theorems.specs.Codes.{oneOf, each, orderRefusals, orderCodes, outcomeCodes, zeroCodes}
+use Rattle.theorems.specs.Condition2.{codesInTurn}
+use Rattle.theorems.proofs.Given.{Coding, read}
+use Rattle.theorems.proofs.Codes.{Coded, order-coded, judged-codes}
 
 -- THE COUNT
 never : _≡_ {A = Bool} false true → ⊥
@@ -77,23 +34,57 @@ judged-one (Refused code) h = go (eqb code 0) refl
     go false e = refl
     go true e = absurd (never (sym (ap (oneOf orderRefusals) (eqb-true code 0 e)) ∙ h))
 
-counted : (t : List ℕ) (base n year : ℕ) (os : List Ordinativo) (rest : List ℕ) → allAccepted t base n year os ≡ zeroCodes (length os) (allOutcomes t base n year os ++ rest)
-unfolding allAccepted allOutcomes outcomeBytes orderComes
-counted t base n year [] rest = refl
-counted t base n year (o ∷ os) rest =
-    let e = judged-one (orderComes t base n year o) (order-coded n year o (recordsAt t base n)) in
-    let d = counted (orderLeaves t base n year o) base n year os rest in
-    λ i. e i + d i
+module _ (base n year : ℕ) where
+  -- the outcome bytes have the rules' codes
+  written : (t : List ℕ) (os : List Ordinativo) (rest : List ℕ) → outcomeCodes (length os) (allOutcomes t base n year os ++ rest) ≡ codesInTurn t base n year os
+  unfolding allOutcomes outcomeBytes orderComes
+  written t [] rest = refl
+  written t (o ∷ os) rest = ap (λ (cs : List ℕ). orderCode (judgeOrder n year o (recordsAt t base n)) ∷ cs) (written (orderLeaves t base n year o) os rest)
 
--- THE THEOREM
-pub accepted-counts : (t f out : List ℕ) (a : FlowAnswer) (t′ out′ : List ℕ) → FlowPromise t f out a t′ out′ → flowReply a .code ≡ 0
-    → flowReply a .accepted ≡ zeroCodes (flowReply a .orders) out′
-unfolding put
-accepted-counts t f out a t′ out′ p z = go (flowReads t f (length out)) (coding t f (length out)) (p .0) (p .2)
-  where
-    go : (g : Reading) → Coding g → a ≡ flowAnswer t g → out′ ≡ flowOutcomes t out g → flowReply a .accepted ≡ zeroCodes (flowReply a .orders) out′
-    go (refused b) h e d = absurd (h (sym (ap (λ (x : FlowAnswer). flowReply x .code) e) ∙ z))
-    go (served base n year os) h e d =
-        ap (λ (x : FlowAnswer). flowReply x .accepted) e
-        ∙ counted t base n year os (drop (0 + length (allOutcomes t base n year os)) out)
-        ∙ sym (λ i. zeroCodes (flowReply (e i) .orders) (d i))
+  -- which are numbered ones, and of which as many are 0 as orders are accepted
+  numbered : (t : List ℕ) (os : List Ordinativo) → each (oneOf orderCodes) (codesInTurn t base n year os) ≡ true
+  numbered t [] = refl
+  numbered t (o ∷ os) =
+      let rs = recordsAt t base n in
+      let e = judged-codes (judgeOrder n year o rs) (order-coded n year o rs) in
+      let d = numbered (orderLeaves t base n year o) os in
+      λ i. e i && d i
+
+  counted : (t : List ℕ) (os : List Ordinativo) → allAccepted t base n year os ≡ zeroCodes (codesInTurn t base n year os)
+  unfolding allAccepted orderComes
+  counted t [] = refl
+  counted t (o ∷ os) =
+      let rs = recordsAt t base n in
+      let e = judged-one (judgeOrder n year o rs) (order-coded n year o rs) in
+      let d = counted (orderLeaves t base n year o) os in
+      λ i. e i + d i
+
+-- THE THEOREMS, about what keeps the promise of a flow
+module _ (t f out : List ℕ) (a : FlowAnswer) (t′ out′ : List ℕ) (p : FlowPromise t f out a t′ out′) where
+  pub orders-in-turn : (base n year : ℕ) (os : List Ordinativo) → flowReads t f (length out) ≡ served base n year os
+      → (flowReply a .orders ≡ length os) × (outcomeCodes (length os) out′ ≡ codesInTurn t base n year os)
+  unfolding put
+  orders-in-turn base n year os e =
+      let q = rw e at p in (
+        ap (λ (x : FlowAnswer). flowReply x .orders) (q .0),
+        ap (outcomeCodes (length os)) (q .2) ∙ written base n year t os (drop (0 + length (allOutcomes t base n year os)) out),
+      )
+
+  -- a flow taken was served
+  taken : {P : Type 0} → flowCode a ≡ 0 → ((base n year : ℕ) (os : List Ordinativo) → flowReads t f (length out) ≡ served base n year os → P) → P
+  taken {P} z k = go (flowReads t f (length out)) refl (read t f (length out) .coding) (p .0)
+    where
+      go : (g : Reading) → flowReads t f (length out) ≡ g → Coding g → a ≡ flowAnswer t (flowReads t f (length out)) → P
+      go (refused b) e h q = absurd (h (sym (ap flowCode (q ∙ ap (flowAnswer t) e)) ∙ z))
+      go (served base n year os) e h q = k base n year os e
+
+  pub outcomes-coded : flowCode a ≡ 0 → each (oneOf orderCodes) (outcomeCodes (flowReply a .orders) out′) ≡ true
+  outcomes-coded z = taken z (λ base n year os e.
+      let x = orders-in-turn base n year os e in
+      ap (λ (k : ℕ). each (oneOf orderCodes) (outcomeCodes k out′)) (x .0) ∙ ap (each (oneOf orderCodes)) (x .1) ∙ numbered base n year t os)
+
+  pub accepted-counts : flowCode a ≡ 0 → flowReply a .accepted ≡ zeroCodes (outcomeCodes (flowReply a .orders) out′)
+  accepted-counts z = taken z (λ base n year os e.
+      let x = orders-in-turn base n year os e in
+      ap (λ (y : FlowAnswer). flowReply y .accepted) ((rw e at p) .0) ∙ counted base n year t os
+      ∙ sym (ap (λ (k : ℕ). zeroCodes (outcomeCodes k out′)) (x .0) ∙ ap zeroCodes (x .1)))

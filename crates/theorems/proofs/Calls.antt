@@ -1,106 +1,57 @@
--- Each call either names no body, and then changes nothing and has one answer, 2 to 7, on every good table, or is one body's, and then keeps all
--- but what that body owns, goes by that alone, and is answered 0, 8 or more.
-use Prim.Native.Nat.{ℕ, _-_, _*_, _≤_, _<_}
+-- Each call either names no body, and then changes nothing and has one answer, with a code of `strayCodes`, on every good table, or is one body's, and
+-- then keeps all but what that body owns, goes by that alone, and is answered with a code of `bodyCodes`.
+use Prim.Native.Nat.{ℕ, _*_, _<_}
 use mathlib.Core.Path.{_≡_, refl, sym, ap, _∙_}
-use mathlib.Core.Bool.{Bool, true, false, cond, _&&_}
+use mathlib.Core.Bool.{Bool, true, false}
 use mathlib.Core.Option.{Option, none, some}
-use mathlib.Core.List.{List}
-use mathlib.Core.Logic.{_⊎_, inl, inr}
-use native.Mathlib.Omega.{arith}
+use mathlib.Core.List.{List, [], _∷_}
 use lib.IntN.{pos, _-ℤ_}
-use lib.ListN.{length, getD}
-use lib.Dec.{leb, eqb}
+use lib.ListN.{length}
 use Rattle.words.specs.Numbers.{put}
 use Rattle.words.proofs.Laws.{Agree}
-use Rattle.ranges.specs.declared.Found.{Found}
-use Rattle.ranges.specs.declared.Found.the-variants.{At, Nothing}
 use Rattle.record.specs.Slot.{slotSize}
 use Rattle.record.specs.declared.Key.{Key}
-use Rattle.record.specs.declared.Record.{Record}
-use Rattle.slots.specs.Slots.{recordsAt, findIn}
 use Rattle.body.specs.Body.{centsOf}
 use Rattle.body.proofs.Same.{used-agree, records-agree}
 use Rattle.table.specs.Table.{bodies, tableOk}
-use Rattle.rules.specs.declared.Noticed.{Noticed}
-use Rattle.rules.specs.declared.Noticed.the-variants.{Moved, Unmoved}
-use Rattle.rules.specs.Rules.{nth, lineMoves, moveOr, noticeIn, noticeAt, judgeNotice, noticeCode}
-use Rattle.service.specs.Service.{noticeComes}
 use Rattle.service.proofs.Kept.{Kept, unchanged, all-kept}
 use Rattle.service.proofs.Moved.{notice-kept}
 use Rattle.service.proofs.Own.{all-own, notice-same, notice-own}
-use Rattle.notices.specs.Notices.{noticed, noticeBy, noticeTableBy, noticeAnswer, noticeTable, noticeCodeOf, bodyTotals, totalsOf}
+use Rattle.notices.specs.Notices.{noticed, noticeBy, noticeTableBy, noticeAnswer, noticeTable, bodyTotals, totalsOf}
 use Rattle.desk.specs.declared.FlowAnswer.the-variants.{NoRoom, Taken}
 use Rattle.desk.specs.Desk.{Reading, refused, served, flowReads, flowAnswer, flowTable, flowOutcomes}
-use Rattle.theorems.specs.Condition3.{Call, flow, execute, reverse, totals, Answer, ofFlow, ofNotice, ofTotals, codeOf, who}
+use Rattle.theorems.specs.Engine.{Call, flow, execute, reverse, totals, Answer, ofFlow, ofNotice, ofTotals, answerCode, who}
+use Rattle.theorems.specs.Codes.{oneOf, strayCodes, noticeCodes, bodyCodes}
+use Rattle.theorems.proofs.Codes.{body-notice-codes}
 use Rattle.theorems.proofs.Steps.{answer, after}
 use Rattle.theorems.proofs.Good.{Good, base, size, Alike, Wrote, kept-wrote, alike-left, ready}
 use Rattle.theorems.proofs.Named.{Names, stray, body, names, Reads, refuses, shuts, serves, reads}
 
--- the codes of a call that names a body
-abbrev pub Owns : ℕ → Type 0
-Owns n = (n ≡ 0) ⊎ (8 ≤ n)
-
--- a call that names no body
-pub record Stray (t₀ : List ℕ) (ans : List ℕ → Answer) (aft : List ℕ → List ℕ) : Type 0 where
+-- a call that names no body, and the codes it may have
+pub record Stray (t₀ codes : List ℕ) (ans : List ℕ → Answer) (aft : List ℕ → List ℕ) : Type 0 where
   pub still : (t : List ℕ) → Good t₀ t → aft t ≡ t
   pub same : (s t : List ℕ) → Good t₀ s → Good t₀ t → ans s ≡ ans t
-  pub code : (t : List ℕ) → Good t₀ t → (2 ≤ codeOf (ans t)) × (codeOf (ans t) ≤ 7)
+  pub code : (t : List ℕ) → Good t₀ t → oneOf codes (answerCode (ans t)) ≡ true
 
 -- body b's call
-pub record Owned (t₀ : List ℕ) (b : ℕ) (ans : List ℕ → Answer) (aft : List ℕ → List ℕ) : Type 0 where
+pub record Owned (t₀ codes : List ℕ) (b : ℕ) (ans : List ℕ → Answer) (aft : List ℕ → List ℕ) : Type 0 where
   pub low : b < bodies t₀
   pub wrote : (t : List ℕ) → Good t₀ t → Wrote t₀ t (aft t) b
   pub own : (s t : List ℕ) → Good t₀ s → Good t₀ t → Alike t₀ b s t → (ans s ≡ ans t) × Alike t₀ b (aft s) (aft t)
-  pub code : (t : List ℕ) → Good t₀ t → Owns (codeOf (ans t))
+  pub code : (t : List ℕ) → Good t₀ t → oneOf codes (answerCode (ans t)) ≡ true
 
-abbrev pub Serves : List ℕ → (List ℕ → Answer) → (List ℕ → List ℕ) → Option ℕ → Type 0
-Serves t₀ ans aft none = Stray t₀ ans aft
-Serves t₀ ans aft (some b) = Owned t₀ b ans aft
-
--- A NOTICE'S CODE is 0, 16, 17 or 20 to 22
-noticed-code : (m : Noticed) → Owns (noticeCode m) → Owns (noticeCodeOf (noticed m))
-noticed-code (Moved i cents) h = h
-noticed-code (Unmoved c) h = h
-
-moves-code : (executing : Bool) (s i cents : ℕ) → Owns (noticeCode (moveOr (lineMoves executing s) (Moved i cents)))
-unfolding lineMoves
-moves-code true s i cents = go (eqb s 2)
-  where
-    go : (u : Bool) → Owns (noticeCode (moveOr (cond u 21 0) (Moved i cents)))
-    go true = inr (omega arith)
-    go false = inl refl
-moves-code false s i cents = go (eqb s 2)
-  where
-    go : (u : Bool) → Owns (noticeCode (moveOr (cond u 0 22) (Moved i cents)))
-    go true = inl refl
-    go false = inr (omega arith)
-
-in-code : (executing : Bool) (line i : ℕ) (x : Record) → Owns (noticeCode (noticeIn executing line i x))
-unfolding noticeIn
-in-code executing line i x = go (eqb (x .state) 2) (leb 1 line && leb line (x .lines))
-  where
-    go : (u v : Bool) → Owns (noticeCode (cond u (Unmoved 17) (cond v (moveOr (lineMoves executing (getD (x .states) (line - 1) 0)) (Moved i (getD (x .amounts) (line - 1) 0))) (Unmoved 20))))
-    go true v = inr (omega arith)
-    go false false = inr (omega arith)
-    go false true = moves-code executing (getD (x .states) (line - 1) 0) i (getD (x .amounts) (line - 1) 0)
-
-judged-code : (executing : Bool) (line : ℕ) (rs : List Record) (x : Found) → Owns (noticeCode (noticeAt executing line rs x))
-unfolding noticeAt
-judged-code executing line rs Nothing = inr (omega arith)
-judged-code executing line rs (At i) = in-code executing line i (nth rs i)
-
-comes-code : (t : List ℕ) (at n : ℕ) (executing : Bool) (k : Key) (line : ℕ) → Owns (noticeCodeOf (noticed (noticeComes t at n executing k line)))
-unfolding noticeComes judgeNotice
-comes-code t at n executing k line =
-    noticed-code (judgeNotice executing k line (recordsAt t at n)) (judged-code executing line (recordsAt t at n) (findIn (recordsAt t at n) 0 k))
+-- with the codes of a call that names no body, and of one that does
+abbrev pub Serves : List ℕ → List ℕ → List ℕ → (List ℕ → Answer) → (List ℕ → List ℕ) → Option ℕ → Type 0
+Serves t₀ strays bodys ans aft none = Stray t₀ strays ans aft
+Serves t₀ strays bodys ans aft (some b) = Owned t₀ bodys b ans aft
 
 module _ (t₀ : List ℕ) (r : tableOk t₀ ≡ true) where
   -- A CALL THAT WRITES INTO ITS BODY'S SLOTS ALONE
-  module _ (b : ℕ) (l : b < bodies t₀) (ans : List ℕ → Answer) (aft : List ℕ → List ℕ) where
+  module _ (codes : List ℕ) (b : ℕ) (l : b < bodies t₀) (ans : List ℕ → Answer) (aft : List ℕ → List ℕ) where
     in-slots : ((t : List ℕ) → Good t₀ t → Kept t (aft t) (base t₀ b) (size t₀ b))
         → ((s t : List ℕ) → Good t₀ s → Good t₀ t → Alike t₀ b s t → (ans s ≡ ans t) × Agree (aft s) (base t₀ b) (aft t) (base t₀ b) (slotSize * size t₀ b))
-        → ((t : List ℕ) → Good t₀ t → Owns (codeOf (ans t)))
-        → Owned t₀ b ans aft
+        → ((t : List ℕ) → Good t₀ t → oneOf codes (answerCode (ans t)) ≡ true)
+        → Owned t₀ codes b ans aft
     in-slots kept own code = record {
       low = l;
       wrote = λ t g. kept-wrote t₀ r t (aft t) g b l (kept t g);
@@ -116,19 +67,19 @@ module _ (t₀ : List ℕ) (r : tableOk t₀ ≡ true) where
     abbrev noticeAft : List ℕ → List ℕ
     noticeAft t = noticeTable t executing code k line
 
-    notice-serves : {w : Option ℕ} → Names t₀ code w → Serves t₀ noticeAns noticeAft w
+    notice-serves : {w : Option ℕ} → Names t₀ code w → Serves t₀ (7 ∷ []) (noticeCodes executing) noticeAns noticeAft w
     unfolding noticeBy noticeTableBy
     notice-serves (stray n) =
-        record { still = λ t g. rw (n t g); same = λ s t g h. rw (n s g, n t h); code = λ t g. rw (n t g) (omega arith, omega arith) }
+        record { still = λ t g. rw (n t g); same = λ s t g h. rw (n s g, n t h); code = λ t g. rw (n t g) }
     notice-serves (body b l n) =
-        in-slots b l noticeAns noticeAft
+        in-slots (noticeCodes executing) b l noticeAns noticeAft
         (λ t g. let y = ready t₀ r t g b l in rw (n t g) (notice-kept t (base t₀ b) (size t₀ b) executing k line (y .0) (y .1)))
         (λ s t g h a.
         let x = ready t₀ r s g b l in
         let y = ready t₀ r t h b l in
         rw (n s g, n t h)
         (ap (λ m. ofNotice (noticed m)) (notice-same (size t₀ b) (a .slots) (x .0) (y .0) executing k line), notice-own (size t₀ b) (a .slots) (x .0) (y .0) executing k line (y .1)))
-        (λ t g. rw (n t g) (comes-code t (base t₀ b) (size t₀ b) executing k line))
+        (λ t g. rw (n t g) (body-notice-codes t (base t₀ b) (size t₀ b) executing k line))
 
   -- TOTALS
   totals-same : (s t : List ℕ) (b : ℕ) → Alike t₀ b s t → bodyTotals s (base t₀ b) (size t₀ b) ≡ bodyTotals t (base t₀ b) (size t₀ b)
@@ -138,34 +89,34 @@ module _ (t₀ : List ℕ) (r : tableOk t₀ ≡ true) where
       let v = records-agree (size t₀ b) (a .slots) in
       λ i. record { code = 0; used = u i; paid = centsOf 1 (v i); collected = centsOf 2 (v i); balance = pos (centsOf 2 (v i)) -ℤ pos (centsOf 1 (v i)) }
 
-  totals-serves : (code : List ℕ) {w : Option ℕ} → Names t₀ code w → Serves t₀ (answer (totals code)) (after (totals code)) w
+  totals-serves : (code : List ℕ) {w : Option ℕ} → Names t₀ code w → Serves t₀ (strayCodes (totals code)) (bodyCodes (totals code)) (answer (totals code)) (after (totals code)) w
   unfolding totalsOf bodyTotals
   totals-serves code (stray n) =
-      record { still = λ t g. refl; same = λ s t g h. rw (n s g, n t h); code = λ t g. rw (n t g) (omega arith, omega arith) }
+      record { still = λ t g. refl; same = λ s t g h. rw (n s g, n t h); code = λ t g. rw (n t g) }
   totals-serves code (body b l n) =
-      in-slots b l (answer (totals code)) (after (totals code))
+      in-slots (bodyCodes (totals code)) b l (answer (totals code)) (after (totals code))
       (λ t g. unchanged t (base t₀ b) (size t₀ b) (ready t₀ r t g b l .1))
       (λ s t g h a. (rw (n s g, n t h) (ap ofTotals (totals-same s t b a)), a .slots))
-      (λ t g. rw (n t g) (inl refl))
+      (λ t g. rw (n t g))
 
   -- A FLOW
   module _ (f out : List ℕ) where
     answered : (t : List ℕ) (x : Reading) → flowReads t f (length out) ≡ x → answer (flow f out) t ≡ ofFlow (flowAnswer t x) (flowOutcomes t out x)
     answered t x e = ap (λ (y : Reading). ofFlow (flowAnswer t y) (flowOutcomes t out y)) e
 
-    flow-serves : {w : Option ℕ} → Reads t₀ f out w → Serves t₀ (answer (flow f out)) (after (flow f out)) w
+    flow-serves : {w : Option ℕ} → Reads t₀ f out w → Serves t₀ (strayCodes (flow f out)) (bodyCodes (flow f out)) (answer (flow f out)) (after (flow f out)) w
     flow-serves (refuses a n e) = record {
       still = λ t g. ap (flowTable t) (e t g);
       same = λ s t g h. answered s (refused a) (e s g) ∙ sym (answered t (refused a) (e t h));
       code = λ t g. rw (e t g) n;
     }
     flow-serves (shuts b l e) =
-        in-slots b l (answer (flow f out)) (after (flow f out))
+        in-slots (bodyCodes (flow f out)) b l (answer (flow f out)) (after (flow f out))
         (λ t g. rw (e t g) (unchanged t (base t₀ b) (size t₀ b) (ready t₀ r t g b l .1)))
         (λ s t g h a. (answered s (refused NoRoom) (e s g) ∙ sym (answered t (refused NoRoom) (e t h)), rw (e s g, e t h) (a .slots)))
-        (λ t g. rw (e t g) (inr (omega arith)))
+        (λ t g. rw (e t g))
     flow-serves (serves b l year os w y e) =
-        in-slots b l (answer (flow f out)) (after (flow f out))
+        in-slots (bodyCodes (flow f out)) b l (answer (flow f out)) (after (flow f out))
         (λ t g. let z = ready t₀ r t g b l in rw (e t g) (all-kept t (base t₀ b) (size t₀ b) year os (z .0) (z .1) w y))
         (λ s t g h a.
         let x : Reading = served (base t₀ b) (size t₀ b) year os in
@@ -173,10 +124,10 @@ module _ (t₀ : List ℕ) (r : tableOk t₀ ≡ true) where
         let c : ofFlow (flowAnswer s x) (flowOutcomes s out x) ≡ ofFlow (flowAnswer t x) (flowOutcomes t out x) =
         λ i. ofFlow (Taken (length os) (m .accepted i)) (put out 0 (m .outcomes i)) in
         (answered s x (e s g) ∙ c ∙ sym (answered t x (e t h)), rw (e s g, e t h) (m .left)))
-        (λ t g. rw (e t g) (inl refl))
+        (λ t g. rw (e t g))
 
   -- EVERY CALL
-  pub every : (c : Call) → Serves t₀ (answer c) (after c) (who t₀ c)
+  pub every : (c : Call) → Serves t₀ (strayCodes c) (bodyCodes c) (answer c) (after c) (who t₀ c)
   every (flow f out) = flow-serves f out (reads t₀ r f out)
   every (execute code k line) = notice-serves true code k line (names t₀ r code)
   every (reverse code k line) = notice-serves false code k line (names t₀ r code)

@@ -1,4 +1,4 @@
--- EVERY CODE IS A NUMBERED ANSWER: what the rules refuse an order or a notice with is one of document 01's codes, and never 0.
+-- EVERY CODE IS A NUMBERED ANSWER: opening's, a call's, and an order's, which is never 0 where the rules refuse it.
 use Prim.Native.Nat.{ℕ, zero, suc, _-_}
 use mathlib.Core.Path.{_≡_, refl, sym, ap, _∙_}
 use mathlib.Core.Bool.{Bool, true, false, cond, _&&_, _||_}
@@ -26,16 +26,21 @@ use Rattle.rules.specs.declared.Ruling.the-variants.{Accepted, Refused}
 use Rattle.rules.specs.declared.Noticed.{Noticed}
 use Rattle.rules.specs.declared.Noticed.the-variants.{Moved, Unmoved}
 use Rattle.rules.specs.Rules.{asksOf, situationOf, stepCode, nth, sameOrder, placed, unless, stepped, judgeChange, judgeAsked, keyFor, judgeOrder, orderCode, lineMoves, moveOr, noticeIn, noticeAt, judgeNotice, noticeCode}
-use Rattle.service.specs.Service.{orderComes, noticeComes}
+use Rattle.service.specs.Service.{noticeComes}
 use Rattle.address.specs.declared.Addressed.{Addressed}
 use Rattle.address.specs.declared.Addressed.the-variants.{Invalid, Unknown, Body}
 use Rattle.notices.specs.declared.NoticeAnswer.{NoticeAnswer}
+use Rattle.notices.specs.declared.TotalsAnswer.{TotalsAnswer}
 use Rattle.address.specs.Address.{addressed}
-use Rattle.notices.specs.Notices.{noticed, noticeBy, noticeCodeOf, NoticePromise}
+use Rattle.notices.specs.Notices.{noticed, noticeBy, noticeCodeOf, bodyTotals, totalsBy, totalsOf}
+use Rattle.opening.specs.declared.Opened.{Opened}
+use Rattle.opening.specs.declared.Opened.the-variants.{Open, WrongRequest, WrongLength}
+use Rattle.opening.specs.Opening.{openCode}
 use Rattle.desk.specs.declared.FlowAnswer.{FlowAnswer}
 use Rattle.desk.specs.declared.FlowAnswer.the-variants.{InvalidTable, TooLong, BrokenMarkup, BrokenStructure, BrokenField, OtherBank, UnknownBody, NoRoom, Taken}
 use Rattle.desk.specs.Desk.{flowReply}
-use Rattle.theorems.specs.Codes.{oneOf, orderRefusals, noticeCodes, flowCodes}
+use Rattle.theorems.specs.Engine.{Call, flow, execute, reverse, totals, Answer, answerCode, Step}
+use Rattle.theorems.specs.Codes.{oneOf, openCodes, noticeCodes, callCodes, orderRefusals, orderCodes}
 
 -- 0, or one of these
 abbrev Or : List ℕ → ℕ → Type 0
@@ -114,71 +119,104 @@ never-zero (Refused c) h e = absurd (let z : _≡_ {A = Bool} false true = sym (
     no : _≡_ {A = Bool} false true → ⊥
     no z = let y : _≡_ {A = ℕ} 0 1 = cc in omega arith
 
-pub order-codes : (t : List ℕ) (base n year : ℕ) (o : Ordinativo) → oneOf (0 ∷ orderRefusals) (orderCode (orderComes t base n year o)) ≡ true
-unfolding orderComes
-order-codes t base n year o = go (judgeOrder n year o (recordsAt t base n)) (order-coded n year o (recordsAt t base n))
-  where
-    or-true : (b : Bool) {c : Bool} → c ≡ true → b || c ≡ true
-    or-true true e = refl
-    or-true false e = e
+or-true : (b : Bool) {c : Bool} → c ≡ true → b || c ≡ true
+or-true true e = refl
+or-true false e = e
 
-    go : (j : Ruling) → Coded j → oneOf (0 ∷ orderRefusals) (orderCode j) ≡ true
-    go (Accepted c i) h = refl
-    go (Refused c) h = or-true (eqb c 0) h
+pub judged-codes : (j : Ruling) → Coded j → oneOf orderCodes (orderCode j) ≡ true
+judged-codes (Accepted c i) h = refl
+judged-codes (Refused c) h = or-true (eqb c 0) h
 
--- A NOTICE
-moves-coded : (executing : Bool) (s i cents : ℕ) → oneOf noticeCodes (noticeCode (moveOr (lineMoves executing s) (Moved i cents))) ≡ true
+-- OPENING
+pub open-codes : (a : Opened) → oneOf openCodes (openCode a) ≡ true
+open-codes Open = refl
+open-codes WrongRequest = refl
+open-codes WrongLength = refl
+
+-- A NOTICE for a body
+moves-coded : (executing : Bool) (s i cents : ℕ) → oneOf (noticeCodes executing) (noticeCode (moveOr (lineMoves executing s) (Moved i cents))) ≡ true
 unfolding lineMoves
 moves-coded true s i cents = go (eqb s 2)
   where
-    go : (u : Bool) → oneOf noticeCodes (noticeCode (moveOr (cond u 21 0) (Moved i cents))) ≡ true
+    go : (u : Bool) → oneOf (noticeCodes true) (noticeCode (moveOr (cond u 21 0) (Moved i cents))) ≡ true
     go true = refl
     go false = refl
 moves-coded false s i cents = go (eqb s 2)
   where
-    go : (u : Bool) → oneOf noticeCodes (noticeCode (moveOr (cond u 0 22) (Moved i cents))) ≡ true
+    go : (u : Bool) → oneOf (noticeCodes false) (noticeCode (moveOr (cond u 0 22) (Moved i cents))) ≡ true
     go true = refl
     go false = refl
 
-in-coded : (executing : Bool) (line i : ℕ) (x : Record) → oneOf noticeCodes (noticeCode (noticeIn executing line i x)) ≡ true
+-- 16, 17 and 20 are codes of both notices
+both-have : (executing : Bool) → (oneOf (noticeCodes executing) 16 ≡ true) × (oneOf (noticeCodes executing) 17 ≡ true) × (oneOf (noticeCodes executing) 20 ≡ true)
+both-have true = (refl, refl, refl)
+both-have false = (refl, refl, refl)
+
+in-coded : (executing : Bool) (line i : ℕ) (x : Record) → oneOf (noticeCodes executing) (noticeCode (noticeIn executing line i x)) ≡ true
 unfolding noticeIn
 in-coded executing line i x = go (eqb (x .state) 2) (leb 1 line && leb line (x .lines))
   where
     go : (u v : Bool)
-        → oneOf noticeCodes (noticeCode (cond u (Unmoved 17) (cond v (moveOr (lineMoves executing (getD (x .states) (line - 1) 0)) (Moved i (getD (x .amounts) (line - 1) 0))) (Unmoved 20)))) ≡ true
-    go true v = refl
-    go false false = refl
+        → oneOf (noticeCodes executing) (noticeCode (cond u (Unmoved 17) (cond v (moveOr (lineMoves executing (getD (x .states) (line - 1) 0)) (Moved i (getD (x .amounts) (line - 1) 0))) (Unmoved 20)))) ≡ true
+    go true v = both-have executing .1
+    go false false = both-have executing .2
     go false true = moves-coded executing (getD (x .states) (line - 1) 0) i (getD (x .amounts) (line - 1) 0)
 
-at-coded : (executing : Bool) (line : ℕ) (rs : List Record) (f : Found) → oneOf noticeCodes (noticeCode (noticeAt executing line rs f)) ≡ true
+at-coded : (executing : Bool) (line : ℕ) (rs : List Record) (f : Found) → oneOf (noticeCodes executing) (noticeCode (noticeAt executing line rs f)) ≡ true
 unfolding noticeAt
-at-coded executing line rs Nothing = refl
+at-coded executing line rs Nothing = both-have executing .0
 at-coded executing line rs (At i) = in-coded executing line i (nth rs i)
 
 pub noticed-code : (m : Noticed) → noticeCodeOf (noticed m) ≡ noticeCode m
 noticed-code (Moved i cents) = refl
 noticed-code (Unmoved c) = refl
 
-pub notice-codes : (t : List ℕ) (executing : Bool) (code : List ℕ) (k : Key) (line : ℕ) (a : NoticeAnswer) (t′ : List ℕ) → NoticePromise t executing code k line a t′
-    → oneOf noticeCodes (noticeCodeOf a) ≡ true
-unfolding noticeBy noticeComes judgeNotice
-notice-codes t executing code k line a t′ p = ap (λ (x : NoticeAnswer). oneOf noticeCodes (noticeCodeOf x)) (p .0) ∙ go (addressed t code)
-  where
-    go : (b : Addressed) → oneOf noticeCodes (noticeCodeOf (noticeBy t executing k line b)) ≡ true
-    go Invalid = refl
-    go Unknown = refl
-    go (Body e base n) =
-        let rs = recordsAt t base n in
-        ap (oneOf noticeCodes) (noticed-code (noticeAt executing line rs (findIn rs 0 k))) ∙ at-coded executing line rs (findIn rs 0 k)
+pub body-notice-codes : (t : List ℕ) (base n : ℕ) (executing : Bool) (k : Key) (line : ℕ)
+    → oneOf (noticeCodes executing) (noticeCodeOf (noticed (noticeComes t base n executing k line))) ≡ true
+unfolding noticeComes judgeNotice
+body-notice-codes t base n executing k line =
+    let rs = recordsAt t base n in
+    ap (oneOf (noticeCodes executing)) (noticed-code (noticeAt executing line rs (findIn rs 0 k))) ∙ at-coded executing line rs (findIn rs 0 k)
 
--- A FLOW
-pub flow-codes : (a : FlowAnswer) → oneOf flowCodes (flowReply a .code) ≡ true
-flow-codes InvalidTable = refl
-flow-codes TooLong = refl
-flow-codes BrokenMarkup = refl
-flow-codes BrokenStructure = refl
-flow-codes (BrokenField p) = refl
-flow-codes OtherBank = refl
-flow-codes UnknownBody = refl
-flow-codes NoRoom = refl
-flow-codes (Taken n m) = refl
+-- ANY CALL
+notice-codes : (t : List ℕ) (executing : Bool) (k : Key) (line : ℕ) (b : Addressed)
+    → oneOf (1 ∷ 7 ∷ noticeCodes executing) (noticeCodeOf (noticeBy t executing k line b)) ≡ true
+unfolding noticeBy
+notice-codes t executing k line Invalid = refl
+notice-codes t executing k line Unknown = refl
+notice-codes t executing k line (Body e base n) =
+    let c = noticeCodeOf (noticed (noticeComes t base n executing k line)) in
+    or-true (eqb c 1) (or-true (eqb c 7) (body-notice-codes t base n executing k line))
+
+flow-codes : (f out : List ℕ) (a : FlowAnswer) → oneOf (callCodes (flow f out)) (flowReply a .code) ≡ true
+flow-codes f out InvalidTable = refl
+flow-codes f out TooLong = refl
+flow-codes f out BrokenMarkup = refl
+flow-codes f out BrokenStructure = refl
+flow-codes f out (BrokenField p) = refl
+flow-codes f out OtherBank = refl
+flow-codes f out UnknownBody = refl
+flow-codes f out NoRoom = refl
+flow-codes f out (Taken n m) = refl
+
+totals-codes : (t code : List ℕ) (b : Addressed) → oneOf (callCodes (totals code)) (totalsBy t b .code) ≡ true
+unfolding bodyTotals
+totals-codes t code Invalid = refl
+totals-codes t code Unknown = refl
+totals-codes t code (Body e base n) = refl
+
+pub call-codes : (c : Call) (t : List ℕ) (a : Answer) (t′ : List ℕ) → Step c t a t′ → oneOf (callCodes c) (answerCode a) ≡ true
+unfolding totalsOf
+call-codes (flow f out) t a t′ s = ap (λ (x : Answer). oneOf (callCodes (flow f out)) (answerCode x)) (s .3) ∙ flow-codes f out (s .0)
+call-codes (execute code k line) t a t′ s =
+    ap (λ (x : Answer). oneOf (callCodes (execute code k line)) (answerCode x)) (s .2)
+    ∙ ap (λ (x : NoticeAnswer). oneOf (callCodes (execute code k line)) (noticeCodeOf x)) (s .1 .0)
+    ∙ notice-codes t true k line (addressed t code)
+call-codes (reverse code k line) t a t′ s =
+    ap (λ (x : Answer). oneOf (callCodes (reverse code k line)) (answerCode x)) (s .2)
+    ∙ ap (λ (x : NoticeAnswer). oneOf (callCodes (reverse code k line)) (noticeCodeOf x)) (s .1 .0)
+    ∙ notice-codes t false k line (addressed t code)
+call-codes (totals code) t a t′ s =
+    ap (λ (x : Answer). oneOf (callCodes (totals code)) (answerCode x)) (s .2)
+    ∙ ap (λ (x : TotalsAnswer). oneOf (callCodes (totals code)) (x .code)) (s .1)
+    ∙ totals-codes t code (addressed t code)

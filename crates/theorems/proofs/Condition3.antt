@@ -1,55 +1,53 @@
--- CONDITION 3 of the desk's calls, proved: for every engine E that keeps the calls' promises and every valid table t₀,
---   condition3    any flows, notices and totals from t₀ on: every answer (with every outcome byte) and the final table are those of serving the
---                 bodies one after another in contents order; each body's answers, entry tail and slots are those it would get had the others never
---                 called; a call that names no body changes nothing and answers the same at any moment; a body's call leaves what every other body
---                 owns, and no call changes what none owns; two sequences with the same calls of one body give it the same (`Isolated`, of the crate
---                 isolation)
---   always-valid  after any calls the table is valid, so that no call is ever answered 1 (never-invalid)
---   condition3-opened  the same from the buffer that opening answered 0 for: what keeps opening's promise leaves it valid (open-valid)
--- and of `who`, on which the statement rests:
---   who-stays              read from the table after any calls it is the same
---   own-code, one-code     body b's own code names b, and a code that names b is b's, byte by byte
---   stray-code, body-code  a call that names no body is answered 2 to 7, one that names a body 0, 8 or more
-use Prim.Native.Nat.{ℕ, _<_, _≤_}
+-- CONDITION 3, proved: the laws of isolation hold of every engine that keeps the promises, since each call is one body's or none's (Calls).
+use Prim.Native.Nat.{ℕ}
 use mathlib.Core.Path.{_≡_, refl, sym, ap, _∙_, subst}
-use mathlib.Core.Bool.{Bool, true, false, cond}
+use mathlib.Core.Bool.{Bool, true, false, cond, false≢true}
 use mathlib.Core.Option.{Option, none, some}
 use mathlib.Core.List.{List}
-use mathlib.Core.Logic.{_⊎_, ⊎-elim}
 use native.Mathlib.Omega.{arith}
 use lib.ListN.{length}
 use lib.Dec.{eqb, leb}
 use Rattle.scan.specs.Bytes.{textIs}
 use Rattle.ranges.specs.declared.Found.{Found}
 use Rattle.ranges.specs.declared.Found.the-variants.{At, Nothing}
-use Rattle.entries.specs.Entry.{codeAt}
-use Rattle.table.specs.Table.{bodies, tableOk, bodyOf, entryOf}
+use Rattle.table.specs.Table.{bodies, tableOk, bodyOf}
 use Rattle.table.proofs.Bodies.{own-body, body-code as code-of-body}
 use Rattle.request.specs.Request.{requestOk, needed}
+use Rattle.opening.specs.declared.Opened.{Opened}
 use Rattle.opening.specs.declared.Opened.the-variants.{Open, WrongRequest, WrongLength}
-use Rattle.opening.specs.Opening.{openOf, OpenPromise}
+use Rattle.opening.specs.Opening.{opened, openOf, openCode, openTable, OpenReplies}
 use Rattle.opening.proofs.Valid.{opened-valid}
 use Rattle.flow.specs.declared.Verdict.{Verdict}
 use Rattle.flow.specs.declared.Verdict.the-variants.{MarkupBreaks, StructureBreaks, FieldBreaks, Stands}
 use Rattle.flow.specs.Flow.{verdictOf, headerOf}
 use Rattle.desk.specs.Desk.{maxFlow}
-use Rattle.isolation.specs.Machine.{Isolated, Laws, run}
+use Rattle.isolation.specs.Machine.{Laws}
+use Rattle.isolation.proofs.OrderLaws.{mine-by-body, strays-by-body}
 use Rattle.isolation.proofs.Runs.{good-run}
 use Rattle.isolation.proofs.Isolated.{isolated}
-use Rattle.theorems.specs.Condition3.{Call, flow, execute, reverse, totals, Answer, Engine, codeOf, namesIn, names, place, position, who, machine}
+use Rattle.theorems.specs.Engine.{Call, flow, execute, reverse, totals, Answer, Engine, answerCode, namesIn, names, whichBody, position, who, machine, tableAfter}
+use Rattle.theorems.specs.Condition3.{FromValid, FromOpening}
+use Rattle.theorems.specs.Codes.{oneOf, strayCodes, bodyCodes}
 use Rattle.theorems.proofs.Steps.{answer, after, one-step}
 use Rattle.theorems.proofs.Good.{Good, fresh, abi-is, find-is, wrote-left, left-good, other-owned, unowned-is, owned-alike, alike-owned, whole}
 use Rattle.theorems.proofs.Calls.{Owned, Serves, every}
 
+-- 1 is no code of a call on a valid table
+no-one : (c : Call) → (oneOf (strayCodes c) 1 ≡ false) × (oneOf (bodyCodes c) 1 ≡ false)
+no-one (flow f out) = (refl, refl)
+no-one (execute code k line) = (refl, refl)
+no-one (reverse code k line) = (refl, refl)
+no-one (totals code) = (refl, refl)
+
 module _ (E : Engine) (t₀ : List ℕ) (r : tableOk t₀ ≡ true) where
-  by : (c : Call) (w : Option ℕ) → who t₀ c ≡ w → Serves t₀ (E .answer c) (E .next c) w
+  by : (c : Call) (w : Option ℕ) → who t₀ c ≡ w → Serves t₀ (strayCodes c) (bodyCodes c) (E .answer c) (E .next c) w
   by c w e =
       let d : (t : List ℕ) → (E .answer c t ≡ answer c t) × (E .next c t ≡ after c t) = λ t. one-step c t (E .answer c t) (E .next c t) (E .keeps c t) in
-      subst (λ (x : (List ℕ → Answer) × (List ℕ → List ℕ) × Option ℕ). Serves t₀ (x .0) (x .1) (x .2))
+      subst (λ (x : (List ℕ → Answer) × (List ℕ → List ℕ) × Option ℕ). Serves t₀ (strayCodes c) (bodyCodes c) (x .0) (x .1) (x .2))
       (λ i. (λ t. sym (d t .0) i, λ t. sym (d t .1) i, e i)) (every t₀ r c)
 
   -- what a body's call leaves is good
-  owned-good : (c : Call) (b : ℕ) → Owned t₀ b (E .answer c) (E .next c) → (t : List ℕ) → Good t₀ t → Good t₀ (E .next c t)
+  owned-good : (c : Call) (b : ℕ) → Owned t₀ (bodyCodes c) b (E .answer c) (E .next c) → (t : List ℕ) → Good t₀ t → Good t₀ (E .next c t)
   owned-good c b o t g = left-good t₀ r t (E .next c t) g b (o .low) (wrote-left t₀ r t (E .next c t) g b (o .low) (o .wrote t g))
 
   stays : (c : Call) (t : List ℕ) → Good t₀ t → Good t₀ (E .next c t)
@@ -74,73 +72,65 @@ module _ (E : Engine) (t₀ : List ℕ) (r : tableOk t₀ ≡ true) where
     whole = λ s t g h e f. whole t₀ r s t g h f;
   }
 
-  -- THE THEOREM
-  pub condition3 : Isolated (machine E t₀) t₀
-  condition3 = isolated (machine E t₀) (Good t₀) laws t₀ (fresh t₀ r)
-
-  pub always-valid : (cs : List Call) → tableOk (run (machine E t₀) cs t₀) ≡ true
-  always-valid cs = good-run (machine E t₀) (Good t₀) laws cs t₀ (fresh t₀ r) .ok
-
-  -- the answer of a call that names no body, and of one that does, at any moment
-  module _ (cs : List Call) (c : Call) where
+  -- after any calls
+  module _ (cs : List Call) where
     abbrev now : List ℕ
-    now = run (machine E t₀) cs t₀
+    now = tableAfter E t₀ cs
 
     good : Good t₀ now
     good = good-run (machine E t₀) (Good t₀) laws cs t₀ (fresh t₀ r)
 
-    pub stray-code : who t₀ c ≡ none → (2 ≤ codeOf (E .answer c now)) × (codeOf (E .answer c now) ≤ 7)
-    stray-code e = by c none e .code now good
+    stray-code : (c : Call) → who t₀ c ≡ none → oneOf (strayCodes c) (answerCode (E .answer c now)) ≡ true
+    stray-code c e = by c none e .code now good
 
-    pub body-code : (b : ℕ) → who t₀ c ≡ some b → (codeOf (E .answer c now) ≡ 0) ⊎ (8 ≤ codeOf (E .answer c now))
-    body-code b e = by c (some b) e .code now good
+    body-code : (c : Call) (b : ℕ) → who t₀ c ≡ some b → oneOf (bodyCodes c) (answerCode (E .answer c now)) ≡ true
+    body-code c b e = by c (some b) e .code now good
 
-    pub never-invalid : codeOf (E .answer c now) ≡ 1 → ⊥
-    never-invalid z = go (who t₀ c) refl
+    never-invalid : (c : Call) → answerCode (E .answer c now) ≡ 1 → ⊥
+    never-invalid c z = go (who t₀ c) refl
       where
         go : (w : Option ℕ) → who t₀ c ≡ w → ⊥
-        go none e = omega (arith, stray-code e)
-        go (some b) e = ⊎-elim (λ y. omega arith) (λ y. omega arith) (body-code b e)
+        go none e = false≢true (sym (no-one c .0) ∙ sym (ap (oneOf (strayCodes c)) z) ∙ stray-code c e)
+        go (some b) e = false≢true (sym (no-one c .1) ∙ sym (ap (oneOf (bodyCodes c)) z) ∙ body-code c b e)
 
-  -- WHO IS NAMED: the same read from the table at any moment
-  pub who-stays : (cs : List Call) (c : Call) → who (run (machine E t₀) cs t₀) c ≡ who t₀ c
-  who-stays cs c = ap (position now) (named c) ∙ placed (names t₀ c)
-    where
-      now : List ℕ
-      now = run (machine E t₀) cs t₀
+    -- who is named: the same read from this table
+    by-verdict : (f : List ℕ) (v : Verdict) → namesIn now f v ≡ namesIn t₀ f v
+    by-verdict f (MarkupBreaks p) = refl
+    by-verdict f StructureBreaks = refl
+    by-verdict f (FieldBreaks p) = refl
+    by-verdict f (Stands at) = ap (λ (a : List ℕ). cond (textIs a (headerOf f at .abi)) (some (headerOf f at .ente)) none) (abi-is t₀ r now good)
 
-      g : Good t₀ now
-      g = good-run (machine E t₀) (Good t₀) laws cs t₀ (fresh t₀ r)
+    named : (c : Call) → names now c ≡ names t₀ c
+    named (flow f out) = ap (λ (x : Option (List ℕ)). cond (leb (length f) maxFlow) x none) (by-verdict f (verdictOf f))
+    named (execute code k line) = refl
+    named (reverse code k line) = refl
+    named (totals code) = refl
 
-      by-verdict : (f : List ℕ) (v : Verdict) → namesIn now f v ≡ namesIn t₀ f v
-      by-verdict f (MarkupBreaks p) = refl
-      by-verdict f StructureBreaks = refl
-      by-verdict f (FieldBreaks p) = refl
-      by-verdict f (Stands at) = ap (λ (a : List ℕ). cond (textIs a (headerOf f at .abi)) (some (headerOf f at .ente)) none) (abi-is t₀ r now g)
+    placed : (x : Option (List ℕ)) → position now x ≡ position t₀ x
+    placed none = refl
+    placed (some code) = ap whichBody (find-is t₀ r now good code)
 
-      named : (c : Call) → names now c ≡ names t₀ c
-      named (flow f out) = ap (λ (x : Option (List ℕ)). cond (leb (length f) maxFlow) x none) (by-verdict f (verdictOf f))
-      named (execute code k line) = refl
-      named (reverse code k line) = refl
-      named (totals code) = refl
-
-      placed : (x : Option (List ℕ)) → position now x ≡ position t₀ x
-      placed none = refl
-      placed (some code) = ap place (find-is t₀ r now g code)
-
--- and by its code
-found-at : (x : Found) (b : ℕ) → place x ≡ some b → x ≡ At b
+-- a body by its code
+pub found-at : (x : Found) (b : ℕ) → whichBody x ≡ some b → x ≡ At b
 found-at (At a) b e = cc
 found-at Nothing b e = absurd (let z : _≡_ {A = ℕ} 0 1 = cc in omega arith)
 
-module _ (t₀ : List ℕ) (r : tableOk t₀ ≡ true) where
-  pub own-code : (c : Call) (b : ℕ) → b < bodies t₀ → names t₀ c ≡ some (codeAt t₀ (entryOf b)) → who t₀ c ≡ some b
-  own-code c b h e = ap (position t₀) e ∙ ap place (own-body t₀ r b h)
+-- THE THEOREM
+pub condition3 : FromValid
+condition3 E t₀ r = record {
+  isolated = isolated (machine E t₀) (Good t₀) (laws E t₀ r) t₀ (fresh t₀ r);
+  bodies-kept = λ cs b h. mine-by-body (who t₀) b (bodies t₀) h cs;
+  strays-kept = λ cs. strays-by-body (who t₀) (bodies t₀) cs;
+  own-code = λ c b h e. ap (position t₀) e ∙ ap whichBody (own-body t₀ r b h);
+  one-code = λ c b code e w. sym (code-of-body t₀ r code b (found-at (bodyOf t₀ code) b (sym (ap (position t₀) e) ∙ w)));
+  who-stays = λ cs c. ap (position (tableAfter E t₀ cs)) (named E t₀ r cs c) ∙ placed E t₀ r cs (names t₀ c);
+  stray-code = stray-code E t₀ r;
+  body-code = body-code E t₀ r;
+  valid = λ cs. good E t₀ r cs .ok;
+  never-invalid = never-invalid E t₀ r;
+}
 
-  pub one-code : (c : Call) (b : ℕ) (code : List ℕ) → names t₀ c ≡ some code → who t₀ c ≡ some b → code ≡ codeAt t₀ (entryOf b)
-  one-code c b code e w = sym (code-of-body t₀ r code b (found-at (bodyOf t₀ code) b (sym (ap (position t₀) e) ∙ w)))
-
--- FROM OPENING ON: the same of any buffer that a call keeping opening's promise left with the answer 0
+-- FROM OPENING ON: a buffer that opening answered 0 for is the opened table of a right request
 right-request : (q : List ℕ) (n : ℕ) → openOf q n ≡ Open → requestOk q ≡ true
 unfolding openOf
 right-request q n = go (requestOk q) (eqb n (needed q)) refl
@@ -149,11 +139,20 @@ right-request q n = go (requestOk q) (eqb n (needed q)) refl
     go true v e z = e
     go false v e z = absurd (let y : _≡_ {A = ℕ} 0 1 = cc in omega arith)
 
-pub open-request : (q t t₀ : List ℕ) → OpenPromise q t Open t₀ → requestOk q ≡ true
-open-request q t t₀ p = right-request q (length t) (sym (p .0))
+pub record OpenedBy (q t₀ : List ℕ) : Type 0 where
+  pub right : requestOk q ≡ true
+  pub filled : t₀ ≡ opened q
 
-pub open-valid : (q t t₀ : List ℕ) → OpenPromise q t Open t₀ → tableOk t₀ ≡ true
-open-valid q t t₀ p = ap tableOk (p .1) ∙ opened-valid q (open-request q t t₀ p)
+pub answered-0 : (q t t₀ : List ℕ) → OpenReplies q t 0 t₀ → OpenedBy q t₀
+answered-0 q t t₀ p = go (p .0) (p .1 .0) (p .1 .1) (p .2)
+  where
+    go : (a : Opened) → a ≡ openOf q (length t) → t₀ ≡ openTable a q t → 0 ≡ openCode a → OpenedBy q t₀
+    go Open e d z = record { right = right-request q (length t) (sym e); filled = d }
+    go WrongRequest e d z = absurd (omega arith)
+    go WrongLength e d z = absurd (omega arith)
 
-pub condition3-opened : (E : Engine) (q t t₀ : List ℕ) → OpenPromise q t Open t₀ → Isolated (machine E t₀) t₀
-condition3-opened E q t t₀ p = condition3 E t₀ (open-valid q t t₀ p)
+pub open-valid : (q t₀ : List ℕ) → OpenedBy q t₀ → tableOk t₀ ≡ true
+open-valid q t₀ f = ap tableOk (f .filled) ∙ opened-valid q (f .right)
+
+pub condition3-opened : FromOpening
+condition3-opened E q t t₀ p = condition3 E t₀ (open-valid q t₀ (answered-0 q t t₀ p))

@@ -4,8 +4,8 @@
 --   notice-exactly   a notice's code is 0 exactly when no listed refusal applies to it
 --   notice-answer    it is another number exactly when the refusal of that number applies and none that applies has an earlier turn
 --   no-such-key      "a kind other than 1 and 2, or a number 0, gets 16"
-use Prim.Native.Nat.{ℕ, _≤_}
-use mathlib.Core.Path.{_≡_, refl, sym, ap, subst, _∙_}
+use Prim.Native.Nat.{ℕ}
+use mathlib.Core.Path.{_≡_, refl, sym, ap, _∙_, subst}
 use mathlib.Core.Bool.{Bool, true}
 use mathlib.Core.List.{List}
 use native.Mathlib.Omega.{arith}
@@ -16,8 +16,8 @@ use Rattle.record.specs.declared.Record.{Record}
 use Rattle.slots.specs.Slots.{recordsAt, findIn, distinct}
 use Rattle.slots.proofs.Search.{found-key}
 use Rattle.body.specs.Body.{bodyOk}
-use Rattle.body.proofs.Slots.{parts}
-use Rattle.valid.proofs.Valid.{ok-bounds}
+use Rattle.body.proofs.Slots.{parts, valid-at}
+use Rattle.valid.proofs.Valid.{Valid, ok-bounds}
 use Rattle.order.specs.Ordinativo.{Ordinativo}
 use Rattle.rules.specs.declared.Ruling.{Ruling}
 use Rattle.rules.specs.declared.Ruling.the-variants.{Accepted, Refused}
@@ -26,25 +26,22 @@ use Rattle.rules.specs.declared.Noticed.the-variants.{Moved, Unmoved}
 use Rattle.rules.specs.Rules.{nth, noRecord, judgeOrder, orderCode, noticeAt, judgeNotice, noticeCode}
 use Rattle.rules.specs.Listed.{Applies, turn, NoticeApplies, unknown, closed, zeroth, past, already, notYet, noticeTurn}
 use Rattle.rules.proofs.Listed.{refused-applies, applies-by, accepted-none, one-in-turn, unmoved-applies, notice-by, moved-none, one-notice-in-turn}
+use Rattle.service.proofs.Laws.{search-held}
 use Rattle.service.specs.Service.{orderComes, noticeComes, noticeStored}
-use Rattle.notices.specs.declared.Addressed.the-variants.{Body}
+use Rattle.address.specs.declared.Addressed.the-variants.{Body}
+use Rattle.address.specs.Address.{addressed}
+use Rattle.address.proofs.Laws.{slots}
 use Rattle.notices.specs.declared.NoticeAnswer.{NoticeAnswer}
 use Rattle.notices.specs.declared.NoticeAnswer.the-variants.{Declined}
-use Rattle.notices.specs.Notices.{addressed, noticed, noticeBy, noticeTableBy, NoticePromise, noticeCodeOf}
-use Rattle.notices.proofs.Laws.{slots}
+use Rattle.notices.specs.Notices.{noticed, noticeBy, noticeTableBy, NoticePromise, noticeCodeOf}
 use Rattle.theorems.proofs.Codes.{order-coded, never-zero, noticed-code}
-use Rattle.theorems.proofs.History.{found-valid}
+use Rattle.theorems.specs.Condition2.{Exactly, None, InTurn, Strange, kind, number}
 
-abbrev pub Exactly : Type 0 → Type 0 → Type 0
-Exactly a b = (a → b) × (b → a)
-
--- no refusal applies
-abbrev pub None : (ℕ → Type 0) → Type 0
-None applies = (c : ℕ) → applies c → ⊥
-
--- a refusal that applies, none that applies having an earlier turn
-abbrev pub InTurn : (ℕ → ℕ) → (ℕ → Type 0) → ℕ → Type 0
-InTurn turn applies code = applies code × ((c : ℕ) → applies c → turn code ≤ turn c)
+-- a record that a search found is valid
+pub found-valid : (t : List ℕ) (at n : ℕ) → bodyOk t at n ≡ true → (k : Key) (i : ℕ) → findIn (recordsAt t at n) 0 k ≡ At i → Valid (nth (recordsAt t at n) i)
+found-valid t at n ok k i f =
+    let x = search-held t at n k refl f in
+    subst Valid (sym (x .same)) (valid-at t at n i ok (x .used))
 
 module _ (t : List ℕ) (base n : ℕ) (ok : bodyOk t base n ≡ true) where
   abbrev records : List Record
@@ -115,14 +112,9 @@ module _ (t : List ℕ) (base n : ℕ) (ok : bodyOk t base n ≡ true) where
       λ c a. let b = notice-by executing k line records apart a in let q : b .code ≡ code = cc (b .is) in omega (arith, b .soon, ap noticeTurn q),
     )
 
--- a key that no record of a valid body has
-pub data Strange (k : Key) : Type 0 where
-  kind : (k .kind ≡ 1 → ⊥) → (k .kind ≡ 2 → ⊥) → Strange k
-  number : k .number ≡ 0 → Strange k
-
 -- A NOTICE'S CALL that keeps its promise, for a code that names a body
 module _ (t : List ℕ) (executing : Bool) (code : List ℕ) (k : Key) (line : ℕ) (a : NoticeAnswer) (t′ : List ℕ) (p : NoticePromise t executing code k line a t′)
-    (base n : ℕ) (e : addressed t code ≡ Body base n) where
+    (at base n : ℕ) (e : addressed t code ≡ Body at base n) where
   comes : a ≡ noticed (noticeComes t base n executing k line)
   unfolding noticeBy
   comes = p .0 ∙ ap (noticeBy t executing k line) e

@@ -3,7 +3,7 @@
 use Prim.Native.Nat.{ℕ, zero, suc, _+_, _-_, _*_, _≤_, _<_}
 use mathlib.Core.Path.{_≡_, refl, sym, ap, _∙_}
 use mathlib.Core.Bool.{Bool, true, false}
-use mathlib.Core.List.{List, [], _∷_, _++_}
+use mathlib.Core.List.{List, _∷_, _++_}
 use mathlib.Core.Logic.{⊎-elim}
 use native.Mathlib.Omega.{arith}
 use lib.ListN.{length, getD, take, drop}
@@ -25,7 +25,7 @@ use Rattle.opening.proofs.Laws.{length-part}
 use Rattle.rules.proofs.Kept.{split}
 use Rattle.service.proofs.Kept.{Kept}
 use Rattle.service.proofs.Own.{Ready}
-use Rattle.theorems.specs.Condition3.{owned, fixedBytes, unowned}
+use Rattle.theorems.specs.Engine.{owned, fixedBytes, unowned}
 
 pub record Good (t₀ t : List ℕ) : Type 0 where
   pub ok : tableOk t ≡ true

@@ -1,13 +1,4 @@
--- CASH BY HISTORY (request 11), proved: for every engine E that keeps the calls' promises, every valid table t₀ and every body b
--- of it, after any calls,
---   cash-history   the cents of b's records of a kind, with the cents of its accepted reversals of that kind, are those that t₀ had, with the cents of
---                  its accepted executions of that kind: as the answers in b's lines of the log give them
---   worth-history  the same for the orders of any keys and whatever a line is held to be worth
---   cash-opened    from the buffer that opening answered 0 for: the cents are those executed less those reversed
---   totals-opened  and so are those that totals, keeping their promise, answer then
---   line-opened    from that buffer: a line's executions less its reversals are 0 or 1
---   totals-are     what totals answer for b are the cents of b's records
--- `history` is the argument itself, for any number that a body's records tell.
+-- CASH BY HISTORY (request 11), proved. `balances` is the argument itself, for any number that a body's records tell.
 use Prim.Native.Nat.{ℕ, zero, suc, _+_, _*_, _≤_, _<_}
 use mathlib.Core.Path.{_≡_, refl, sym, ap, _∙_, subst}
 use mathlib.Core.Bool.{true, false}
@@ -15,49 +6,45 @@ use mathlib.Core.Logic.{_⊎_, inl, inr}
 use mathlib.Core.Option.{Option, none, some}
 use mathlib.Core.List.{List, []}
 use native.Mathlib.Omega.{arith}
-use Rattle.ranges.specs.declared.Found.the-variants.{At}
 use Rattle.ranges.proofs.Laws.{get-zeros}
 use Rattle.record.specs.declared.Key.{Key}
 use Rattle.record.specs.declared.Record.{Record}
 use Rattle.record.specs.Slot.{slotSize}
-use Rattle.slots.specs.Slots.{recordsAt, findIn, distinct}
+use Rattle.slots.specs.Slots.{recordsAt, distinct}
 use Rattle.body.specs.Body.{bodyOk, centsOf}
 use Rattle.body.proofs.Same.{records-agree}
-use Rattle.body.proofs.Slots.{parts, valid-at, empty-records}
-use Rattle.valid.proofs.Valid.{Valid}
+use Rattle.body.proofs.Slots.{parts, empty-records}
 use Rattle.entries.specs.Entry.{slotsOf, placeOf}
-use Rattle.table.specs.Table.{bodies, tableOk, entryOf}
+use Rattle.table.specs.Table.{bodies, tableOk, bodyOf, entryOf}
 use Rattle.order.specs.Ordinativo.{Ordinativo}
 use Rattle.rules.specs.declared.Noticed.{Noticed}
 use Rattle.rules.specs.declared.Noticed.the-variants.{Moved, Unmoved}
-use Rattle.rules.specs.Rules.{nth, judgeNotice}
-use Rattle.rules.specs.Effects.{allRecords, recordsMoved}
+use Rattle.rules.specs.Rules.{judgeNotice}
 use Rattle.rules.proofs.Judging.{moved}
 use Rattle.service.specs.Service.{noticeComes}
-use Rattle.service.proofs.Laws.{search-held}
+use Rattle.rules.specs.Effects.{allRecords, recordsMoved}
 use Rattle.service.proofs.Kept.{all-records}
 use Rattle.service.proofs.Moved.{notice-records}
-use Rattle.notices.specs.declared.TotalsAnswer.{TotalsAnswer}
-use Rattle.notices.specs.Notices.{noticed, noticeBy, noticeTableBy, bodyTotals, totalsOf, TotalsPromise}
+use Rattle.notices.specs.Notices.{noticed, noticeBy, noticeTableBy}
 use Rattle.request.specs.Request.{requestOk}
-use Rattle.opening.specs.declared.Opened.the-variants.{Open}
-use Rattle.opening.specs.Opening.{opened, OpenPromise}
+use Rattle.opening.specs.Opening.{opened}
 use Rattle.opening.proofs.Valid.{opened-valid, opened-bodies, past}
-use Rattle.isolation.specs.Machine.{run}
 use Rattle.isolation.proofs.Runs.{good-run}
 use Rattle.isolation.proofs.History.{balance}
-use Rattle.theorems.specs.Condition3.{Call, flow, execute, reverse, totals, Answer, Engine, position, who, machine}
-use Rattle.theorems.specs.History.{Weight, ofExecution, ofReversal, executions, reversals, Which, Value, weight, worth, ofKind, inCents, cash, withKey, onLine, once, linesOf, recordsOf}
+use Rattle.theorems.specs.Engine.{Call, flow, execute, reverse, totals, Answer, Engine, who, machine, recordsOf, tableAfter}
+use Rattle.theorems.specs.History.{Weight, ofExecution, ofReversal, executions, reversals, Which, Value, weight, worth, ofKind, itsCents, cash, withKey, onLine, perTime, logOf, History, HistoryValid, HistoryOpened}
 use Rattle.theorems.proofs.Steps.{answer, after, one-step}
-use Rattle.theorems.proofs.Good.{Good, fresh, base, size, inside, place-is, slots-is, ready, owned-alike}
+use Rattle.theorems.proofs.Good.{Good, fresh, base, size, inside, find-is, place-is, slots-is, ready, owned-alike}
 use Rattle.theorems.proofs.Named.{Names, stray, body, names, Reads, refuses, shuts, serves, reads}
-use Rattle.theorems.proofs.Condition3.{laws, open-request, open-valid}
+use Rattle.theorems.proofs.Condition2.{condition2}
+use Rattle.theorems.proofs.Exactly.{found-valid}
+use Rattle.theorems.proofs.Condition3.{laws, found-at, OpenedBy, answered-0, open-valid}
 use Rattle.theorems.proofs.Worth.{orders-worth, execute-worth, reverse-worth, cents-worth, one-most}
 
 -- THE TABLE AFTER THE CALLS
 module _ (E : Engine) (t₀ : List ℕ) (r : tableOk t₀ ≡ true) (cs : List Call) where
   abbrev now : List ℕ
-  now = run (machine E t₀) cs t₀
+  now = tableAfter E t₀ cs
 
   good : Good t₀ now
   good = good-run (machine E t₀) (Good t₀) (laws E t₀ r) cs t₀ (fresh t₀ r)
@@ -131,20 +118,14 @@ module _ (t₀ : List ℕ) (r : tableOk t₀ ≡ true) (w : Weight) (h : List Re
         (λ i. (sym (d .0) i, sym (d .1) i)) (subst (Moves c t) e (moves t g c))
 
     -- THE ARGUMENT
-    pub history : h (recordsOf b (run (machine E t₀) cs t₀)) + reversals w (linesOf E t₀ b cs) ≡ h (recordsOf b t₀) + executions w (linesOf E t₀ b cs)
-    history =
+    balances : h (recordsOf b (tableAfter E t₀ cs)) + reversals w (logOf E t₀ b cs) ≡ h (recordsOf b t₀) + executions w (logOf E t₀ b cs)
+    balances =
         let e = ap h (records-now E t₀ r cs b l) in
         let x = balance (machine E t₀) (Good t₀) (laws E t₀ r) b l (held b) (ofExecution w) (ofReversal w)
         (λ s t g g′ q. ap h (records-agree (size t₀ b) (owned-alike t₀ r s t g g′ b l q .slots)))
         engine-moves
         cs t₀ (fresh t₀ r) in
         omega arith
-
--- a record that a search found is valid
-pub found-valid : (t : List ℕ) (at n : ℕ) → bodyOk t at n ≡ true → (k : Key) (i : ℕ) → findIn (recordsAt t at n) 0 k ≡ At i → Valid (nth (recordsAt t at n) i)
-found-valid t at n ok k i f =
-    let x = search-held t at n k refl f in
-    subst Valid (sym (x .same)) (valid-at t at n i ok (x .used))
 
 -- WHAT RECORDS ARE WORTH is such a number
 pub worth-weighs : (p : Which) (v : Value) → Weighs (weight p v) (worth p v)
@@ -162,39 +143,27 @@ worth-weighs p v = record { orders = orders-worth p v; executes = executes; reve
         reverse-worth p v k line (recordsAt t at n) i cents e (found-valid t at n ok k i (moved false k line (recordsAt t at n) i cents e .0))
     reverses t at n ok k line (Unmoved c) e = omega arith
 
-module _ (E : Engine) (t₀ : List ℕ) (r : tableOk t₀ ≡ true) (b : ℕ) (l : b < bodies t₀) (cs : List Call) where
-  pub worth-history : (p : Which) (v : Value)
-      → worth p v (recordsOf b (run (machine E t₀) cs t₀)) + reversals (weight p v) (linesOf E t₀ b cs) ≡ worth p v (recordsOf b t₀) + executions (weight p v) (linesOf E t₀ b cs)
-  worth-history p v = history t₀ r (weight p v) (worth p v) (worth-weighs p v) E b l cs
-
-  pub cash-history : (kind : ℕ)
-      → centsOf kind (recordsOf b (run (machine E t₀) cs t₀)) + reversals (cash kind) (linesOf E t₀ b cs) ≡ centsOf kind (recordsOf b t₀) + executions (cash kind) (linesOf E t₀ b cs)
-  cash-history kind =
-      let x = cents-worth kind (recordsOf b (run (machine E t₀) cs t₀)) in
+pub history : HistoryValid
+history E t₀ r b l cs = record {
+  cash-history = λ kind.
+      let x = cents-worth kind (recordsOf b (tableAfter E t₀ cs)) in
       let y = cents-worth kind (recordsOf b t₀) in
-      omega (arith, worth-history (ofKind kind) inCents)
+      omega (arith, worths (ofKind kind) itsCents);
+  worth-history = worths;
+  line-most = λ key line.
+      let w = parts (tableAfter E t₀ cs) (base t₀ b) (size t₀ b) (ready t₀ r (tableAfter E t₀ cs) (good E t₀ r cs) b l .1) in
+      one-most line key (recordsOf b (tableAfter E t₀ cs)) (ap distinct (records-now E t₀ r cs b l) ∙ w .keys);
+  totals-are = λ code e a p.
+      let g = good E t₀ r cs in
+      let x = condition2 .totals (tableAfter E t₀ cs) (g .ok) code b (find-is t₀ r (tableAfter E t₀ cs) g code ∙ found-at (bodyOf t₀ code) b e) a p in
+      (x .2, x .3);
+}
+  where
+    worths : (p : Which) (v : Value)
+        → worth p v (recordsOf b (tableAfter E t₀ cs)) + reversals (weight p v) (logOf E t₀ b cs) ≡ worth p v (recordsOf b t₀) + executions (weight p v) (logOf E t₀ b cs)
+    worths p v = balances t₀ r (weight p v) (worth p v) (worth-weighs p v) E b l cs
 
-  -- one line of one order is executed once at most
-  pub line-most : (key : Key) (line : ℕ) → worth (withKey key) (onLine line) (recordsOf b (run (machine E t₀) cs t₀)) ≤ 1
-  line-most key line =
-      let w = parts (run (machine E t₀) cs t₀) (base t₀ b) (size t₀ b) (ready t₀ r (run (machine E t₀) cs t₀) (good E t₀ r cs) b l .1) in
-      one-most line key (recordsOf b (run (machine E t₀) cs t₀)) (ap distinct (records-now E t₀ r cs b l) ∙ w .keys)
-
-  -- WHAT TOTALS ANSWER for body b at that moment
-  told : (code : List ℕ) {o : Option ℕ} → Names t₀ code o → o ≡ some b → totalsOf (run (machine E t₀) cs t₀) code ≡ bodyTotals (run (machine E t₀) cs t₀) (base t₀ b) (size t₀ b)
-  unfolding totalsOf
-  told code (stray n) e = absurd (let z : _≡_ {A = ℕ} 0 1 = cc in omega arith)
-  told code (body a h n) e = let z : a ≡ b = cc in rw (n (run (machine E t₀) cs t₀) (good E t₀ r cs), z)
-
-  pub totals-are : (code : List ℕ) → position t₀ (some code) ≡ some b → (a : TotalsAnswer) → TotalsPromise (run (machine E t₀) cs t₀) code a
-      → (a .paid ≡ centsOf 1 (recordsOf b (run (machine E t₀) cs t₀))) × (a .collected ≡ centsOf 2 (recordsOf b (run (machine E t₀) cs t₀)))
-  unfolding bodyTotals
-  totals-are code e a p =
-      let s = p ∙ told code (names t₀ r code) e in
-      let n = sym (records-now E t₀ r cs b l) in
-      (ap (λ (x : TotalsAnswer). x .paid) s ∙ ap (centsOf 1) n, ap (λ (x : TotalsAnswer). x .collected) s ∙ ap (centsOf 2) n)
-
--- FROM OPENING ON: t₀ is a buffer that a call keeping opening's promise left with the answer 0
+-- FROM OPENING ON
 empty : (q : List ℕ) → requestOk q ≡ true → (b : ℕ) → b < bodies (opened q) → recordsOf b (opened q) ≡ []
 empty q ok b l =
     let i = inside (opened q) (opened-valid q ok) b l .0 in
@@ -203,40 +172,36 @@ empty q ok b l =
     let m = slotsOf (opened q) (entryOf b) in
     empty-records (opened q) at m (get-zeros (opened q) at (at + slotSize * m) (λ j x y. past q ok j (omega arith)))
 
-module _ (E : Engine) (q t t₀ : List ℕ) (p : OpenPromise q t Open t₀) (b : ℕ) (l : b < bodies t₀) where
-  pub none-yet : recordsOf b t₀ ≡ []
-  none-yet = ap (recordsOf b) (p .1) ∙ empty q (open-request q t t₀ p) b (subst (λ (x : List ℕ). b < bodies x) (p .1) l)
+none-yet : (q t₀ : List ℕ) → OpenedBy q t₀ → (b : ℕ) → b < bodies t₀ → recordsOf b t₀ ≡ []
+none-yet q t₀ f b l = ap (recordsOf b) (f .filled) ∙ empty q (f .right) b (subst (λ (x : List ℕ). b < bodies x) (f .filled) l)
 
-  pub cash-opened : (cs : List Call) (kind : ℕ)
-      → centsOf kind (recordsOf b (run (machine E t₀) cs t₀)) + reversals (cash kind) (linesOf E t₀ b cs) ≡ executions (cash kind) (linesOf E t₀ b cs)
-  unfolding centsOf
-  cash-opened cs kind =
-      let x = cash-history E t₀ (open-valid q t t₀ p) b l cs kind in
-      let z : centsOf kind (recordsOf b t₀) ≡ 0 = ap (centsOf kind) none-yet in
-      omega arith
+-- a number that starts at 0 and ends at 0 or 1
+nought-or-one : (n start gains losses : ℕ) → n ≤ 1 → start ≡ 0 → n + losses ≡ start + gains → (gains ≡ losses) ⊎ (gains ≡ losses + 1)
+nought-or-one zero start gains losses h z e = inl (omega arith)
+nought-or-one (suc n) start gains losses h z e = inr (omega arith)
 
-  -- what totals answer then
-  pub totals-opened : (cs : List Call) (code : List ℕ) → position t₀ (some code) ≡ some b → (a : TotalsAnswer) → TotalsPromise (run (machine E t₀) cs t₀) code a
-      → (a .paid + reversals (cash 1) (linesOf E t₀ b cs) ≡ executions (cash 1) (linesOf E t₀ b cs))
-      × (a .collected + reversals (cash 2) (linesOf E t₀ b cs) ≡ executions (cash 2) (linesOf E t₀ b cs))
-  totals-opened cs code e a k =
-      let x = totals-are E t₀ (open-valid q t t₀ p) b l cs code e a k in (
-        ap (λ (n : ℕ). n + reversals (cash 1) (linesOf E t₀ b cs)) (x .0) ∙ cash-opened cs 1,
-        ap (λ (n : ℕ). n + reversals (cash 2) (linesOf E t₀ b cs)) (x .1) ∙ cash-opened cs 2,
-      )
+pub history-opened : HistoryOpened
+unfolding centsOf worth
+history-opened E q t t₀ p b l cs = record {
+  cash-opened = cash-opened;
+  totals-opened = λ code e a k.
+      let x = H .totals-are code e a k in (
+        ap (λ (n : ℕ). n + reversals (cash 1) (logOf E t₀ b cs)) (x .0) ∙ cash-opened 1,
+        ap (λ (n : ℕ). n + reversals (cash 2) (logOf E t₀ b cs)) (x .1) ∙ cash-opened 2,
+      );
+  line-opened = λ key line.
+      nought-or-one (worth (withKey key) (onLine line) (recordsOf b (tableAfter E t₀ cs))) (worth (withKey key) (onLine line) (recordsOf b t₀))
+      (executions (perTime key line) (logOf E t₀ b cs)) (reversals (perTime key line) (logOf E t₀ b cs))
+      (H .line-most key line) (ap (worth (withKey key) (onLine line)) none) (H .worth-history (withKey key) (onLine line));
+}
+  where
+    H : History E t₀ b cs
+    H = history E t₀ (open-valid q t₀ (answered-0 q t t₀ p)) b l cs
 
-  pub line-opened : (cs : List Call) (key : Key) (line : ℕ)
-      → (executions (once key line) (linesOf E t₀ b cs) ≡ reversals (once key line) (linesOf E t₀ b cs))
-      ⊎ (executions (once key line) (linesOf E t₀ b cs) ≡ reversals (once key line) (linesOf E t₀ b cs) + 1)
-  unfolding worth
-  line-opened cs key line =
-      go (worth (withKey key) (onLine line) (recordsOf b (run (machine E t₀) cs t₀))) refl (line-most E t₀ (open-valid q t t₀ p) b l cs key line)
-    where
-      z : worth (withKey key) (onLine line) (recordsOf b t₀) ≡ 0
-      z = ap (worth (withKey key) (onLine line)) none-yet
+    none : recordsOf b t₀ ≡ []
+    none = none-yet q t₀ (answered-0 q t t₀ p) b l
 
-      go : (n : ℕ) → worth (withKey key) (onLine line) (recordsOf b (run (machine E t₀) cs t₀)) ≡ n → n ≤ 1
-          → (executions (once key line) (linesOf E t₀ b cs) ≡ reversals (once key line) (linesOf E t₀ b cs))
-          ⊎ (executions (once key line) (linesOf E t₀ b cs) ≡ reversals (once key line) (linesOf E t₀ b cs) + 1)
-      go zero e h = inl (omega (arith, z, worth-history E t₀ (open-valid q t t₀ p) b l cs (withKey key) (onLine line)))
-      go (suc n) e h = inr (omega (arith, z, worth-history E t₀ (open-valid q t t₀ p) b l cs (withKey key) (onLine line)))
+    cash-opened : (kind : ℕ) → centsOf kind (recordsOf b (tableAfter E t₀ cs)) + reversals (cash kind) (logOf E t₀ b cs) ≡ executions (cash kind) (logOf E t₀ b cs)
+    cash-opened kind =
+        let z : centsOf kind (recordsOf b t₀) ≡ 0 = ap (centsOf kind) none in
+        omega (arith, H .cash-history kind)

@@ -1,3 +1,7 @@
+pub mod Given
+pub mod Codes
+pub mod Accepted
+pub mod Condition2
 pub mod Good
 pub mod Named
 pub mod Steps
@@ -5,11 +9,6 @@ pub mod Calls
 pub mod Worth
 pub mod Condition3
 pub mod History
-pub mod Marked
-pub mod Codes
-pub mod Accepted
 pub mod NoSecond
-pub mod Reordering
-pub mod Wrong
-pub mod Refusals
+pub mod Condition1
 pub mod Exactly

@@ -5,7 +5,6 @@ use mathlib.Core.Path.{_≡_, refl, ap, _∙_}
 use mathlib.Core.Bool.{Bool, true, false, cond}
 use mathlib.Core.Option.{Option, none, some}
 use mathlib.Core.List.{List, [], _∷_}
-use native.Mathlib.Omega.{arith}
 use lib.ListN.{length}
 use lib.Dec.{leb}
 use Rattle.scan.specs.Bytes.{textIs}
@@ -27,7 +26,8 @@ use Rattle.address.specs.Address.{bodyAt, bodyNamed, addressed}
 use Rattle.desk.specs.declared.FlowAnswer.{FlowAnswer}
 use Rattle.desk.specs.declared.FlowAnswer.the-variants.{TooLong, BrokenMarkup, BrokenStructure, BrokenField, OtherBank, UnknownBody, NoRoom}
 use Rattle.desk.specs.Desk.{Reading, refused, served, forBody, forFlow, maxFlow, flowReads, flowCode}
-use Rattle.theorems.specs.Condition3.{flow, namesIn, place, position, who}
+use Rattle.theorems.specs.Engine.{flow, namesIn, whichBody, position, who}
+use Rattle.theorems.specs.Codes.{oneOf, strayCodes}
 use Rattle.theorems.proofs.Good.{Good, base, size, abi-is, find-is, place-is, slots-is}
 
 -- a body's code, on every good table
@@ -41,7 +41,7 @@ Always t₀ f out x = (t : List ℕ) → Good t₀ t → flowReads t f (length o
 
 pub data Reads (t₀ f out : List ℕ) : Option ℕ → Type 0 where
   -- refused before a body is found
-  refuses : (a : FlowAnswer) → (2 ≤ flowCode a) × (flowCode a ≤ 7) → Always t₀ f out (refused a) → Reads t₀ f out none
+  refuses : (a : FlowAnswer) → oneOf (strayCodes (flow f out)) (flowCode a) ≡ true → Always t₀ f out (refused a) → Reads t₀ f out none
   -- body b's, with no room for its outcomes
   shuts : (b : ℕ) → b < bodies t₀ → Always t₀ f out (refused NoRoom) → Reads t₀ f out (some b)
   -- body b's, served
@@ -75,7 +75,7 @@ module _ (t₀ : List ℕ) (r : tableOk t₀ ≡ true) where
   pub names : (code : List ℕ) → Names t₀ code (position t₀ (some code))
   names code = go (bodyOf t₀ code) refl
     where
-      go : (x : Found) → bodyOf t₀ code ≡ x → Names t₀ code (place x)
+      go : (x : Found) → bodyOf t₀ code ≡ x → Names t₀ code (whichBody x)
       go Nothing e = stray (λ t g. addressed-is t g code ∙ body-none t g code e)
       go (At b) e = let l = low code b e in body b l (λ t g. addressed-is t g code ∙ body-some t g code b e l)
 
@@ -124,23 +124,23 @@ module _ (t₀ : List ℕ) (r : tableOk t₀ ≡ true) where
                   let d = flow-stood f at stands in
                   serves b l (h .esercizio) os (writables os (orders-ok f at d)) (header-ok f at d .0 .esercizio) (reads true k)
 
-          by-body : (x : Found) → bodyOf t₀ (h .ente) ≡ x → Reads t₀ f out (place x)
+          by-body : (x : Found) → bodyOf t₀ (h .ente) ≡ x → Reads t₀ f out (whichBody x)
           by-body Nothing e =
-              refuses UnknownBody (omega arith, omega arith) (λ t g. bank-reads true bank t g ∙ ap (forBody (length out) (h .esercizio) os) (body-none t g (h .ente) e))
+              refuses UnknownBody refl (λ t g. bank-reads true bank t g ∙ ap (forBody (length out) (h .esercizio) os) (body-none t g (h .ente) e))
           by-body (At b) e = by-room b e (leb (16 * length os) (length out)) refl
 
         by-bank : (u : Bool) → textIs (abiOf t₀) (h .abi) ≡ u → Reads t₀ f out (position t₀ (cond u (some (h .ente)) none))
-        by-bank false e = refuses OtherBank (omega arith, omega arith) (bank-reads false e)
+        by-bank false e = refuses OtherBank refl (bank-reads false e)
         by-bank true e = by-body e (bodyOf t₀ (h .ente)) refl
 
       by-verdict : (v : Verdict) → verdictOf f ≡ v → Reads t₀ f out (position t₀ (namesIn t₀ f v))
-      by-verdict (MarkupBreaks p) e = refuses BrokenMarkup (omega arith, omega arith) (verdict-reads (MarkupBreaks p) e)
-      by-verdict StructureBreaks e = refuses BrokenStructure (omega arith, omega arith) (verdict-reads StructureBreaks e)
-      by-verdict (FieldBreaks p) e = refuses (BrokenField p) (omega arith, omega arith) (verdict-reads (FieldBreaks p) e)
+      by-verdict (MarkupBreaks p) e = refuses BrokenMarkup refl (verdict-reads (MarkupBreaks p) e)
+      by-verdict StructureBreaks e = refuses BrokenStructure refl (verdict-reads StructureBreaks e)
+      by-verdict (FieldBreaks p) e = refuses (BrokenField p) refl (verdict-reads (FieldBreaks p) e)
       by-verdict (Stands at) e = by-bank at e (textIs (abiOf t₀) (headerOf f at .abi)) refl
 
     by-length : (u : Bool) → leb (length f) maxFlow ≡ u → Reads t₀ f out (position t₀ (cond u (namesIn t₀ f (verdictOf f)) none))
-    by-length false e = refuses TooLong (omega arith, omega arith) (long-reads e)
+    by-length false e = refuses TooLong refl (long-reads e)
     by-length true e = by-verdict e (verdictOf f) refl
 
     pub reads : Reads t₀ f out (who t₀ (flow f out))

@@ -1,12 +1,14 @@
 -- THE STEPS that the promises allow: exactly one for each call and table. So there is an engine that keeps the promises, and every other does as it does.
-use mathlib.Core.Path.{_≡_, refl, ap, _∙_}
+use mathlib.Core.Path.{_≡_, refl, sym, ap, _∙_}
 use mathlib.Core.Bool.{true, false}
-use mathlib.Core.List.{List}
+use mathlib.Core.List.{List, _∷_, map}
 use Prim.Native.Nat.{ℕ}
 use lib.ListN.{length}
 use Rattle.notices.specs.Notices.{noticeAnswer, noticeTable, totalsOf}
 use Rattle.desk.specs.Desk.{flowReads, flowAnswer, flowTable, flowOutcomes}
-use Rattle.theorems.specs.Condition3.{Call, flow, execute, reverse, totals, Answer, ofFlow, ofNotice, ofTotals, Step, Engine}
+use Rattle.theorems.specs.Engine.{Call, flow, execute, reverse, totals, Answer, ofFlow, ofNotice, ofTotals, Step, Engine, Happens, nothing, step, machine}
+use Rattle.theorems.specs.Condition3.{AnyRun}
+use Rattle.isolation.specs.Machine.{stateAfter, log}
 
 abbrev pub answer : Call → List ℕ → Answer
 answer (flow f out) t = ofFlow (flowAnswer t (flowReads t f (length out))) (flowOutcomes t out (flowReads t f (length out)))
@@ -35,3 +37,25 @@ one-step (totals code) t a t′ s = (s .2 ∙ ap ofTotals (s .1), s .3)
 -- there is one
 pub ours : Engine
 ours = record { answer = answer; next = after; keeps = steps }
+
+-- and every other does as it does, at each step and so in every run
+same-step : (E : Engine) (c : Call) (t : List ℕ) (a : Answer) (t′ : List ℕ) → Step c t a t′ → (E .answer c t ≡ a) × (E .next c t ≡ t′)
+same-step E c t a t′ s =
+    let x = one-step c t (E .answer c t) (E .next c t) (E .keeps c t) in
+    let y = one-step c t a t′ s in
+    (x .0 ∙ sym (y .0), x .1 ∙ sym (y .1))
+
+module _ (E : Engine) (t₀ : List ℕ) where
+  happened : {t u : List ℕ} {ls : List (Call × Answer)} → Happens t ls u
+      → (log (machine E t₀) (map (λ l. l .0) ls) t ≡ ls) × (stateAfter (machine E t₀) (map (λ l. l .0) ls) t ≡ u)
+  happened (nothing t) = (refl, refl)
+  happened (step {t} {t′} {u} {c} {a} {ls} s h) =
+      let e = same-step E c t a t′ s in
+      let cs : List Call = map (λ l. l .0) ls in
+      let x = happened h in (
+        (λ i. (c, e .0 i) ∷ log (machine E t₀) cs (e .1 i)) ∙ ap (λ (l : List (Call × Answer)). (c, a) ∷ l) (x .0),
+        ap (stateAfter (machine E t₀) cs) (e .1) ∙ x .1,
+      )
+
+pub any-run : AnyRun
+any-run E t₀ u ls h = happened E t₀ h

@@ -29,7 +29,7 @@ use Rattle.rules.specs.Effects.{storedAt, recordsBy, allRecords, withState}
 use Rattle.rules.proofs.Judging.{Stands, inserting, varying, annulling, accepted, Moves, moved}
 use Rattle.rules.proofs.Kept.{waiting-all}
 use Rattle.service.proofs.Kept.{stored-end}
-use Rattle.theorems.specs.History.{Which, Value, worthIn, worth, ofKind, inCents, withKey, onLine}
+use Rattle.theorems.specs.History.{Which, Value, worthIn, worth, ofKind, itsCents, withKey, onLine}
 
 -- WHERE AN ORDER'S RECORD STANDS: in place of the one at i, or after the last
 stored-set : (rs : List Record) (i : ℕ) (r : Record) → i < length rs → storedAt rs i r ≡ set rs i r
@@ -201,13 +201,13 @@ module _ (p : Which) (v : Value) where
         omega arith
 
 -- CASH
-cents-in : (n : ℕ) (states amounts : List ℕ) → executedIn states amounts ≡ worthIn inCents n states amounts
+cents-in : (n : ℕ) (states amounts : List ℕ) → executedIn states amounts ≡ worthIn itsCents n states amounts
 unfolding executedIn worthIn
 cents-in n [] amounts = refl
 cents-in n (s ∷ states) [] = refl
 cents-in n (s ∷ states) (a ∷ amounts) = ap (λ (x : ℕ). cond (eqb s 2) a 0 + x) (cents-in (suc n) states amounts)
 
-pub cents-worth : (kind : ℕ) (rs : List Record) → centsOf kind rs ≡ worth (ofKind kind) inCents rs
+pub cents-worth : (kind : ℕ) (rs : List Record) → centsOf kind rs ≡ worth (ofKind kind) itsCents rs
 unfolding centsOf worth
 cents-worth kind [] = refl
 cents-worth kind (r ∷ rs) =

@@ -1,31 +1,61 @@
--- THE NUMBERED ANSWERS (document 01, "Answers"): the codes that each kind of answer may have.
+-- THE NUMBERED ANSWERS (document 01, "Answers"): the codes that each kind of answer may have. A new code is one more number here.
 use Prim.Native.Nat.{ℕ, zero, suc, _+_}
-use mathlib.Core.Bool.{Bool, false, cond, _||_}
-use mathlib.Core.List.{List, [], _∷_}
+use mathlib.Core.Bool.{Bool, true, false, cond, _||_, _&&_}
+use mathlib.Core.List.{List, [], _∷_, _++_}
 use lib.Dec.{eqb}
-use Rattle.service.specs.Service.{outcomeSize}
 use lib.ListN.{getD, drop}
+use Rattle.service.specs.Service.{outcomeSize}
+use Rattle.theorems.specs.Engine.{Call, flow, execute, reverse, totals}
 
 abbrev pub oneOf : List ℕ → ℕ → Bool
 oneOf [] c = false
 oneOf (x ∷ xs) c = eqb c x || oneOf xs c
 
--- refusals of an order, and of a notice on a body's records
+abbrev pub each : (ℕ → Bool) → List ℕ → Bool
+each p [] = true
+each p (x ∷ xs) = p x && each p xs
+
+-- OPENING: "9 opening: ABI digits, length, count, .. is wrong; 10 opening: the buffer hasn't the needed length"
+abbrev pub openCodes : List ℕ
+openCodes = 0 ∷ 9 ∷ 10 ∷ []
+
+-- A CALL THAT NAMES NO BODY of a valid table. A flow: "2 the flow is longer than 32,768 bytes; 3 the markup breaks; 4 the structure breaks; 5 a field
+-- breaks; 6 codice_ABI_BT isn't the table's; 7 no body has this code". The others: 7
+abbrev pub strayCodes : Call → List ℕ
+strayCodes (flow f out) = 2 ∷ 3 ∷ 4 ∷ 5 ∷ 6 ∷ 7 ∷ []
+strayCodes (execute code k line) = 7 ∷ []
+strayCodes (reverse code k line) = 7 ∷ []
+strayCodes (totals code) = 7 ∷ []
+
+-- a notice for a body: "16 (no such order), 17, 20 (no such line), then for execution 21 (already executed), for reversal 22 (not executed)"
+abbrev pub noticeCodes : Bool → List ℕ
+noticeCodes true = 0 ∷ 16 ∷ 17 ∷ 20 ∷ 21 ∷ []
+noticeCodes false = 0 ∷ 16 ∷ 17 ∷ 20 ∷ 22 ∷ []
+
+-- A CALL THAT NAMES A BODY. A flow: "8 the outcome buffer has under 16 bytes per order .. Otherwise the code is 0"
+abbrev pub bodyCodes : Call → List ℕ
+bodyCodes (flow f out) = 0 ∷ 8 ∷ []
+bodyCodes (execute code k line) = noticeCodes true
+bodyCodes (reverse code k line) = noticeCodes false
+bodyCodes (totals code) = 0 ∷ []
+
+-- ANY CALL: "1 the table isn't valid", or one of those
+abbrev pub callCodes : Call → List ℕ
+callCodes c = 1 ∷ (strayCodes c ++ bodyCodes c)
+
+-- AN ORDER: "11 SOSTITUZIONE; 12 ..; 13 ..; then the step table ..; then 19 .. or 15 ..; else 0"
 abbrev pub orderRefusals : List ℕ
 orderRefusals = 11 ∷ 12 ∷ 13 ∷ 14 ∷ 15 ∷ 16 ∷ 17 ∷ 18 ∷ 19 ∷ []
 
-abbrev pub noticeRefusals : List ℕ
-noticeRefusals = 16 ∷ 17 ∷ 20 ∷ 21 ∷ 22 ∷ []
+abbrev pub orderCodes : List ℕ
+orderCodes = 0 ∷ orderRefusals
 
--- all codes of a notice's call
-abbrev pub noticeCodes : List ℕ
-noticeCodes = 0 ∷ 1 ∷ 7 ∷ noticeRefusals
+-- the codes of the first k outcomes of a buffer: "Each writes 16 outcome bytes: .. 2 code"
+abbrev pub outcomeCodes : ℕ → List ℕ → List ℕ
+outcomeCodes zero out = []
+outcomeCodes (suc k) out = getD out 2 0 ∷ outcomeCodes k (drop outcomeSize out)
 
--- of a flow's call
-abbrev pub flowCodes : List ℕ
-flowCodes = 0 ∷ 1 ∷ 2 ∷ 3 ∷ 4 ∷ 5 ∷ 6 ∷ 7 ∷ 8 ∷ []
-
--- of the first k outcomes of a buffer, 16 bytes each with the code in byte 2: how many have code 0
-abbrev pub zeroCodes : ℕ → List ℕ → ℕ
-zeroCodes zero out = 0
-zeroCodes (suc k) out = cond (eqb (getD out 2 0) 0) 1 0 + zeroCodes k (drop outcomeSize out)
+-- "how many of them got outcome code 0"
+abbrev pub zeroCodes : List ℕ → ℕ
+zeroCodes [] = 0
+zeroCodes (c ∷ cs) = cond (eqb c 0) 1 0 + zeroCodes cs

@@ -1,121 +1,47 @@
--- CONDITION 3 of the desk's calls: the machine whose states are a table's bytes, whose calls are flows, notices and totals, and whose answers are
--- any engine's that keeps the calls' promises. What is proved is `Isolated (machine E t₀) t₀` for each such engine E and every valid table t₀, in
--- proofs/: a table just opened is one.
-use Prim.Native.Nat.{ℕ, zero, suc, _+_, _*_}
+-- CONDITION 3 of the tender letter, of every engine that keeps the calls' promises, "under the rules of condition 2". Proved: `condition3 : FromValid`,
+-- `condition3-opened : FromOpening`, `any-run : AnyRun`, and that there is such an engine: `ours : Engine`. "Reason: this is the defect we had."
+use Prim.Native.Nat.{ℕ, _<_}
 use mathlib.Core.Path.{_≡_}
-use mathlib.Core.Bool.{true, false, cond}
-use mathlib.Core.Option.{Option, none, some}
-use mathlib.Core.List.{List, [], _∷_, _++_}
-use lib.ListN.{length}
-use lib.Dec.{leb}
-use Rattle.scan.specs.Bytes.{part, textIs}
-use Rattle.ranges.specs.declared.Found.{Found}
-use Rattle.ranges.specs.declared.Found.the-variants.{At, Nothing}
-use Rattle.record.specs.Slot.{slotSize}
-use Rattle.record.specs.declared.Key.{Key}
-use Rattle.entries.specs.Entry.{entryFixed, entrySize, slotsOf, placeOf}
-use Rattle.table.specs.Table.{headSize, bodies, abiOf, bodyOf, entryOf}
-use Rattle.flow.specs.declared.Verdict.{Verdict}
-use Rattle.flow.specs.declared.Verdict.the-variants.{MarkupBreaks, StructureBreaks, FieldBreaks, Stands}
-use Rattle.flow.specs.Flow.{verdictOf, headerOf}
-use Rattle.notices.specs.declared.NoticeAnswer.{NoticeAnswer}
-use Rattle.notices.specs.declared.TotalsAnswer.{TotalsAnswer}
-use Rattle.notices.specs.Notices.{NoticePromise, noticeCodeOf, TotalsPromise}
-use Rattle.desk.specs.declared.FlowAnswer.{FlowAnswer}
-use Rattle.desk.specs.Desk.{maxFlow, FlowPromise, flowCode}
-use Rattle.isolation.specs.Machine.{Machine}
+use mathlib.Core.Bool.{true}
+use mathlib.Core.Option.{none, some}
+use mathlib.Core.List.{List, map}
+use Rattle.entries.specs.Entry.{codeAt}
+use Rattle.table.specs.Table.{bodies, tableOk, entryOf}
+use Rattle.opening.specs.Opening.{OpenReplies}
+use Rattle.isolation.specs.Order.{mine, strays, bodyByBody}
+use Rattle.isolation.specs.Machine.{Isolated, log}
+use Rattle.theorems.specs.Engine.{Call, Answer, Engine, Happens, answerCode, names, who, machine, tableAfter}
+use Rattle.theorems.specs.Codes.{oneOf, strayCodes, bodyCodes}
 
--- THE CALLS
-pub data Call : Type 0 where
-  -- a flow's bytes, and those of the outcome buffer that it lends
-  flow : List ℕ → List ℕ → Call
-  -- a notice of execution or reversal: body code; kind, esercizio and number; line
-  execute : List ℕ → Key → ℕ → Call
-  reverse : List ℕ → Key → ℕ → Call
-  -- body code
-  totals : List ℕ → Call
+-- of the engine E, for "any sequence of flows, notices and totals calls" from the table t₀ on
+pub record Condition3 (E : Engine) (t₀ : List ℕ) : Type 0 where
+  -- "Every answer, every outcome byte and the final table are those of serving the bodies one after another in contents order, each with its own calls
+  -- in their own order .. Each body's answers and records are also those it would get had the other bodies never called. A call that names no body of the
+  -- table changes nothing, and its answer is the same at any moment": `answers`, `final`, `alone-answers`, `alone-records`, `stray-state`, `stray-answer`
+  pub isolated : Isolated (machine E t₀) t₀
+  -- that order loses, doubles and invents no call: each body's calls, and those that name no body, are the same, in the same order
+  pub bodies-kept : (cs : List Call) (b : ℕ) → b < bodies t₀ → mine (who t₀) b (bodyByBody (who t₀) (bodies t₀) cs) ≡ mine (who t₀) b cs
+  pub strays-kept : (cs : List Call) → strays (who t₀) (bodyByBody (who t₀) (bodies t₀) cs) ≡ strays (who t₀) cs
+  -- a body's own code names it, no other code does, and whom a call names is the same read from the table at any moment
+  pub own-code : (c : Call) (b : ℕ) → b < bodies t₀ → names t₀ c ≡ some (codeAt t₀ (entryOf b)) → who t₀ c ≡ some b
+  pub one-code : (c : Call) (b : ℕ) (code : List ℕ) → names t₀ c ≡ some code → who t₀ c ≡ some b → code ≡ codeAt t₀ (entryOf b)
+  pub who-stays : (cs : List Call) (c : Call) → who (tableAfter E t₀ cs) c ≡ who t₀ c
+  -- which codes a call gets that names no body, and one that does
+  pub stray-code : (cs : List Call) (c : Call) → who t₀ c ≡ none → oneOf (strayCodes c) (answerCode (E .answer c (tableAfter E t₀ cs))) ≡ true
+  pub body-code : (cs : List Call) (c : Call) (b : ℕ) → who t₀ c ≡ some b → oneOf (bodyCodes c) (answerCode (E .answer c (tableAfter E t₀ cs))) ≡ true
+  -- the table is valid after any calls, so that none is ever answered 1
+  pub valid : (cs : List Call) → tableOk (tableAfter E t₀ cs) ≡ true
+  pub never-invalid : (cs : List Call) (c : Call) → answerCode (E .answer c (tableAfter E t₀ cs)) ≡ 1 → ⊥
 
-pub data Answer : Type 0 where
-  -- with the outcome buffer's bytes afterwards
-  ofFlow : FlowAnswer → List ℕ → Answer
-  ofNotice : NoticeAnswer → Answer
-  ofTotals : TotalsAnswer → Answer
+-- An engine leaves nothing out: whatever happens by the promises is what each engine does
+abbrev pub AnyRun : Type 0
+AnyRun = (E : Engine) (t₀ u : List ℕ) (ls : List (Call × Answer)) → Happens t₀ ls u
+    → (log (machine E t₀) (map (λ l. l .0) ls) t₀ ≡ ls) × (tableAfter E t₀ (map (λ l. l .0) ls) ≡ u)
 
--- what each call promises: on the table t, the answer a and the table t′ afterwards
-abbrev pub Step : Call → List ℕ → Answer → List ℕ → Type 0
-Step (flow f out) t a t′ = (r : FlowAnswer) × (out′ : List ℕ) × FlowPromise t f out r t′ out′ × (a ≡ ofFlow r out′)
-Step (execute code k line) t a t′ = (r : NoticeAnswer) × NoticePromise t true code k line r t′ × (a ≡ ofNotice r)
-Step (reverse code k line) t a t′ = (r : NoticeAnswer) × NoticePromise t false code k line r t′ × (a ≡ ofNotice r)
-Step (totals code) t a t′ = (r : TotalsAnswer) × TotalsPromise t code r × (a ≡ ofTotals r) × (t′ ≡ t)
+-- from any valid table on
+abbrev pub FromValid : Type 0
+FromValid = (E : Engine) (t₀ : List ℕ) → tableOk t₀ ≡ true → Condition3 E t₀
 
--- an engine that keeps the promises on every table
-pub record Engine : Type 0 where
-  pub answer : Call → List ℕ → Answer
-  pub next : Call → List ℕ → List ℕ
-  pub keeps : (c : Call) (t : List ℕ) → Step c t (answer c t) (next c t)
-
--- an answer's code
-abbrev pub codeOf : Answer → ℕ
-codeOf (ofFlow a out) = flowCode a
-codeOf (ofNotice a) = noticeCodeOf a
-codeOf (ofTotals a) = a .code
-
--- WHICH BODY A CALL NAMES, read from the call and from t₀, the table that the calls start from: its ABI digits and its bodies' codes.
-
--- a flow names a body when it stands and its codice_ABI_BT is the table's: by its codice_ente_BT
-abbrev pub namesIn : List ℕ → List ℕ → Verdict → Option (List ℕ)
-namesIn t₀ f (MarkupBreaks p) = none
-namesIn t₀ f StructureBreaks = none
-namesIn t₀ f (FieldBreaks p) = none
-namesIn t₀ f (Stands at) = cond (textIs (abiOf t₀) (headerOf f at .abi)) (some (headerOf f at .ente)) none
-
-abbrev pub names : List ℕ → Call → Option (List ℕ)
-names t₀ (flow f out) = cond (leb (length f) maxFlow) (namesIn t₀ f (verdictOf f)) none
-names t₀ (execute code k line) = some code
-names t₀ (reverse code k line) = some code
-names t₀ (totals code) = some code
-
-abbrev pub place : Found → Option ℕ
-place (At b) = some b
-place Nothing = none
-
--- the place of a code among those of t₀, compared byte by byte
-abbrev pub position : List ℕ → Option (List ℕ) → Option ℕ
-position t₀ (some code) = place (bodyOf t₀ code)
-position t₀ none = none
-
-abbrev pub who : List ℕ → Call → Option ℕ
-who t₀ c = position t₀ (names t₀ c)
-
--- WHAT BODY b OWNS of a table t: its entry from byte 24 on, and the bytes of its slots, where t₀ has them
-abbrev pub owned : List ℕ → ℕ → List ℕ → List ℕ
-owned t₀ b t = part t (entryOf b + entryFixed) (entryOf b + entrySize) ++ part t (placeOf t₀ (entryOf b)) (placeOf t₀ (entryOf b) + slotSize * slotsOf t₀ (entryOf b))
-
--- WHAT NO BODY OWNS: the length, the head, and each entry's bytes before 24, which are its code, slots and place
-unfoldable pub fixedBytes : List ℕ → ℕ → ℕ → List (List ℕ)
-fixedBytes t at zero = []
-fixedBytes t at (suc n) = part t at (at + entryFixed) ∷ fixedBytes t (at + entrySize) n
-
-pub record Rest : Type 0 where
-  pub long : ℕ
-  pub head : List ℕ
-  pub entries : List (List ℕ)
-
-abbrev pub unowned : List ℕ → List ℕ → Rest
-unowned t₀ t = record { long = length t; head = part t 0 headSize; entries = fixedBytes t headSize (bodies t₀) }
-
--- THE MACHINE of an engine's calls that start from the table t₀
-abbrev pub machine : Engine → List ℕ → Machine
-machine E t₀ = record {
-  State = List ℕ;
-  Call = Call;
-  Answer = Answer;
-  Part = List ℕ;
-  Rest = Rest;
-  count = bodies t₀;
-  who = who t₀;
-  answer = E .answer;
-  next = E .next;
-  part = owned t₀;
-  rest = unowned t₀;
-}
+-- "Take a freshly opened table": any buffer that opening answered 0 for
+abbrev pub FromOpening : Type 0
+FromOpening = (E : Engine) (q t t₀ : List ℕ) → OpenReplies q t 0 t₀ → Condition3 E t₀

@@ -1,20 +1,25 @@
 -- CASH BY HISTORY (request 11): what the lines of a body's log, its calls with their answers, tell of its executions and reversals.
-use Prim.Native.Nat.{ℕ, suc, _+_}
-use mathlib.Core.Bool.{Bool, _&&_, cond}
+use Prim.Native.Nat.{ℕ, suc, _+_, _≤_, _<_}
+use mathlib.Core.Path.{_≡_}
+use mathlib.Core.Bool.{Bool, true, _&&_, cond}
+use mathlib.Core.Logic.{_⊎_}
+use mathlib.Core.Option.{some}
 use mathlib.Core.List.{List, [], _∷_}
 use lib.Dec.{eqb}
 use Rattle.record.specs.declared.Key.{Key}
 use Rattle.record.specs.declared.Record.{Record}
 use Rattle.record.specs.Slot.{keyOf}
-use Rattle.slots.specs.Slots.{recordsAt}
-use Rattle.entries.specs.Entry.{slotsOf, placeOf}
-use Rattle.table.specs.Table.{entryOf}
+use Rattle.body.specs.Body.{centsOf}
+use Rattle.table.specs.Table.{bodies, tableOk}
 use Rattle.notices.specs.declared.NoticeAnswer.{NoticeAnswer}
 use Rattle.notices.specs.declared.NoticeAnswer.the-variants.{InvalidTable, UnknownBody, Done, Declined}
+use Rattle.notices.specs.declared.TotalsAnswer.{TotalsAnswer}
+use Rattle.notices.specs.Notices.{TotalsPromise}
+use Rattle.opening.specs.Opening.{OpenReplies}
 use Rattle.isolation.specs.Order.{mine}
 use Rattle.isolation.specs.Machine.{whose, log}
 use Rattle.isolation.specs.Tally.{tally}
-use Rattle.theorems.specs.Condition3.{Call, flow, execute, reverse, totals, Answer, ofFlow, ofNotice, ofTotals, Engine, machine}
+use Rattle.theorems.specs.Engine.{Call, flow, execute, reverse, totals, Answer, ofFlow, ofNotice, ofTotals, Engine, position, machine, recordsOf, tableAfter}
 
 -- what an answer to a notice for line n of the order with this key weighs
 abbrev pub Weight : Type 0
@@ -73,11 +78,11 @@ worth p v (r ∷ rs) = cond (p (keyOf r)) (worthIn v 1 (r .states) (r .amounts))
 abbrev pub ofKind : ℕ → Which
 ofKind kind k = eqb (k .kind) kind
 
-abbrev pub inCents : Value
-inCents n cents = cents
+abbrev pub itsCents : Value
+itsCents n cents = cents
 
 abbrev pub cash : ℕ → Weight
-cash kind = weight (ofKind kind) inCents
+cash kind = weight (ofKind kind) itsCents
 
 -- ONE LINE: the order with a key, its line of that number worth one
 abbrev pub withKey : Key → Which
@@ -86,12 +91,48 @@ withKey key k = eqb (k .kind) (key .kind) && (eqb (k .esercizio) (key .esercizio
 abbrev pub onLine : ℕ → Value
 onLine line n cents = cond (eqb n line) 1 0
 
-abbrev pub once : Key → ℕ → Weight
-once key line = weight (withKey key) (onLine line)
+abbrev pub perTime : Key → ℕ → Weight
+perTime key line = weight (withKey key) (onLine line)
 
--- A BODY'S LINES of the log of an engine's calls cs that start from t₀, and its records in a table t
-abbrev pub linesOf : Engine → List ℕ → ℕ → List Call → List (Call × Answer)
-linesOf E t₀ b cs = mine (whose (machine E t₀)) b (log (machine E t₀) cs t₀)
+-- A BODY'S LINES of the log of an engine's calls cs that start from t₀
+abbrev pub logOf : Engine → List ℕ → ℕ → List Call → List (Call × Answer)
+logOf E t₀ b cs = mine (whose (machine E t₀)) b (log (machine E t₀) cs t₀)
 
-abbrev pub recordsOf : ℕ → List ℕ → List Record
-recordsOf b t = recordsAt t (placeOf t (entryOf b)) (slotsOf t (entryOf b))
+-- CASH: body b of the table t₀, after the calls cs of an engine. Proved: `history : HistoryValid`, `history-opened : HistoryOpened`.
+module _ (E : Engine) (t₀ : List ℕ) (b : ℕ) (cs : List Call) where
+  abbrev L : List (Call × Answer)
+  L = logOf E t₀ b cs
+
+  abbrev now : List ℕ
+  now = tableAfter E t₀ cs
+
+  pub record History : Type 0 where
+    -- the cents of its records of a kind, with those of its accepted reversals, are those that t₀ had, with those of its accepted executions
+    pub cash-history : (kind : ℕ)
+        → centsOf kind (recordsOf b now) + reversals (cash kind) L ≡ centsOf kind (recordsOf b t₀) + executions (cash kind) L
+    -- the same for the orders of any keys, and whatever a line is held to be worth
+    pub worth-history : (p : Which) (v : Value)
+        → worth p v (recordsOf b now) + reversals (weight p v) L ≡ worth p v (recordsOf b t₀) + executions (weight p v) L
+    -- one line of one order is executed once at most
+    pub line-most : (key : Key) (line : ℕ) → worth (withKey key) (onLine line) (recordsOf b now) ≤ 1
+    -- what totals answer at that moment are the cents of those records
+    pub totals-are : (code : List ℕ) → position t₀ (some code) ≡ some b → (a : TotalsAnswer) → TotalsPromise now code a
+        → (a .paid ≡ centsOf 1 (recordsOf b now)) × (a .collected ≡ centsOf 2 (recordsOf b now))
+
+  -- from a fresh table
+  pub record Fresh : Type 0 where
+    -- the cents are those executed less those reversed
+    pub cash-opened : (kind : ℕ) → centsOf kind (recordsOf b now) + reversals (cash kind) L ≡ executions (cash kind) L
+    -- and so are those that totals answer
+    pub totals-opened : (code : List ℕ) → position t₀ (some code) ≡ some b → (a : TotalsAnswer) → TotalsPromise now code a
+        → (a .paid + reversals (cash 1) L ≡ executions (cash 1) L) × (a .collected + reversals (cash 2) L ≡ executions (cash 2) L)
+    -- a line's executions less its reversals are 0 or 1
+    pub line-opened : (key : Key) (line : ℕ)
+        → (executions (perTime key line) L ≡ reversals (perTime key line) L) ⊎ (executions (perTime key line) L ≡ reversals (perTime key line) L + 1)
+
+abbrev pub HistoryValid : Type 0
+HistoryValid = (E : Engine) (t₀ : List ℕ) → tableOk t₀ ≡ true → (b : ℕ) → b < bodies t₀ → (cs : List Call) → History E t₀ b cs
+
+-- from any buffer that opening answered 0 for
+abbrev pub HistoryOpened : Type 0
+HistoryOpened = (E : Engine) (q t t₀ : List ℕ) → OpenReplies q t 0 t₀ → (b : ℕ) → b < bodies t₀ → (cs : List Call) → Fresh E t₀ b cs

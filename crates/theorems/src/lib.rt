@@ -1,1 +1,1 @@
-// Condition 3 of the desk's own calls, on the table's bytes. No code: specs/ is the statement, proofs/ the rest.
+// What the calls' promises come to: the three conditions, no second answer, cash by history. No code: specs/ has the statements, proofs/ the rest.

@@ -1,3 +1,4 @@
 pub mod Computed
 pub mod Facts
 pub mod Wrong
+pub mod Machines

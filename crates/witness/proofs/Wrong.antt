@@ -1,37 +1,46 @@
--- WHAT THE PROMISE OF A FLOW RULES OUT, each on a flow for document 01's table of 848 bytes; and that such flows are taken.
+-- WHAT THE PROMISES RULE OUT, each on a flow or a call for document 01's table; and that such flows are taken.
 use Prim.Native.Nat.{ℕ}
-use mathlib.Core.Path.{_≡_, refl, sym, ap, _∙_}
+use mathlib.Core.Path.{_≡_, refl, sym, ap, _∙_, subst}
+use mathlib.Core.Bool.{true}
 use mathlib.Core.List.{List, [], _∷_}
 use native.Mathlib.Omega.{arith}
-use lib.ListN.{length, getD}
-use Rattle.digits.specs.Digits.{digits}
-use Rattle.table.specs.Table.{bodyOf}
+use lib.ListN.{length, getD, replicate}
+use Rattle.scan.specs.Bytes.{bytes, part}
+use Rattle.record.specs.Slot.{recordAt}
 use Rattle.orders.specs.Orders.{Header}
+use Rattle.opening.specs.Opening.{openCode}
+use Rattle.notices.specs.declared.TotalsAnswer.{TotalsAnswer}
+use Rattle.notices.specs.Notices.{noticeCodeOf}
 use Rattle.desk.specs.declared.FlowAnswer.{FlowAnswer}
 use Rattle.desk.specs.declared.FlowAnswer.the-variants.{Taken}
 use Rattle.desk.specs.declared.FlowReply.{FlowReply}
 use Rattle.desk.specs.Desk.{Reading, flowReads, flowAnswer, flowTable, flowOutcomes, Gives, FlowPromise, flowReply, FlowReplies}
-use Rattle.theorems.specs.Marked.{table}
-use Rattle.theorems.proofs.Accepted.{accepted-counts}
-use Rattle.witness.specs.Flows.{room, first, second, single, three, order}
-use Rattle.witness.specs.Takers.{Taker, Keeps, RefusesAll, OneOutcome, StoresNothing, FirstOnly, InventsAccepted, CountsOrders, ByNumber}
+use Rattle.theorems.proofs.Condition2.{condition2}
+use Rattle.marked.specs.Flows.{requestOf, sampleTable, single, room}
+use Rattle.witness.specs.Flows.{two, broken, changing, annulling, order, first, second, twoLined, crowd}
+use Rattle.witness.specs.Takers.{Taker, Keeps, RefusesAll, OneOutcome, StoresNothing, FirstOnly, InventsAccepted, CountsOrders, KeepsAmounts, AnnulsByNumber, NoSlotForOthers, HalfApplied, ServesElsewhere, Notifier, KeepsNotice, Teller, KeepsTotals, Opener, KeepsOpen, InventsUsed, UsedUnseen, Mixed, ByNumber, NoticeByNumber, TotalsByNumber, OpenByNumber}
 use Rattle.witness.proofs.Computed.{flows}
-use Rattle.witness.proofs.Facts.{facts, own-reads, again-reads, more-reads, other-first-reads, own-first-reads}
+use Rattle.witness.proofs.Facts.{key, change, annul, facts, own-reads, again-reads, more-reads, other-first-reads, own-first-reads, changed-reads, annulled-reads, crowded-reads, broken-reads}
 
 -- a result that keeps the promise is that of the reading
 by-reading : (t f out : List ℕ) {t′ out′ : List ℕ} {a : FlowAnswer} {g : Reading} → flowReads t f (length out) ≡ g → FlowPromise t f out a t′ out′ → Gives t out g a t′ out′
 by-reading t f out e p = rw e at p
 
+-- a byte of buffers that are one
+byte : (i : ℕ) {x y : List ℕ} → x ≡ y → getD x i 0 ≡ getD y i 0
+byte i e = ap (λ (x : List ℕ). getD x i 0) e
+
 -- TAKEN: the flow of one order for 471, its order accepted, whatever keeps the promise
-module _ (a : FlowAnswer) (t′ out′ : List ℕ) (p : FlowPromise table (single "471") (room 1) a t′ out′) where
+module _ (a : FlowAnswer) (t′ out′ : List ℕ) (p : FlowPromise sampleTable (single "471") (room 1) a t′ out′) where
   pub taken : a ≡ Taken 1 1
-  taken = by-reading table (single "471") (room 1) own-reads p .0 ∙ facts .answer
+  taken = by-reading sampleTable (single "471") (room 1) own-reads p .0 ∙ facts .answer
 
   pub stored : getD t′ 464 0 ≡ 1
-  stored = ap (λ (x : List ℕ). getD x 464 0) (by-reading table (single "471") (room 1) own-reads p .1) ∙ facts .slot
+  stored = byte 464 (by-reading sampleTable (single "471") (room 1) own-reads p .1) ∙ facts .slot
 
 -- the same of the exported function, in document 01's numbers
-pub taken-reply : (n : FlowReply) (t′ out′ : List ℕ) → FlowReplies table (single "471") (room 1) n t′ out′ → (n .code ≡ 0) × (n .place ≡ 0) × (n .orders ≡ 1) × (n .accepted ≡ 1)
+pub taken-reply : (n : FlowReply) (t′ out′ : List ℕ) → FlowReplies sampleTable (single "471") (room 1) n t′ out′
+    → (n .code ≡ 0) × (n .place ≡ 0) × (n .orders ≡ 1) × (n .accepted ≡ 1)
 taken-reply n t′ out′ p =
     let e = ap flowReply (taken (p .0) t′ out′ (p .1)) in
     (p .2 .0 ∙ ap (λ (x : FlowReply). x .code) e, p .2 .1 ∙ ap (λ (x : FlowReply). x .place) e, p .2 .2 ∙ ap (λ (x : FlowReply). x .orders) e, p .2 .3 ∙ ap (λ (x : FlowReply). x .accepted) e)
@@ -40,18 +49,18 @@ taken-reply n t′ out′ p =
 pub taken-again : (a : FlowAnswer) (t′ out′ : List ℕ) → FlowPromise second (single "471") (room 1) a t′ out′ → a ≡ Taken 1 0
 taken-again a t′ out′ p = by-reading second (single "471") (room 1) again-reads p .0 ∙ facts .answer-again
 
--- three orders: accepted, 14, accepted; the third is in the second slot
-module _ (a : FlowAnswer) (t′ out′ : List ℕ) (p : FlowPromise table three (room 3) a t′ out′) where
-  pub more-taken : a ≡ Taken 3 2
-  more-taken = by-reading table three (room 3) more-reads p .0 ∙ facts .answer-more
+-- two orders there: 14, accepted; the second is in the second slot
+module _ (a : FlowAnswer) (t′ out′ : List ℕ) (p : FlowPromise second two (room 2) a t′ out′) where
+  pub more-taken : a ≡ Taken 2 1
+  more-taken = by-reading second two (room 2) more-reads p .0 ∙ facts .answer-more
 
-  pub more-codes : (getD out′ 2 0 ≡ 0) × (getD out′ 18 0 ≡ 14)
+  pub more-codes : (getD out′ 2 0 ≡ 14) × (getD out′ 18 0 ≡ 0)
   more-codes =
-      let e = by-reading table three (room 3) more-reads p .2 in
-      (ap (λ (x : List ℕ). getD x 2 0) e ∙ facts .code-0, ap (λ (x : List ℕ). getD x 18 0) e ∙ facts .code-1)
+      let e = by-reading second two (room 2) more-reads p .2 in
+      (byte 2 e ∙ facts .code-0, byte 18 e ∙ facts .code-1)
 
   pub more-stored : getD t′ 560 0 ≡ 1
-  more-stored = ap (λ (x : List ℕ). getD x 560 0) (by-reading table three (room 3) more-reads p .1) ∙ facts .next
+  more-stored = byte 560 (by-reading second two (room 2) more-reads p .1) ∙ facts .next
 
 -- THE RIGHT ONE: something keeps the promise
 abbrev pub right : Taker
@@ -73,49 +82,116 @@ accepted a = flowReply a .accepted
 
 module _ (T : Taker) (keeps : Keeps T) where
   pub refuses-all : RefusesAll T → ⊥
-  refuses-all r = r table (single "471") (room 1) (ap code (taken _ _ _ (keeps table (single "471") (room 1))))
+  refuses-all r = r sampleTable (single "471") (room 1) (ap code (taken _ _ _ (keeps sampleTable (single "471") (room 1))))
 
   pub one-outcome : OneOutcome T → ⊥
   one-outcome r =
-      let k = keeps table three (room 3) in
+      let k = keeps second two (room 2) in
       let n = ap (λ (a : FlowAnswer). flowReply a .orders) (more-taken _ _ _ k) in
-      omega (arith, more-codes _ _ _ k, r table three (room 3) 0 1 (omega arith) (omega arith))
+      omega (arith, more-codes _ _ _ k, r second two (room 2) 0 1 (omega arith) (omega arith))
 
   pub stores-nothing : StoresNothing T → ⊥
   stores-nothing r =
-      let k = keeps table (single "471") (room 1) in
-      omega (arith, stored _ _ _ k, facts .slot-empty, ap (λ (x : List ℕ). getD x 464 0) (r table (single "471") (room 1) (ap code (taken _ _ _ k))))
+      let k = keeps sampleTable (single "471") (room 1) in
+      omega (arith, stored _ _ _ k, facts .slot-empty, byte 464 (r sampleTable (single "471") (room 1) (ap code (taken _ _ _ k))))
 
   pub first-only : FirstOnly T → ⊥
   first-only r =
-      let z = r table three (room 3) 464 4 2021 (order 1) (order 1 ∷ order 2 ∷ []) more-reads in
-      omega (arith, more-stored _ _ _ (keeps table three (room 3)), facts .next-empty, ap (λ (x : List ℕ). getD x 560 0) z)
+      let z = r second two (room 2) 464 4 2021 (order 1) (order 2 ∷ []) more-reads in
+      omega (arith, more-stored _ _ _ (keeps second two (room 2)), facts .next-empty, byte 560 z)
 
   pub invents-accepted : InventsAccepted T → ⊥
-  invents-accepted r = r .other (accepted-counts (r .table) (r .flow) (r .lent) _ _ _ (keeps (r .table) (r .flow) (r .lent)) (r .taken))
+  invents-accepted r = r .other (condition2 .accepted (r .table) (r .flow) (r .lent) _ _ _ (keeps (r .table) (r .flow) (r .lent)) (r .taken))
 
   pub counts-orders : CountsOrders T → ⊥
   counts-orders r =
-      let d = taken _ _ _ (keeps table (single "471") (room 1)) in
+      let d = taken _ _ _ (keeps sampleTable (single "471") (room 1)) in
       let e = taken-again _ _ _ (keeps second (single "471") (room 1)) in
-      let x : 1 ≡ r .0 1 = sym (ap accepted d) ∙ r .1 table (single "471") (room 1) ∙ ap (λ (a : FlowAnswer). r .0 (flowReply a .orders)) d in
+      let x : 1 ≡ r .0 1 = sym (ap accepted d) ∙ r .1 sampleTable (single "471") (room 1) ∙ ap (λ (a : FlowAnswer). r .0 (flowReply a .orders)) d in
       let y : 0 ≡ r .0 1 = sym (ap accepted e) ∙ r .1 second (single "471") (room 1) ∙ ap (λ (a : FlowAnswer). r .0 (flowReply a .orders)) e in
       omega arith
+
+  -- an order of two lines changed to one line: its second amount is 0, and was 50.00
+  pub keeps-amounts : KeepsAmounts T → ⊥
+  keeps-amounts r =
+      let e = by-reading twoLined changing (room 1) changed-reads (keeps twoLined changing (room 1)) .1 in
+      let z = r twoLined changing (room 1) 464 4 2021 0 1 change changed-reads refl (facts .comes-change) (omega arith) in
+      omega (arith, facts .amount-old, facts .amount-new, z, ap (λ (x : List ℕ). getD (recordAt x 464 .amounts) 1 0) e)
+
+  -- its ANNULLO with another amount is refused (19)
+  pub annuls-by-number : AnnulsByNumber T → ⊥
+  annuls-by-number r =
+      let e = by-reading twoLined annulling (room 1) annulled-reads (keeps twoLined annulling (room 1)) .0 ∙ facts .answer-annul in
+      let z = r twoLined annulling (room 1) 464 4 2021 0 annul annulled-reads refl (facts .lines-right) (facts .found) (facts .waits) in
+      omega (arith, ap accepted e)
+
+  -- 000471's one slot is full, and 471's order is accepted
+  pub no-slot-for-others : NoSlotForOthers T → ⊥
+  no-slot-for-others r =
+      let e = by-reading crowd (single "471") (room 1) crowded-reads (keeps crowd (single "471") (room 1)) .2 in
+      let z = r crowd (single "471") (room 1) 176 1 2021 0 0 (order 1) crowded-reads refl (facts .comes-crowd) (omega (arith, facts .crowd-bodies)) (λ q. omega (arith, facts .crowd-place)) (facts .crowd-full) in
+      omega (arith, facts .code-crowd, byte 2 e)
+
+  -- the flow whose last field breaks leaves the table, and the flow of its first order alone does not
+  pub half-applied : HalfApplied T → ⊥
+  half-applied r =
+      let z = r sampleTable broken (single "471") (room 1) 967 (flows .own .at) 656 (flows .late .breaks) (flows .own .stands) (omega arith) (flows .cut) in
+      let e = by-reading sampleTable broken (room 1) broken-reads (keeps sampleTable broken (room 1)) .1 in
+      omega (arith, stored _ _ _ (keeps sampleTable (single "471") (room 1)), facts .slot-empty, byte 464 z, byte 464 e)
+
+  pub serves-elsewhere : ServesElsewhere T → ⊥
+  serves-elsewhere r =
+      let e = by-reading sampleTable (single "471") (room 1) own-reads (keeps sampleTable (single "471") (room 1)) .1 in
+      let z = r sampleTable (single "471") (room 1) 464 4 2021 (order 1 ∷ []) own-reads in
+      omega (arith, facts .slots-used, facts .slots-empty, byte 0 z, ap (λ (x : List ℕ). getD (part x 464 848) 0 0) e)
 
   -- on the table that mandato 1 of 000471 left: refused (14) for 000471, accepted for 471
   pub by-number : ByNumber T → ⊥
   by-number r =
       let x = flows .other in
       let y = flows .own in
-      let same = r first (single "000471") (single "471") (room 1) (x .at) (y .at) 471 0 1 (x .stands) (y .stands)
-      (ap (λ (h : Header). h .abi) (x .header) ∙ sym (ap (λ (h : Header). h .abi) (y .header)))
-      (ap (λ (h : Header). h .esercizio) (x .header) ∙ sym (ap (λ (h : Header). h .esercizio) (y .header)))
-      (x .orders ∙ sym (y .orders))
-      (ap (λ (h : Header). bodyOf first (h .ente)) (x .header) ∙ facts .body-other)
-      (ap (λ (h : Header). bodyOf first (h .ente)) (y .header) ∙ facts .body-own)
-      (ap (λ (h : Header). digits 1 16 (h .ente)) (x .header) ∙ facts .value-other)
-      (ap (λ (h : Header). digits 1 16 (h .ente)) (y .header) ∙ facts .value-own) in
+      let abi : Header → List ℕ = λ h. h .abi in
+      let year : Header → ℕ = λ h. h .esercizio in
+      let same = r first (single "000471") (single "471") (room 1) (x .at) (y .at) (x .stands) (y .stands)
+      (ap abi (x .header) ∙ sym (ap abi (y .header))) (ap year (x .header) ∙ sym (ap year (y .header))) (x .orders ∙ sym (y .orders))
+      (subst (λ (c : List ℕ × List ℕ). Mixed first (c .0) (c .1)) (λ i. (sym (x .header) i .ente, sym (y .header) i .ente)) (facts .mixed)) in
       let d = by-reading first (single "000471") (room 1) other-first-reads (keeps first (single "000471") (room 1)) .0 ∙ facts .answer-other in
       let e = by-reading first (single "471") (room 1) own-first-reads (keeps first (single "471") (room 1)) .0 ∙ facts .answer-first in
       let z : _≡_ {A = ℕ} 0 1 = ap accepted (sym d ∙ same ∙ e) in
       omega arith
+
+-- on the same table: 000471's mandato 1 is executed for 000471, and unknown (16) for 471
+pub notice-by-number : (N : Notifier) → KeepsNotice N → NoticeByNumber N → ⊥
+notice-by-number N keeps r =
+    let d = keeps first true (bytes "000471") key 1 .0 ∙ facts .notice-other in
+    let e = keeps first true (bytes "471") key 1 .0 ∙ facts .notice-own in
+    let z : _≡_ {A = ℕ} 0 16 = ap noticeCodeOf (sym d ∙ r first (bytes "000471") (bytes "471") (facts .mixed) true key 1 ∙ e) in
+    omega arith
+
+module _ (S : Teller) (keeps : KeepsTotals S) where
+  abbrev used : TotalsAnswer → ℕ
+  used a = a .used
+
+  -- there 000471 uses one slot, 471 none
+  pub totals-by-number : TotalsByNumber S → ⊥
+  totals-by-number r =
+      let d = ap used (keeps first (bytes "000471")) ∙ facts .used-other in
+      let e = ap used (keeps first (bytes "471")) ∙ facts .used-own in
+      omega (arith, ap used (r first (bytes "000471") (bytes "471") (facts .mixed)))
+
+  pub invents-used : InventsUsed S → ⊥
+  invents-used r = r .other (condition2 .totals (r .table) (r .valid) (r .code) (r .body) (r .named) _ (keeps (r .table) (r .code)) .1)
+
+  -- and before mandato 1 000471 used none
+  pub used-unseen : UsedUnseen S → ⊥
+  used-unseen r =
+      let d = ap used (keeps first (bytes "000471")) ∙ facts .used-other in
+      let e = ap used (keeps sampleTable (bytes "000471")) ∙ facts .used-before in
+      omega (arith, r .1 first (bytes "000471"), r .1 sampleTable (bytes "000471"))
+
+-- document 01's own table is opened
+pub open-by-number : (O : Opener) → KeepsOpen O → OpenByNumber O → ⊥
+open-by-number O keeps r =
+    let z = r (requestOf 4) (replicate 848 0) 0 1 (omega arith) (omega (arith, facts .asked-two)) (facts .value-asked) in
+    let y : _≡_ {A = ℕ} 9 0 = ap openCode (sym z ∙ keeps (requestOf 4) (replicate 848 0) .0 ∙ facts .opens) in
+    omega arith

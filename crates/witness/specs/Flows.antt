@@ -1,55 +1,83 @@
--- Flows for document 01's table (bodies 000471 and 471), as bytes, and what they are to be read as.
-use Prim.Native.Nat.{ℕ, _*_}
+-- Flows for document 01's table (bodies 000471 and 471), as bytes; what they are to be read as; and the tables that orders leave.
+use Prim.Native.Nat.{ℕ}
 use Prim.Native.String.{String}
 use mathlib.Core.List.{List, [], _∷_, _++_}
-use lib.ListN.{replicate}
+use lib.ListN.{length}
 use Rattle.scan.specs.Bytes.{bytes}
+use Rattle.codes.specs.declared.Operation.{Operation}
 use Rattle.codes.specs.declared.Operation.the-variants.{Inserimento}
+use Rattle.opening.specs.Opening.{opened}
 use Rattle.order.specs.Ordinativo.{Ordinativo}
 use Rattle.orders.specs.Orders.{Header}
+use Rattle.lines.specs.Lines.{lineCode}
 use Rattle.service.specs.Service.{orderLeaves}
-use Rattle.theorems.specs.Marked.{table}
+use Rattle.marked.specs.Flows.{requestOf, sampleTable, mandatoFor, mandato, flowOf}
 
--- mandato n of 2021-03-01 inserted, of 1.00 in one line
-abbrev pub mandato : String → List ℕ
-mandato n =
-    bytes "<mandato><tipo_operazione>INSERIMENTO</tipo_operazione><numero_mandato>" ++ bytes n
-    ++ bytes "</numero_mandato><data_mandato>2021-03-01</data_mandato><importo_mandato>1.00</importo_mandato><informazioni_beneficiario><progressivo_beneficiario>1</progressivo_beneficiario><importo_beneficiario>1.00</importo_beneficiario><beneficiario><anagrafica_beneficiario>R</anagrafica_beneficiario></beneficiario></informazioni_beneficiario></mandato>"
+-- FLOWS for 471: mandato 1 and mandato 2 inserted
+abbrev pub two : List ℕ
+two = flowOf "471" (mandato "INSERIMENTO" "1" ++ mandato "INSERIMENTO" "2")
 
--- a flow of orders for the body with this code
-abbrev pub flowOf : String → List ℕ → List ℕ
-flowOf code orders =
-    bytes "<flusso_ordinativi><codice_ABI_BT>01234</codice_ABI_BT><identificativo_flusso>A</identificativo_flusso><data_ora_creazione_flusso>2021-03-01T09:30:00</data_ora_creazione_flusso><codice_ente_BT>"
-    ++ bytes code ++ bytes "</codice_ente_BT><esercizio>2021</esercizio>" ++ orders ++ bytes "</flusso_ordinativi>"
+-- the same with the last field of the second broken: no name
+abbrev pub broken : List ℕ
+broken = flowOf "471" (mandato "INSERIMENTO" "1" ++ mandatoFor "" "INSERIMENTO" "2")
 
-abbrev pub single : String → List ℕ
-single code = flowOf code (mandato "1")
+-- mandato 1 changed, and annulled
+abbrev pub changing : List ℕ
+changing = flowOf "471" (mandato "VARIAZIONE" "1")
 
--- mandato 1, mandato 1 again, mandato 2
-abbrev pub three : List ℕ
-three = flowOf "471" (mandato "1" ++ mandato "1" ++ mandato "2")
+abbrev pub annulling : List ℕ
+annulling = flowOf "471" (mandato "ANNULLO" "1")
 
 -- READ AS
 abbrev pub headerFor : String → Header
 headerFor code = record { abi = bytes "01234"; ente = bytes code; esercizio = 2021 }
 
-abbrev pub order : ℕ → Ordinativo
-order n = record {
+-- of 1.00 in one line
+abbrev pub orderTo : Operation → ℕ → Ordinativo
+orderTo op n = record {
   kind = 1;
-  operation = Inserimento;
+  operation = op;
   number = n;
   date = record { year = 2021; month = 3; day = 1 };
   total = 100;
   lines = record { progressivo = 1; amount = 100 } ∷ [];
 }
 
--- AN OUTCOME BUFFER with room for n orders
-abbrev pub room : ℕ → List ℕ
-room n = replicate (16 * n) 0
+abbrev pub order : ℕ → Ordinativo
+order = orderTo Inserimento
 
--- DOCUMENT 01'S TABLE after mandato 1 for 000471, and after mandato 1 for 471
+-- of 150.00 in lines of 100.00 and 50.00
+abbrev pub twoLines : ℕ → Ordinativo
+twoLines n = record {
+  kind = 1;
+  operation = Inserimento;
+  number = n;
+  date = record { year = 2021; month = 3; day = 1 };
+  total = 15000;
+  lines = record { progressivo = 1; amount = 10000 } ∷ record { progressivo = 2; amount = 5000 } ∷ [];
+}
+
+-- how many lines an order has, and what the line check says of them
+abbrev pub lineCount : Ordinativo → ℕ
+lineCount o = length (o .lines)
+
+abbrev pub linesCode : Ordinativo → ℕ
+linesCode o = lineCode (o .lines) (o .total)
+
+-- TABLES: document 01's after mandato 1 for 000471, and after mandato 1 for 471
 abbrev pub first : List ℕ
-first = orderLeaves table 80 4 2021 (order 1)
+first = orderLeaves sampleTable 80 4 2021 (order 1)
 
 abbrev pub second : List ℕ
-second = orderLeaves table 464 4 2021 (order 1)
+second = orderLeaves sampleTable 464 4 2021 (order 1)
+
+-- after a mandato 1 of two lines for 471
+abbrev pub twoLined : List ℕ
+twoLined = orderLeaves sampleTable 464 4 2021 (twoLines 1)
+
+-- for the same bodies with one slot each, and when 000471 has filled its own
+abbrev pub small : List ℕ
+small = opened (requestOf 1)
+
+abbrev pub crowd : List ℕ
+crowd = orderLeaves small 80 1 2021 (order 1)

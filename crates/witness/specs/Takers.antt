@@ -1,20 +1,44 @@
--- WHAT TAKES FLOWS, right or wrong: any function from a table, a flow and a lent outcome buffer to an answer and the two buffers afterwards.
-use Prim.Native.Nat.{ℕ, _+_, _*_, _<_}
+-- WHAT TAKES CALLS, right or wrong: functions from what a call is lent to an answer and the buffers afterwards. What is proved impossible of those that
+-- keep the promises are document 01's five programs ("How tight the promises are") and its "Errors we have seen made", each said by what it does at
+-- every input.
+use Prim.Native.Nat.{ℕ, _+_, _*_, _<_, _≤_}
 use mathlib.Core.Path.{_≡_}
-use mathlib.Core.List.{List, _∷_}
-use lib.ListN.{length, getD}
+use mathlib.Core.Bool.{Bool, true}
+use mathlib.Core.List.{List, [], _∷_, _++_}
+use lib.ListN.{length, getD, take}
+use Rattle.scan.specs.Bytes.{bytes, part}
 use Rattle.digits.specs.declared.Number.the-variants.{Value}
 use Rattle.digits.specs.Digits.{digits}
 use Rattle.ranges.specs.declared.Found.the-variants.{At}
-use Rattle.table.specs.Table.{bodyOf}
+use Rattle.codes.specs.declared.Operation.the-variants.{Inserimento, Variazione, Annullo}
+use Rattle.record.specs.declared.Key.{Key}
+use Rattle.record.specs.Slot.{slotSize, recordAt}
+use Rattle.slots.specs.Slots.{usedAt, recordsAt, findIn}
+use Rattle.entries.specs.Entry.{requestSize, slotsOf, placeOf, codesFrom}
+use Rattle.table.specs.Table.{tableOk, bodies, bodyOf, entryOf}
+use Rattle.request.specs.Request.{firstBody, asked}
+use Rattle.opening.specs.declared.Opened.{Opened}
+use Rattle.opening.specs.declared.Opened.the-variants.{WrongRequest}
+use Rattle.opening.specs.Opening.{OpenPromise}
 use Rattle.order.specs.Ordinativo.{Ordinativo}
-use Rattle.flow.specs.declared.Verdict.the-variants.{Stands}
+use Rattle.flow.specs.declared.Verdict.the-variants.{FieldBreaks, Stands}
 use Rattle.flow.specs.Flow.{verdictOf, headerOf, flowOrders}
-use Rattle.service.specs.Service.{orderLeaves}
+use Rattle.rules.specs.declared.Situation.the-variants.{Waiting}
+use Rattle.rules.specs.declared.Change.the-variants.{Insert, Vary}
+use Rattle.rules.specs.declared.Ruling.the-variants.{Accepted}
+use Rattle.rules.specs.Rules.{keyFor, nth, situationIn}
+use Rattle.service.specs.Service.{orderComes, orderLeaves}
+use Rattle.notices.specs.declared.NoticeAnswer.{NoticeAnswer}
+use Rattle.notices.specs.declared.TotalsAnswer.{TotalsAnswer}
+use Rattle.notices.specs.Notices.{NoticePromise, TotalsPromise}
 use Rattle.desk.specs.declared.FlowAnswer.{FlowAnswer}
+use Rattle.desk.specs.declared.FlowReply.{FlowReply}
 use Rattle.desk.specs.Desk.{served, flowReads, FlowPromise, flowReply}
-use Rattle.theorems.specs.Codes.{zeroCodes}
+use Rattle.theorems.specs.Engine.{recordsOf}
+use Rattle.theorems.specs.Codes.{outcomeCodes, zeroCodes}
+use Rattle.witness.specs.Flows.{lineCount, linesCode}
 
+-- FLOWS: from a table, a flow and a lent outcome buffer
 pub record Taker : Type 0 where
   pub answer : List ℕ → List ℕ → List ℕ → FlowAnswer
   pub table : List ℕ → List ℕ → List ℕ → List ℕ
@@ -24,43 +48,135 @@ pub record Taker : Type 0 where
 abbrev pub Keeps : Taker → Type 0
 Keeps T = (t f out : List ℕ) → FlowPromise t f out (T .answer t f out) (T .table t f out) (T .outcomes t f out)
 
--- WRONG ONES
+module _ (T : Taker) where
+  -- document 01's numbers of its answer
+  abbrev reply : List ℕ → List ℕ → List ℕ → FlowReply
+  reply t f out = flowReply (T .answer t f out)
 
--- refuses every flow
-abbrev pub RefusesAll : Taker → Type 0
-RefusesAll T = (t f out : List ℕ) → flowReply (T .answer t f out) .code ≡ 0 → ⊥
+  -- "a reader that refuses every flow"
+  abbrev pub RefusesAll : Type 0
+  RefusesAll = (t f out : List ℕ) → reply t f out .code ≡ 0 → ⊥
 
--- one outcome code for every order of a flow. (Byte 2 of an outcome's 16 is its code)
-abbrev pub OneOutcome : Taker → Type 0
-OneOutcome T = (t f out : List ℕ) (i j : ℕ) → i < flowReply (T .answer t f out) .orders → j < flowReply (T .answer t f out) .orders
-    → getD (T .outcomes t f out) (16 * i + 2) 0 ≡ getD (T .outcomes t f out) (16 * j + 2) 0
+  -- "one that gives one outcome to every order". (Byte 2 of an outcome's 16 is its code)
+  abbrev pub OneOutcome : Type 0
+  OneOutcome = (t f out : List ℕ) (i j : ℕ) → i < reply t f out .orders → j < reply t f out .orders
+      → getD (T .outcomes t f out) (16 * i + 2) 0 ≡ getD (T .outcomes t f out) (16 * j + 2) 0
 
--- answers 0 and stores nothing
-abbrev pub StoresNothing : Taker → Type 0
-StoresNothing T = (t f out : List ℕ) → flowReply (T .answer t f out) .code ≡ 0 → T .table t f out ≡ t
+  -- "one that answers 0 and stores nothing"
+  abbrev pub StoresNothing : Type 0
+  StoresNothing = (t f out : List ℕ) → reply t f out .code ≡ 0 → T .table t f out ≡ t
 
--- serves a flow's first order alone, whatever it writes for the others
-abbrev pub FirstOnly : Taker → Type 0
-FirstOnly T = (t f out : List ℕ) (base n year : ℕ) (o : Ordinativo) (os : List Ordinativo) → flowReads t f (length out) ≡ served base n year (o ∷ os)
-    → T .table t f out ≡ orderLeaves t base n year o
+  -- "one that serves a flow's first order and only writes outcomes for the others"
+  abbrev pub FirstOnly : Type 0
+  FirstOnly = (t f out : List ℕ) (base n year : ℕ) (o : Ordinativo) (os : List Ordinativo) → flowReads t f (length out) ≡ served base n year (o ∷ os)
+      → T .table t f out ≡ orderLeaves t base n year o
 
--- answers 0 and somewhere an `accepted` that isn't how many of the outcomes it wrote have code 0
-pub record InventsAccepted (T : Taker) : Type 0 where
+  -- "one that invents `accepted`": answers 0 and somewhere an `accepted` that isn't how many of the outcomes it wrote have code 0
+  pub record InventsAccepted : Type 0 where
+    pub table : List ℕ
+    pub flow : List ℕ
+    pub lent : List ℕ
+    pub taken : reply table flow lent .code ≡ 0
+    pub other : reply table flow lent .accepted ≡ zeroCodes (outcomeCodes (reply table flow lent .orders) (T .outcomes table flow lent)) → ⊥
+
+  -- or tells it from the number of orders alone
+  abbrev pub CountsOrders : Type 0
+  CountsOrders = (g : ℕ → ℕ) × ((t f out : List ℕ) → reply t f out .accepted ≡ g (reply t f out .orders))
+
+  -- "A changed order keeping old amounts in lines it no longer has"
+  abbrev pub KeepsAmounts : Type 0
+  KeepsAmounts = (t f out : List ℕ) (base n year i k : ℕ) (o : Ordinativo) → flowReads t f (length out) ≡ served base n year (o ∷ [])
+      → o .operation ≡ Variazione → orderComes t base n year o ≡ Accepted Vary i → lineCount o ≤ k
+      → getD (recordAt (T .table t f out) (base + slotSize * i) .amounts) k 0 ≡ getD (recordAt t (base + slotSize * i) .amounts) k 0
+
+  -- "ANNULLO by number alone, where the school meant another order": it is accepted where an order of that key is there, with every line waiting
+  abbrev pub AnnulsByNumber : Type 0
+  AnnulsByNumber = (t f out : List ℕ) (base n year i : ℕ) (o : Ordinativo) → flowReads t f (length out) ≡ served base n year (o ∷ [])
+      → o .operation ≡ Annullo → linesCode o ≡ 0 → findIn (recordsAt t base n) 0 (keyFor year o) ≡ At i
+      → situationIn (nth (recordsAt t base n) i) ≡ Waiting → reply t f out .accepted ≡ 1
+
+  -- "'No slot' answered because another body filled its own", to an order that the rules accept
+  abbrev pub NoSlotForOthers : Type 0
+  NoSlotForOthers = (t f out : List ℕ) (base n year i b : ℕ) (o : Ordinativo) → flowReads t f (length out) ≡ served base n year (o ∷ [])
+      → o .operation ≡ Inserimento → orderComes t base n year o ≡ Accepted Insert i → b < bodies t → (placeOf t (entryOf b) ≡ base → ⊥)
+      → usedAt t (placeOf t (entryOf b)) (slotsOf t (entryOf b)) ≡ slotsOf t (entryOf b) → getD (T .outcomes t f out) 2 0 ≡ 15
+
+  -- "A flow half applied before a late field broke": it leaves what the flow leaves that ends before the order with that field
+  abbrev pub HalfApplied : Type 0
+  HalfApplied = (t f g out : List ℕ) (p i q : ℕ) → verdictOf f ≡ FieldBreaks p → verdictOf g ≡ Stands i → q ≤ p
+      → g ≡ take q f ++ bytes "</flusso_ordinativi>" → T .table t f out ≡ T .table t g out
+
+  -- a body served on another body's slots: whatever it writes elsewhere, the slots of the flow's own body stay as they were
+  abbrev pub ServesElsewhere : Type 0
+  ServesElsewhere = (t f out : List ℕ) (base n year : ℕ) (os : List Ordinativo) → flowReads t f (length out) ≡ served base n year os
+      → part (T .table t f out) base (base + slotSize * n) ≡ part t base (base + slotSize * n)
+
+-- NOTICES, TOTALS AND OPENING
+pub record Notifier : Type 0 where
+  pub answer : List ℕ → Bool → List ℕ → Key → ℕ → NoticeAnswer
+  pub table : List ℕ → Bool → List ℕ → Key → ℕ → List ℕ
+
+abbrev pub KeepsNotice : Notifier → Type 0
+KeepsNotice N = (t : List ℕ) (executing : Bool) (code : List ℕ) (k : Key) (line : ℕ)
+    → NoticePromise t executing code k line (N .answer t executing code k line) (N .table t executing code k line)
+
+abbrev pub Teller : Type 0
+Teller = List ℕ → List ℕ → TotalsAnswer
+
+abbrev pub KeepsTotals : Teller → Type 0
+KeepsTotals S = (t code : List ℕ) → TotalsPromise t code (S t code)
+
+pub record Opener : Type 0 where
+  pub answer : List ℕ → List ℕ → Opened
+  pub table : List ℕ → List ℕ → List ℕ
+
+abbrev pub KeepsOpen : Opener → Type 0
+KeepsOpen O = (q t : List ℕ) → OpenPromise q t (O .answer q t) (O .table q t)
+
+-- "or `used`": somewhere a `used` that isn't how many records the body has
+pub record InventsUsed (S : Teller) : Type 0 where
   pub table : List ℕ
-  pub flow : List ℕ
-  pub lent : List ℕ
-  pub taken : flowReply (T .answer table flow lent) .code ≡ 0
-  pub other : flowReply (T .answer table flow lent) .accepted ≡ zeroCodes (flowReply (T .answer table flow lent) .orders) (T .outcomes table flow lent) → ⊥
+  pub code : List ℕ
+  pub body : ℕ
+  pub valid : tableOk table ≡ true
+  pub named : bodyOf table code ≡ At body
+  pub other : S table code .used ≡ length (recordsOf body table) → ⊥
 
--- tells `accepted` from the number of orders alone
-abbrev pub CountsOrders : Taker → Type 0
-CountsOrders T = (g : ℕ → ℕ) × ((t f out : List ℕ) → flowReply (T .answer t f out) .accepted ≡ g (flowReply (T .answer t f out) .orders))
+-- or one told without a look at the table
+abbrev pub UsedUnseen : Teller → Type 0
+UsedUnseen S = (g : List ℕ → ℕ) × ((t code : List ℕ) → S t code .used ≡ g code)
 
--- takes codes for numbers: two flows that stand and differ in nothing but codice_ente_BT, both codes those of bodies of the table and of one decimal
--- value, are answered alike
+-- "ANY CODE TURNED INTO AN INTEGER AND BACK": two codes that are numbers of one value are taken for one. Codes that are no numbers, and codes of no
+-- body, it may well keep apart
+pub record OneValue (a b : List ℕ) : Type 0 where
+  pub value : ℕ
+  pub left : digits 1 16 a ≡ Value value
+  pub right : digits 1 16 b ≡ Value value
+
+-- such codes of two bodies of a table
+pub record Mixed (t a b : List ℕ) : Type 0 where
+  pub one : ℕ
+  pub other : ℕ
+  pub left : bodyOf t a ≡ At one
+  pub right : bodyOf t b ≡ At other
+  pub value : OneValue a b
+
+-- flows that stand and differ in nothing but codice_ente_BT are answered alike
 abbrev pub ByNumber : Taker → Type 0
-ByNumber T = (t f g out : List ℕ) (i j v a b : ℕ) → verdictOf f ≡ Stands i → verdictOf g ≡ Stands j
+ByNumber T = (t f g out : List ℕ) (i j : ℕ) → verdictOf f ≡ Stands i → verdictOf g ≡ Stands j
     → headerOf f i .abi ≡ headerOf g j .abi → headerOf f i .esercizio ≡ headerOf g j .esercizio → flowOrders f i ≡ flowOrders g j
-    → bodyOf t (headerOf f i .ente) ≡ At a → bodyOf t (headerOf g j .ente) ≡ At b
-    → digits 1 16 (headerOf f i .ente) ≡ Value v → digits 1 16 (headerOf g j .ente) ≡ Value v
-    → T .answer t f out ≡ T .answer t g out
+    → Mixed t (headerOf f i .ente) (headerOf g j .ente) → T .answer t f out ≡ T .answer t g out
+
+abbrev pub NoticeByNumber : Notifier → Type 0
+NoticeByNumber N = (t a b : List ℕ) → Mixed t a b → (executing : Bool) (k : Key) (line : ℕ) → N .answer t executing a k line ≡ N .answer t executing b k line
+
+abbrev pub TotalsByNumber : Teller → Type 0
+TotalsByNumber S = (t a b : List ℕ) → Mixed t a b → S t a ≡ S t b
+
+-- the code of the body asked for at place i of a request
+abbrev pub codeAsked : List ℕ → ℕ → List ℕ
+codeAsked q i = getD (codesFrom requestSize q firstBody (asked q)) i []
+
+-- a request for two such bodies is held to repeat a code
+abbrev pub OpenByNumber : Opener → Type 0
+OpenByNumber O = (q t : List ℕ) (i j : ℕ) → i < j → j < asked q → OneValue (codeAsked q i) (codeAsked q j) → O .answer q t ≡ WrongRequest

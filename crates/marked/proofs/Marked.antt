@@ -1,0 +1,41 @@
+-- The marked cases hold: computed from the written rules.
+use mathlib.Core.Path.{_≡_, refl}
+use mathlib.Core.Bool.{true}
+use Rattle.scan.specs.Bytes.{isLetter, isDigit, isAlnum, isNameByte, isWhite, all as allBytes, run, runEnd, startsWith, hasAt, textIs}
+use Rattle.scan.specs.Characters.{isChar, sized, isTail, charSize, pastOr, charAt}
+use Rattle.words.specs.Numbers.{be2, be4, be8, put}
+use Rattle.calendar.specs.Calendar.{leap, monthLength, isDate}
+use Rattle.ranges.specs.Ranges.{zeros, isIdentifying}
+use Rattle.codes.specs.Codes.{codiceAbi, identificativo, codiceEnte, tipoOperazione}
+use Rattle.digits.specs.Digits.{digitsAfter, digits, esercizio, numero, zeroInFront, importo, progressivo}
+use Rattle.dates.specs.Dates.{dataOf, clock, dataOra}
+use Rattle.names.specs.Names.{refTail, replacedAfter, anagrafica}
+use Rattle.fields.specs.Fields.{fieldStands}
+use Rattle.tokens.specs.Tokens.{repeat, until, nameAt, pieceAt, textAt, endTagAt, optionalAt}
+use Rattle.markup.specs.Markup.{elementBy, childBy, childrenBy, contentBy, elementAt, contentAt, rootAt, markupOf}
+use Rattle.children.specs.Child.{childAt, childrenBy as childrenChildrenBy, childrenFrom}
+use Rattle.rows.specs.Kept.{keep, keptFrom}
+use Rattle.rows.specs.Table.{nameIs}
+use Rattle.structure.specs.Structure.{all as structureAll, rowsOf, inOrder, textOnly, fitBy, fitsAt}
+use Rattle.standing.specs.Readings.{fieldsBy, fieldsAt, firstBad}
+use Rattle.orders.specs.Orders.{inRow, textIn as ordersTextIn, inside, lineOf, linesOf, eight, linesIn, orderOf, ordersOf}
+use Rattle.flow.specs.Flow.{verdictOf}
+use Rattle.record.specs.Slot.{recordAt, restZero, flat8, recordBytes, keyIs}
+use Rattle.valid.specs.Valid.{lineThere, lineAbsent, lineOk, allFrom, sum, rangesOk, recordOk}
+use Rattle.slots.specs.Slots.{usedAt, slotsAt, findIn, distinct}
+use Rattle.body.specs.Body.{slotOk, slotsOk, bodyOk}
+use Rattle.entries.specs.Entry.{codeAt, slotsOf, placeOf, formOk, codesFrom, findCode, distinctCodes}
+use Rattle.table.specs.Table.{headOk, entryOk, layoutOk, bodiesOk, tableOk}
+use Rattle.request.specs.Request.{asked, slotsAsked, needed}
+use Rattle.opening.specs.Opening.{headBytes as headAsked, entryBytes, entriesBytes, opened}
+use Rattle.lines.specs.Lines.{numberedFrom, sumOf, lineCode}
+use Rattle.rules.specs.Rules.{amountsOf, anyExecuted, situationIn, situationOf, placed, stepped, judgeOrder, written, lineMoves, noticeIn, noticeAt, judgeNotice}
+use Rattle.service.specs.Service.{orderComes, orderStored, outcomeBytes, allLeave, allOutcomes, noticeComes}
+use Rattle.address.specs.Address.{addressed}
+use Rattle.notices.specs.Notices.{noticeBy}
+use Rattle.desk.specs.Desk.{flowReads}
+use Rattle.marked.specs.Marked.{allHold, marked}
+
+pub all-hold : allHold marked ≡ true
+unfolding isLetter isDigit isAlnum isNameByte isWhite allBytes run runEnd startsWith hasAt textIs isChar sized isTail charSize pastOr charAt be2 be4 be8 put leap monthLength isDate zeros isIdentifying codiceAbi identificativo codiceEnte tipoOperazione digitsAfter digits esercizio numero zeroInFront importo progressivo dataOf clock dataOra refTail replacedAfter anagrafica fieldStands repeat until nameAt pieceAt textAt endTagAt optionalAt elementBy childBy childrenBy contentBy elementAt contentAt rootAt markupOf childAt childrenChildrenBy childrenFrom keep keptFrom nameIs structureAll rowsOf inOrder textOnly fitBy fitsAt fieldsBy fieldsAt firstBad inRow ordersTextIn inside lineOf linesOf eight linesIn orderOf ordersOf verdictOf recordAt restZero flat8 recordBytes keyIs lineThere lineAbsent lineOk allFrom sum rangesOk recordOk usedAt slotsAt findIn distinct slotOk slotsOk bodyOk codeAt slotsOf placeOf formOk codesFrom findCode distinctCodes headOk entryOk layoutOk bodiesOk tableOk asked slotsAsked needed headAsked entryBytes entriesBytes opened numberedFrom sumOf lineCode amountsOf anyExecuted situationIn situationOf placed stepped judgeOrder written lineMoves noticeIn noticeAt judgeNotice orderComes orderStored outcomeBytes allLeave allOutcomes noticeComes addressed noticeBy flowReads
+all-hold = refl

@@ -1,0 +1,60 @@
+-- CONDITION 1, proved. (Its codes: Codes and Accepted; a refused flow: crates/desk/proofs/Refusals.antt.)
+use Prim.Native.Nat.{ℕ}
+use mathlib.Core.Path.{_≡_, refl, ap, _∙_}
+use mathlib.Core.Bool.{Bool}
+use mathlib.Core.List.{List}
+use Rattle.order.specs.Ordinativo.{Ordinativo}
+use Rattle.record.specs.declared.Key.{Key}
+use Rattle.rules.specs.declared.Ruling.{Ruling}
+use Rattle.rules.specs.declared.Ruling.the-variants.{Accepted, Refused}
+use Rattle.rules.specs.declared.Noticed.{Noticed}
+use Rattle.rules.specs.declared.Noticed.the-variants.{Moved, Unmoved}
+use Rattle.rules.specs.Rules.{orderCode}
+use Rattle.service.specs.Service.{orderComes, orderStored, noticeComes, noticeStored}
+use Rattle.address.specs.declared.Addressed.{Addressed}
+use Rattle.address.specs.declared.Addressed.the-variants.{Invalid, Unknown, Body}
+use Rattle.address.specs.Address.{addressed}
+use Rattle.notices.specs.Notices.{noticed, noticeBy, noticeTableBy, noticeCodeOf}
+use Rattle.opening.specs.declared.Opened.{Opened}
+use Rattle.opening.specs.declared.Opened.the-variants.{Open, WrongRequest, WrongLength}
+use Rattle.opening.specs.Opening.{openCode, openTable}
+use Rattle.desk.proofs.Refusals.{code-keeps}
+use Rattle.theorems.specs.Condition1.{Condition1}
+use Rattle.theorems.proofs.Steps.{answer, after, steps}
+use Rattle.theorems.proofs.Codes.{open-codes, call-codes}
+use Rattle.theorems.proofs.Accepted.{outcomes-coded}
+
+stored : (t : List ℕ) (base year : ℕ) (o : Ordinativo) (j : Ruling) → (orderCode j ≡ 0 → ⊥) → orderStored t base year o j ≡ t
+unfolding orderStored
+stored t base year o (Accepted c i) f = absurd (f refl)
+stored t base year o (Refused c) f = refl
+
+moved : (t : List ℕ) (base : ℕ) (executing : Bool) (line : ℕ) (m : Noticed) → (noticeCodeOf (noticed m) ≡ 0 → ⊥) → noticeStored t base executing line m ≡ t
+unfolding noticeStored
+moved t base executing line (Moved i cents) f = absurd (f refl)
+moved t base executing line (Unmoved c) f = refl
+
+addressed-keeps : (t : List ℕ) (executing : Bool) (k : Key) (line : ℕ) (a : Addressed)
+    → (noticeCodeOf (noticeBy t executing k line a) ≡ 0 → ⊥) → noticeTableBy t executing k line a ≡ t
+unfolding noticeBy noticeTableBy
+addressed-keeps t executing k line Invalid f = refl
+addressed-keeps t executing k line Unknown f = refl
+addressed-keeps t executing k line (Body e base n) f = moved t base executing line (noticeComes t base n executing k line) f
+
+opening-keeps : (q t : List ℕ) (a : Opened) → (openCode a ≡ 0 → ⊥) → openTable a q t ≡ t
+opening-keeps q t Open f = absurd (f refl)
+opening-keeps q t WrongRequest f = refl
+opening-keeps q t WrongLength f = refl
+
+pub condition1 : Condition1
+condition1 = record {
+  opening-numbered = λ q t a t′ p. open-codes a;
+  call-numbered = call-codes;
+  orders-numbered = outcomes-coded;
+  answered = λ c t. (answer c t, after c t, steps c t);
+  refused-flow = λ t f out a t′ out′ p h. code-keeps t f out h p;
+  refused-order = λ t base n year o. stored t base year o (orderComes t base n year o);
+  refused-notice = λ t executing code k line a t′ p f.
+      p .1 ∙ addressed-keeps t executing k line (addressed t code) (λ e. f (ap noticeCodeOf (p .0) ∙ e));
+  refused-opening = λ q t a t′ p f. p .1 ∙ opening-keeps q t a f;
+}

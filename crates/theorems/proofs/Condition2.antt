@@ -1,0 +1,70 @@
+-- CONDITION 2, proved.
+use Prim.Native.Nat.{ℕ}
+use lib.IntN.{pos, _-ℤ_}
+use mathlib.Core.Path.{_≡_, sym, ap, _∙_}
+use mathlib.Core.Bool.{Bool, true}
+use mathlib.Core.List.{List}
+use Rattle.ranges.specs.declared.Found.the-variants.{At}
+use Rattle.record.specs.declared.Key.{Key}
+use Rattle.slots.proofs.Index.{length-records}
+use Rattle.entries.specs.Entry.{slotsOf, placeOf}
+use Rattle.table.specs.Table.{tableOk, bodyOf, entryOf}
+use Rattle.table.proofs.Bodies.{body-at}
+use Rattle.rules.specs.Rules.{judgeNotice}
+use Rattle.service.specs.Service.{noticeComes}
+use Rattle.notices.specs.declared.NoticeAnswer.{NoticeAnswer}
+use Rattle.address.specs.declared.Addressed.the-variants.{Body}
+use Rattle.notices.specs.declared.TotalsAnswer.{TotalsAnswer}
+use Rattle.address.specs.Address.{addressed}
+use Rattle.notices.specs.Notices.{noticed, noticeBy, NoticePromise, bodyTotals, totalsOf, TotalsPromise}
+use Rattle.theorems.specs.Engine.{recordsOf}
+use Rattle.theorems.specs.Condition2.{Condition2}
+use Rattle.theorems.proofs.Given.{given-when}
+use Rattle.theorems.proofs.Exactly.{order-exactly, order-answer, notice-exactly, notice-answer, no-such-key}
+use Rattle.theorems.proofs.Accepted.{orders-in-turn, accepted-counts}
+
+-- A BODY of a valid table
+module _ (t : List ℕ) (ok : tableOk t ≡ true) (code : List ℕ) (b : ℕ) (e : bodyOf t code ≡ At b) where
+  abbrev base : ℕ
+  base = placeOf t (entryOf b)
+
+  abbrev size : ℕ
+  size = slotsOf t (entryOf b)
+
+  is-body : addressed t code ≡ Body (entryOf b) base size
+  unfolding addressed
+  is-body = rw (ok, e)
+
+  noticed-is : (executing : Bool) (k : Key) (line : ℕ) (a : NoticeAnswer) (t′ : List ℕ) → NoticePromise t executing code k line a t′
+      → a ≡ noticed (judgeNotice executing k line (recordsOf b t))
+  unfolding noticeBy noticeComes
+  noticed-is executing k line a t′ p = p .0 ∙ ap (noticeBy t executing k line) is-body
+
+  totals-are : (a : TotalsAnswer) → TotalsPromise t code a → a ≡ bodyTotals t base size
+  unfolding totalsOf
+  totals-are a p = p ∙ rw is-body
+
+pub condition2 : Condition2
+unfolding bodyTotals
+condition2 = record {
+  refusals = given-when;
+  orders = orders-in-turn;
+  accepted = accepted-counts;
+  notices = noticed-is;
+  exactly = λ t ok b l year o. order-exactly t (placeOf t (entryOf b)) (slotsOf t (entryOf b)) (body-at t ok b l .valid) year o;
+  answer = λ t ok b l year o. order-answer t (placeOf t (entryOf b)) (slotsOf t (entryOf b)) (body-at t ok b l .valid) year o;
+  notice-exactly = λ t ok code b e executing k line a t′ p.
+      notice-exactly t executing code k line a t′ p (entryOf b) (placeOf t (entryOf b)) (slotsOf t (entryOf b)) (is-body t ok code b e);
+  notice-answer = λ t ok code b e executing k line a t′ p.
+      notice-answer t executing code k line a t′ p (entryOf b) (placeOf t (entryOf b)) (slotsOf t (entryOf b)) (is-body t ok code b e);
+  no-such-order = λ t ok code b e executing k line a t′ p.
+      no-such-key t executing code k line a t′ p (entryOf b) (placeOf t (entryOf b)) (slotsOf t (entryOf b)) (is-body t ok code b e);
+  totals = λ t ok code b e a p.
+      let s = totals-are t ok code b e a p in (
+        ap (λ (x : TotalsAnswer). x .code) s,
+        ap (λ (x : TotalsAnswer). x .used) s ∙ sym (length-records t (placeOf t (entryOf b)) (slotsOf t (entryOf b))),
+        ap (λ (x : TotalsAnswer). x .paid) s,
+        ap (λ (x : TotalsAnswer). x .collected) s,
+        ap (λ (x : TotalsAnswer). x .balance) s ∙ sym (ap (λ (x : TotalsAnswer). pos (x .collected) -ℤ pos (x .paid)) s),
+      );
+}

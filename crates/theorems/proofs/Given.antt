@@ -1,0 +1,75 @@
+-- EACH REFUSAL OF A FLOW IS GIVEN EXACTLY WHEN document 01's table says: what a flow reads, by the same cases.
+use Prim.Native.Nat.{ℕ, _*_}
+use mathlib.Core.Path.{_≡_, refl}
+use mathlib.Core.Bool.{Bool, true, false, not, cond}
+use mathlib.Core.List.{List, [], _∷_}
+use native.Mathlib.Omega.{arith}
+use lib.ListN.{length}
+use lib.Dec.{eqb, leb}
+use Rattle.scan.specs.Bytes.{textIs}
+use Rattle.ranges.specs.Ranges.{isNothing}
+use Rattle.ranges.specs.declared.Found.{Found}
+use Rattle.ranges.specs.declared.Found.the-variants.{At, Nothing}
+use Rattle.entries.specs.Entry.{slotsOf, placeOf}
+use Rattle.table.specs.Table.{tableOk, abiOf, bodyOf, entryOf}
+use Rattle.order.specs.Ordinativo.{Ordinativo}
+use Rattle.orders.specs.Orders.{Header}
+use Rattle.flow.specs.declared.Verdict.{Verdict}
+use Rattle.flow.specs.declared.Verdict.the-variants.{MarkupBreaks, StructureBreaks, FieldBreaks, Stands}
+use Rattle.flow.specs.Flow.{verdictOf, headerOf, flowOrders}
+use Rattle.address.specs.Address.{bodyAt}
+use Rattle.desk.specs.declared.FlowAnswer.{FlowAnswer}
+use Rattle.desk.specs.declared.FlowAnswer.the-variants.{InvalidTable, TooLong, OtherBank, NoRoom}
+use Rattle.desk.specs.Desk.{Reading, refused, served, forBody, forFlow, maxFlow, flowReads, flowAnswer, FlowPromise, flowReply, flowCode}
+use Rattle.theorems.specs.Given.{breaksAt, flowRefusals, firstOf}
+
+-- a reading that refuses has a code other than 0
+abbrev pub Coding : Reading → Type 0
+Coding (refused a) = flowCode a ≡ 0 → ⊥
+Coding (served base n year os) = Unit
+
+module _ (t f : List ℕ) (room : ℕ) where
+  -- a reading's code, and its place
+  pub record Given (c p : ℕ) (g : Reading) : Type 0 where
+    pub code : flowCode (flowAnswer t g) ≡ c
+    pub place : flowReply (flowAnswer t g) .place ≡ cond (eqb (flowCode (flowAnswer t g)) 5) p 0
+    pub coding : Coding g
+
+  by-room : (base n year : ℕ) (os : List Ordinativo) (u : Bool) → Given (firstOf ((8, not u) ∷ [])) 0 (cond u (served base n year os) (refused NoRoom))
+  by-room base n year os true = record { code = refl; place = refl; coding = tt }
+  by-room base n year os false = record { code = refl; place = refl; coding = λ e. omega arith }
+
+  by-body : (year : ℕ) (os : List Ordinativo) (x : Found)
+      → Given (firstOf ((7, isNothing x) ∷ (8, not (leb (16 * length os) room)) ∷ [])) 0 (forBody room year os (bodyAt t x))
+  by-body year os Nothing = record { code = refl; place = refl; coding = λ e. omega arith }
+  by-body year os (At b) = by-room (placeOf t (entryOf b)) (slotsOf t (entryOf b)) year os (leb (16 * length os) room)
+
+  by-bank : (h : Header) (os : List Ordinativo) (u : Bool)
+      → Given (firstOf ((6, not u) ∷ (7, isNothing (bodyOf t (h .ente))) ∷ (8, not (leb (16 * length os) room)) ∷ [])) 0
+      (cond u (forBody room (h .esercizio) os (bodyAt t (bodyOf t (h .ente)))) (refused OtherBank))
+  by-bank h os true = by-body (h .esercizio) os (bodyOf t (h .ente))
+  by-bank h os false = record { code = refl; place = refl; coding = λ e. omega arith }
+
+  -- on a table that is valid or not, of a flow that is short or not
+  abbrev Read : Bool → Bool → Verdict → Type 0
+  Read u w v = tableOk t ≡ u → leb (length f) maxFlow ≡ w
+      → Given (firstOf (flowRefusals t f room v)) (breaksAt v) (cond u (cond w (forFlow t f room v) (refused TooLong)) (refused InvalidTable))
+
+  by-verdict : (v : Verdict) → Read true true v
+  by-verdict (MarkupBreaks p) e d = rw (e, d) (record { code = refl; place = refl; coding = λ z. omega arith })
+  by-verdict StructureBreaks e d = rw (e, d) (record { code = refl; place = refl; coding = λ z. omega arith })
+  by-verdict (FieldBreaks p) e d = rw (e, d) (record { code = refl; place = refl; coding = λ z. omega arith })
+  by-verdict (Stands at) e d = rw (e, d) (by-bank (headerOf f at) (flowOrders f at) (textIs (abiOf t) (headerOf f at .abi)))
+
+  by-table : (u w : Bool) (v : Verdict) → Read u w v
+  by-table false w v e d = rw e (record { code = refl; place = refl; coding = λ z. omega arith })
+  by-table true false v e d = rw (e, d) (record { code = refl; place = refl; coding = λ z. omega arith })
+  by-table true true v e d = by-verdict v e d
+
+  pub read : Given (firstOf (flowRefusals t f room (verdictOf f))) (breaksAt (verdictOf f)) (flowReads t f room)
+  unfolding flowReads
+  read = by-table (tableOk t) (leb (length f) maxFlow) (verdictOf f) refl refl
+
+pub given-when : (t f out : List ℕ) (a : FlowAnswer) (t′ out′ : List ℕ) → FlowPromise t f out a t′ out′
+    → (flowCode a ≡ firstOf (flowRefusals t f (length out) (verdictOf f))) × (flowReply a .place ≡ cond (eqb (flowCode a) 5) (breaksAt (verdictOf f)) 0)
+given-when t f out a t′ out′ p = let g = read t f (length out) in rw (p .0) (g .code, g .place)

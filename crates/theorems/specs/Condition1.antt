@@ -1,0 +1,35 @@
+-- CONDITION 1 of the tender letter, about the calls' own promises: whatever keeps them does this. Proved: `condition1 : Condition1`.
+use Prim.Native.Nat.{ℕ}
+use mathlib.Core.Path.{_≡_}
+use mathlib.Core.Bool.{Bool, true}
+use mathlib.Core.List.{List}
+use Rattle.record.specs.declared.Key.{Key}
+use Rattle.order.specs.Ordinativo.{Ordinativo}
+use Rattle.rules.specs.Rules.{orderCode}
+use Rattle.service.specs.Service.{orderComes, orderLeaves}
+use Rattle.opening.specs.declared.Opened.{Opened}
+use Rattle.opening.specs.Opening.{openCode, OpenPromise}
+use Rattle.notices.specs.declared.NoticeAnswer.{NoticeAnswer}
+use Rattle.notices.specs.Notices.{noticeCodeOf, NoticePromise}
+use Rattle.desk.specs.declared.FlowAnswer.{FlowAnswer}
+use Rattle.desk.specs.Desk.{FlowPromise, flowCode, flowReply}
+use Rattle.theorems.specs.Engine.{Call, Answer, Step, answerCode}
+use Rattle.theorems.specs.Codes.{oneOf, each, openCodes, callCodes, orderCodes, outcomeCodes}
+
+pub record Condition1 : Type 0 where
+  -- "Every call, on arbitrary flow, table or notice, ends with one of the numbered answers in document 01."
+  pub opening-numbered : (q t : List ℕ) (a : Opened) (t′ : List ℕ) → OpenPromise q t a t′ → oneOf openCodes (openCode a) ≡ true
+  pub call-numbered : (c : Call) (t : List ℕ) (a : Answer) (t′ : List ℕ) → Step c t a t′ → oneOf (callCodes c) (answerCode a) ≡ true
+  -- and so does every order of a flow taken
+  pub orders-numbered : (t f out : List ℕ) (a : FlowAnswer) (t′ out′ : List ℕ) → FlowPromise t f out a t′ out′ → flowCode a ≡ 0
+      → each (oneOf orderCodes) (outcomeCodes (flowReply a .orders) out′) ≡ true
+  -- "It checks its own inputs." There is an answer for every input
+  pub answered : (c : Call) (t : List ℕ) → (a : Answer) × (t′ : List ℕ) × Step c t a t′
+  -- "A refused flow changes neither table nor outcome buffer;"
+  pub refused-flow : (t f out : List ℕ) (a : FlowAnswer) (t′ out′ : List ℕ) → FlowPromise t f out a t′ out′ → (flowCode a ≡ 0 → ⊥) → (t′ ≡ t) × (out′ ≡ out)
+  -- "a refused order or notice changes no record." No byte of the table
+  pub refused-order : (t : List ℕ) (base n year : ℕ) (o : Ordinativo) → (orderCode (orderComes t base n year o) ≡ 0 → ⊥) → orderLeaves t base n year o ≡ t
+  pub refused-notice : (t : List ℕ) (executing : Bool) (code : List ℕ) (k : Key) (line : ℕ) (a : NoticeAnswer) (t′ : List ℕ)
+      → NoticePromise t executing code k line a t′ → (noticeCodeOf a ≡ 0 → ⊥) → t′ ≡ t
+  -- and of opening, in document 01's words: "Codes 1 to 10 change no buffer"
+  pub refused-opening : (q t : List ℕ) (a : Opened) (t′ : List ℕ) → OpenPromise q t a t′ → (openCode a ≡ 0 → ⊥) → t′ ≡ t

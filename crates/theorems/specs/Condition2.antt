@@ -1,0 +1,92 @@
+-- CONDITION 2 of the tender letter, about the calls' own promises: whatever keeps them does this. Proved: `condition2 : Condition2`. That the markup
+-- that breaks is what the profile refuses is the theorem of crates/grammar.
+use Prim.Native.Nat.{ℕ, _<_, _≤_}
+use lib.IntN.{pos, _-ℤ_}
+use mathlib.Core.Path.{_≡_}
+use mathlib.Core.Bool.{Bool, true, cond}
+use mathlib.Core.List.{List, [], _∷_}
+use lib.ListN.{length}
+use lib.Dec.{eqb}
+use Rattle.ranges.specs.declared.Found.the-variants.{At}
+use Rattle.record.specs.declared.Key.{Key}
+use Rattle.slots.specs.Slots.{recordsAt}
+use Rattle.body.specs.Body.{centsOf}
+use Rattle.entries.specs.Entry.{slotsOf, placeOf}
+use Rattle.table.specs.Table.{tableOk, bodies, bodyOf, entryOf}
+use Rattle.flow.specs.Flow.{verdictOf}
+use Rattle.order.specs.Ordinativo.{Ordinativo}
+use Rattle.rules.specs.Rules.{orderCode, judgeOrder, judgeNotice}
+use Rattle.rules.specs.declared.Ruling.{Ruling}
+use Rattle.rules.specs.Listed.{Applies, turn, NoticeApplies, noticeTurn}
+use Rattle.service.specs.Service.{orderComes, orderLeaves}
+use Rattle.notices.specs.declared.NoticeAnswer.{NoticeAnswer}
+use Rattle.notices.specs.declared.NoticeAnswer.the-variants.{Declined}
+use Rattle.notices.specs.declared.TotalsAnswer.{TotalsAnswer}
+use Rattle.notices.specs.Notices.{noticed, NoticePromise, noticeCodeOf, TotalsPromise}
+use Rattle.desk.specs.declared.FlowAnswer.{FlowAnswer}
+use Rattle.desk.specs.Desk.{served, flowReads, FlowPromise, flowCode, flowReply}
+use Rattle.theorems.specs.Engine.{recordsOf}
+use Rattle.theorems.specs.Given.{breaksAt, flowRefusals, firstOf}
+use Rattle.theorems.specs.Codes.{outcomeCodes, zeroCodes}
+
+-- the codes that the rules give a flow's orders, "each on the table the one before left"
+abbrev pub codesInTurn : List ℕ → ℕ → ℕ → ℕ → List Ordinativo → List ℕ
+codesInTurn t base n year [] = []
+codesInTurn t base n year (o ∷ os) = orderCode (judgeOrder n year o (recordsAt t base n)) ∷ codesInTurn (orderLeaves t base n year o) base n year os
+
+-- what an order comes to for body b of a table
+abbrev pub comesTo : List ℕ → ℕ → ℕ → Ordinativo → Ruling
+comesTo t b year o = orderComes t (placeOf t (entryOf b)) (slotsOf t (entryOf b)) year o
+
+-- a key that no record of a valid body has
+pub data Strange (k : Key) : Type 0 where
+  kind : (k .kind ≡ 1 → ⊥) → (k .kind ≡ 2 → ⊥) → Strange k
+  number : k .number ≡ 0 → Strange k
+
+abbrev pub Exactly : Type 0 → Type 0 → Type 0
+Exactly a b = (a → b) × (b → a)
+
+-- no refusal applies, whatever its code
+abbrev pub None : (ℕ → Type 0) → Type 0
+None applies = (c : ℕ) → applies c → ⊥
+
+-- a refusal that applies, none that applies having an earlier turn
+abbrev pub InTurn : (ℕ → ℕ) → (ℕ → Type 0) → ℕ → Type 0
+InTurn turn applies code = applies code × ((c : ℕ) → applies c → turn code ≤ turn c)
+
+-- of every order for a body of a valid table, and of every notice for one that keeps its promise, with its answer and the table afterwards
+abbrev pub EachOrder : (List ℕ → ℕ → ℕ → Ordinativo → Type 0) → Type 0
+EachOrder P = (t : List ℕ) → tableOk t ≡ true → (b : ℕ) → b < bodies t → (year : ℕ) (o : Ordinativo) → P t b year o
+
+abbrev pub EachNotice : (List ℕ → ℕ → Bool → Key → ℕ → NoticeAnswer → List ℕ → Type 0) → Type 0
+EachNotice P = (t : List ℕ) → tableOk t ≡ true → (code : List ℕ) (b : ℕ) → bodyOf t code ≡ At b
+    → (executing : Bool) (k : Key) (line : ℕ) (a : NoticeAnswer) (t′ : List ℕ) → NoticePromise t executing code k line a t′
+    → P t b executing k line a t′
+
+pub record Condition2 : Type 0 where
+  -- "A flow is read as the profile in document 01 says": each refusal given exactly when it says, with "place .. 0 but for code 5"
+  pub refusals : (t f out : List ℕ) (a : FlowAnswer) (t′ out′ : List ℕ) → FlowPromise t f out a t′ out′
+      → (flowCode a ≡ firstOf (flowRefusals t f (length out) (verdictOf f))) × (flowReply a .place ≡ cond (eqb (flowCode a) 5) (breaksAt (verdictOf f)) 0)
+  -- "each order .. is answered by the step table": the outcome codes of a flow served are those of the rules over the body's records
+  pub orders : (t f out : List ℕ) (a : FlowAnswer) (t′ out′ : List ℕ) → FlowPromise t f out a t′ out′
+      → (base n year : ℕ) (os : List Ordinativo) → flowReads t f (length out) ≡ served base n year os
+      → (flowReply a .orders ≡ length os) × (outcomeCodes (length os) out′ ≡ codesInTurn t base n year os)
+  -- and `accepted` is "how many of them got outcome code 0"
+  pub accepted : (t f out : List ℕ) (a : FlowAnswer) (t′ out′ : List ℕ) → FlowPromise t f out a t′ out′ → flowCode a ≡ 0
+      → flowReply a .accepted ≡ zeroCodes (outcomeCodes (flowReply a .orders) out′)
+  -- "execution and reversal is answered by the .. notice rules there": by those over the records of the body with that code
+  pub notices : EachNotice (λ t b executing k line a t′. a ≡ noticed (judgeNotice executing k line (recordsOf b t)))
+  -- "An order is accepted exactly when no listed refusal applies." (What each says: rules/specs/Listed.) Its code is another exactly when that refusal is the first that does
+  pub exactly : EachOrder (λ t b year o. Exactly (orderCode (comesTo t b year o) ≡ 0) (None (Applies (slotsOf t (entryOf b)) year o (recordsOf b t))))
+  pub answer : EachOrder (λ t b year o. (c : ℕ) → (c ≡ 0 → ⊥)
+      → Exactly (orderCode (comesTo t b year o) ≡ c) (InTurn turn (Applies (slotsOf t (entryOf b)) year o (recordsOf b t)) c))
+  -- and so is a notice
+  pub notice-exactly : EachNotice (λ t b executing k line a t′. Exactly (noticeCodeOf a ≡ 0) (None (NoticeApplies executing k line (recordsOf b t))))
+  pub notice-answer : EachNotice (λ t b executing k line a t′. (c : ℕ) → (c ≡ 0 → ⊥)
+      → Exactly (noticeCodeOf a ≡ c) (InTurn noticeTurn (NoticeApplies executing k line (recordsOf b t)) c))
+  -- "a kind other than 1 and 2, or a number 0, gets 16"
+  pub no-such-order : EachNotice (λ t b executing k line a t′. Strange k → (a ≡ Declined 16) × (t′ ≡ t))
+  -- "a body's totals are those of its records"
+  pub totals : (t : List ℕ) → tableOk t ≡ true → (code : List ℕ) (b : ℕ) → bodyOf t code ≡ At b → (a : TotalsAnswer) → TotalsPromise t code a
+      → (a .code ≡ 0) × (a .used ≡ length (recordsOf b t)) × (a .paid ≡ centsOf 1 (recordsOf b t)) × (a .collected ≡ centsOf 2 (recordsOf b t))
+      × (a .balance ≡ pos (a .collected) -ℤ pos (a .paid))

@@ -1,0 +1,70 @@
+-- WHEN A FLOW IS REFUSED: document 01's table of codes, "given exactly when", line by line.
+use Prim.Native.Nat.{ℕ, _*_}
+use mathlib.Core.Bool.{Bool, true, false, not, cond}
+use mathlib.Core.List.{List, [], _∷_}
+use lib.ListN.{length}
+use lib.Dec.{leb}
+use Rattle.scan.specs.Bytes.{textIs}
+use Rattle.ranges.specs.Ranges.{isNothing}
+use Rattle.table.specs.Table.{tableOk, abiOf, bodyOf}
+use Rattle.flow.specs.declared.Verdict.{Verdict}
+use Rattle.flow.specs.declared.Verdict.the-variants.{MarkupBreaks, StructureBreaks, FieldBreaks, Stands}
+use Rattle.flow.specs.Flow.{headerOf, flowOrders}
+use Rattle.service.specs.Service.{outcomeSize}
+use Rattle.desk.specs.Desk.{maxFlow}
+
+-- what of the flow breaks
+abbrev pub isMarkup : Verdict → Bool
+isMarkup (MarkupBreaks p) = true
+isMarkup StructureBreaks = false
+isMarkup (FieldBreaks p) = false
+isMarkup (Stands at) = false
+
+abbrev pub isStructure : Verdict → Bool
+isStructure (MarkupBreaks p) = false
+isStructure StructureBreaks = true
+isStructure (FieldBreaks p) = false
+isStructure (Stands at) = false
+
+abbrev pub isField : Verdict → Bool
+isField (MarkupBreaks p) = false
+isField StructureBreaks = false
+isField (FieldBreaks p) = true
+isField (Stands at) = false
+
+-- where a field breaks, and where the content of a flow that stands begins
+abbrev pub breaksAt : Verdict → ℕ
+breaksAt (MarkupBreaks p) = 0
+breaksAt StructureBreaks = 0
+breaksAt (FieldBreaks p) = p
+breaksAt (Stands at) = 0
+
+abbrev pub standsAt : Verdict → ℕ
+standsAt (MarkupBreaks p) = 0
+standsAt StructureBreaks = 0
+standsAt (FieldBreaks p) = 0
+standsAt (Stands at) = at
+
+-- of the flow f, whose verdict is v, on the table t with an outcome buffer of so many bytes
+abbrev pub flowRefusals : List ℕ → List ℕ → ℕ → Verdict → List (ℕ × Bool)
+flowRefusals t f room v =
+    -- "the table isn't valid"
+    (1, not (tableOk t))
+    -- "the flow is longer than 32,768 bytes"
+    ∷ (2, not (leb (length f) maxFlow))
+    -- "the markup breaks", "the structure breaks", "a field breaks"
+    ∷ (3, isMarkup v)
+    ∷ (4, isStructure v)
+    ∷ (5, isField v)
+    -- "codice_ABI_BT isn't the table's"
+    ∷ (6, not (textIs (abiOf t) (headerOf f (standsAt v) .abi)))
+    -- "no body has this code"
+    ∷ (7, isNothing (bodyOf t (headerOf f (standsAt v) .ente)))
+    -- "the outcome buffer has under 16 bytes per order"
+    ∷ (8, not (leb (outcomeSize * length (flowOrders f (standsAt v))) room))
+    ∷ []
+
+-- "Checked in that order .. Otherwise the code is 0"
+abbrev pub firstOf : List (ℕ × Bool) → ℕ
+firstOf [] = 0
+firstOf (r ∷ rs) = cond (r .1) (r .0) (firstOf rs)
