@@ -12,6 +12,7 @@ use Rattle.order.specs.declared.Line.{Line}
 use Rattle.order.specs.Ordinativo.{Ordinativo}
 use Rattle.record.specs.declared.Record.{Record}
 use Rattle.record.specs.declared.Key.{Key}
+use Rattle.record.specs.Slot.{keyOf}
 use Rattle.slots.specs.Slots.{findIn}
 use Rattle.lines.specs.Lines.{lineCode}
 use Rattle.rules.specs.declared.Situation.{Situation}
@@ -141,33 +142,27 @@ orderCode (Refused code) = code
 
 -- WHAT IS WRITTEN
 
--- "INSERIMENTO fills the body's first empty slot with all lines waiting"
-abbrev pub inserted : ℕ → Ordinativo → Record
-inserted year o = record {
-  kind = o .kind;
-  state = 1;
+-- a record with this key and state, and the order's date, total and lines, all of them waiting
+abbrev pub recordOf : Key → ℕ → Ordinativo → Record
+recordOf k state o = record {
+  kind = k .kind;
+  state = state;
   lines = length (o .lines);
-  esercizio = year;
-  number = o .number;
+  esercizio = k .esercizio;
+  number = k .number;
   date = o .date;
   total = o .total;
   states = eight (replicate (length (o .lines)) 1);
   amounts = eight (amountsOf (o .lines));
 }
 
+-- "INSERIMENTO fills the body's first empty slot with all lines waiting"
+abbrev pub inserted : ℕ → Ordinativo → Record
+inserted year o = recordOf (keyFor year o) 1 o
+
 -- "VARIAZIONE replaces date, total and lines"
 abbrev pub varied : Ordinativo → Record → Record
-varied o r = record {
-  kind = r .kind;
-  state = r .state;
-  lines = length (o .lines);
-  esercizio = r .esercizio;
-  number = r .number;
-  date = o .date;
-  total = o .total;
-  states = eight (replicate (length (o .lines)) 1);
-  amounts = eight (amountsOf (o .lines));
-}
+varied o r = recordOf (keyOf r) (r .state) o
 
 -- "ANNULLO sets the state only"
 abbrev pub annulled : Record → Record
