@@ -18,7 +18,6 @@ use Rattle.service.specs.Service.{orderComes, orderLeaves, outcomeBytes, allOut
 use Rattle.desk.specs.declared.FlowAnswer.{FlowAnswer}
 use Rattle.desk.specs.Desk.{Reading, refused, served, flowReads, flowAnswer, FlowPromise, flowReply, flowCode}
 use Rattle.theorems.specs.Codes.{oneOf, each, orderRefusals, orderCodes, outcomeCodes, zeroCodes}
-use Rattle.theorems.specs.Condition2.{codesInTurn}
 use Rattle.theorems.proofs.Given.{Coding, read}
 use Rattle.theorems.proofs.Codes.{Coded, order-coded, judged-codes}
 
@@ -34,15 +33,20 @@ judged-one (Refused code) h = go (eqb code 0) refl
     go false e = refl
     go true e = absurd (never (sym (ap (oneOf orderRefusals) (eqb-true code 0 e)) ∙ h))
 
+-- the rules' codes of a flow's orders, each on the table the one before left
+abbrev pub codesOn : List ℕ → ℕ → ℕ → ℕ → List Ordinativo → List ℕ
+codesOn t base n year [] = []
+codesOn t base n year (o ∷ os) = orderCode (judgeOrder n year o (recordsAt t base n)) ∷ codesOn (orderLeaves t base n year o) base n year os
+
 module _ (base n year : ℕ) where
   -- the outcome bytes have the rules' codes
-  written : (t : List ℕ) (os : List Ordinativo) (rest : List ℕ) → outcomeCodes (length os) (allOutcomes t base n year os ++ rest) ≡ codesInTurn t base n year os
+  written : (t : List ℕ) (os : List Ordinativo) (rest : List ℕ) → outcomeCodes (length os) (allOutcomes t base n year os ++ rest) ≡ codesOn t base n year os
   unfolding allOutcomes outcomeBytes orderComes
   written t [] rest = refl
   written t (o ∷ os) rest = ap (λ (cs : List ℕ). orderCode (judgeOrder n year o (recordsAt t base n)) ∷ cs) (written (orderLeaves t base n year o) os rest)
 
   -- which are numbered ones, and of which as many are 0 as orders are accepted
-  numbered : (t : List ℕ) (os : List Ordinativo) → each (oneOf orderCodes) (codesInTurn t base n year os) ≡ true
+  numbered : (t : List ℕ) (os : List Ordinativo) → each (oneOf orderCodes) (codesOn t base n year os) ≡ true
   numbered t [] = refl
   numbered t (o ∷ os) =
       let rs = recordsAt t base n in
@@ -50,7 +54,7 @@ module _ (base n year : ℕ) where
       let d = numbered (orderLeaves t base n year o) os in
       λ i. e i && d i
 
-  counted : (t : List ℕ) (os : List Ordinativo) → allAccepted t base n year os ≡ zeroCodes (codesInTurn t base n year os)
+  counted : (t : List ℕ) (os : List Ordinativo) → allAccepted t base n year os ≡ zeroCodes (codesOn t base n year os)
   unfolding allAccepted orderComes
   counted t [] = refl
   counted t (o ∷ os) =
@@ -62,7 +66,7 @@ module _ (base n year : ℕ) where
 -- THE THEOREMS, about what keeps the promise of a flow
 module _ (t f out : List ℕ) (a : FlowAnswer) (t′ out′ : List ℕ) (p : FlowPromise t f out a t′ out′) where
   pub orders-in-turn : (base n year : ℕ) (os : List Ordinativo) → flowReads t f (length out) ≡ served base n year os
-      → (flowReply a .orders ≡ length os) × (outcomeCodes (length os) out′ ≡ codesInTurn t base n year os)
+      → (flowReply a .orders ≡ length os) × (outcomeCodes (length os) out′ ≡ codesOn t base n year os)
   unfolding put
   orders-in-turn base n year os e =
       let q = rw e at p in (
@@ -71,7 +75,7 @@ module _ (t f out : List ℕ) (a : FlowAnswer) (t′ out′ : List ℕ) (p : Flo
       )
 
   -- a flow taken was served
-  taken : {P : Type 0} → flowCode a ≡ 0 → ((base n year : ℕ) (os : List Ordinativo) → flowReads t f (length out) ≡ served base n year os → P) → P
+  pub taken : {P : Type 0} → flowCode a ≡ 0 → ((base n year : ℕ) (os : List Ordinativo) → flowReads t f (length out) ≡ served base n year os → P) → P
   taken {P} z k = go (flowReads t f (length out)) refl (read t f (length out) .coding) (p .0)
     where
       go : (g : Reading) → flowReads t f (length out) ≡ g → Coding g → a ≡ flowAnswer t (flowReads t f (length out)) → P

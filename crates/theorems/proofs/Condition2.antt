@@ -9,20 +9,24 @@ use Rattle.record.specs.declared.Key.{Key}
 use Rattle.slots.proofs.Index.{length-records}
 use Rattle.entries.specs.Entry.{slotsOf, placeOf}
 use Rattle.table.specs.Table.{tableOk, bodyOf, entryOf}
-use Rattle.table.proofs.Bodies.{body-at}
+use Rattle.slots.specs.Slots.{recordsAt}
+use Rattle.table.proofs.Bodies.{body-at, found-body}
 use Rattle.rules.specs.Rules.{judgeNotice}
+use Rattle.rules.specs.Effects.{recordsMoved}
 use Rattle.service.specs.Service.{noticeComes}
+use Rattle.service.proofs.Moved.{notice-records}
 use Rattle.notices.specs.declared.NoticeAnswer.{NoticeAnswer}
 use Rattle.address.specs.declared.Addressed.the-variants.{Body}
 use Rattle.notices.specs.declared.TotalsAnswer.{TotalsAnswer}
 use Rattle.address.specs.Address.{addressed}
-use Rattle.notices.specs.Notices.{noticed, noticeBy, NoticePromise, bodyTotals, totalsOf, TotalsPromise}
+use Rattle.notices.specs.Notices.{noticed, noticeBy, noticeTableBy, NoticePromise, bodyTotals, totalsOf, TotalsPromise}
 use Rattle.tree.proofs.Theorem.{answered}
 use Rattle.theorems.specs.Engine.{recordsOf}
 use Rattle.theorems.specs.Condition2.{Condition2}
 use Rattle.theorems.proofs.Given.{given-when}
 use Rattle.theorems.proofs.Exactly.{order-exactly, order-answer, notice-exactly, notice-answer, no-such-key}
-use Rattle.theorems.proofs.Accepted.{orders-in-turn, accepted-counts}
+use Rattle.theorems.proofs.Accepted.{accepted-counts}
+use Rattle.theorems.proofs.Taken.{flow-taken}
 
 -- A BODY of a valid table
 module _ (t : List ℕ) (ok : tableOk t ≡ true) (code : List ℕ) (b : ℕ) (e : bodyOf t code ≡ At b) where
@@ -41,6 +45,13 @@ module _ (t : List ℕ) (ok : tableOk t ≡ true) (code : List ℕ) (b : ℕ) (e
   unfolding noticeBy noticeComes
   noticed-is executing k line a t′ p = p .0 ∙ ap (noticeBy t executing k line) is-body
 
+  moved-is : (executing : Bool) (k : Key) (line : ℕ) (a : NoticeAnswer) (t′ : List ℕ) → NoticePromise t executing code k line a t′
+      → recordsAt t′ base size ≡ recordsMoved executing line (recordsOf b t) (judgeNotice executing k line (recordsOf b t))
+  unfolding noticeTableBy
+  moved-is executing k line a t′ p =
+      let v = body-at t ok b (found-body t ok code b e) in
+      ap (λ (u : List ℕ). recordsAt u base size) (p .1 ∙ ap (noticeTableBy t executing k line) is-body) ∙ notice-records t base size executing k line (v .inside) (v .valid)
+
   totals-are : (a : TotalsAnswer) → TotalsPromise t code a → a ≡ bodyTotals t base size
   unfolding totalsOf
   totals-are a p = p ∙ rw is-body
@@ -50,9 +61,10 @@ unfolding bodyTotals
 condition2 = record {
   reading = answered;
   refusals = given-when;
-  orders = orders-in-turn;
+  taken = flow-taken;
   accepted = accepted-counts;
   notices = noticed-is;
+  moved = moved-is;
   exactly = λ t ok b l year o. order-exactly t (placeOf t (entryOf b)) (slotsOf t (entryOf b)) (body-at t ok b l .valid) year o;
   answer = λ t ok b l year o. order-answer t (placeOf t (entryOf b)) (slotsOf t (entryOf b)) (body-at t ok b l .valid) year o;
   notice-exactly = λ t ok code b e executing k line a t′ p.

@@ -1,6 +1,7 @@
 pub mod Given
 pub mod Codes
 pub mod Accepted
+pub mod Taken
 pub mod Condition2
 pub mod Good
 pub mod Named

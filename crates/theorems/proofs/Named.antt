@@ -52,7 +52,7 @@ pub data Reads (t₀ f out : List ℕ) : Option ℕ → Type 0 where
 writable : (o : Ordinativo) → OrderOk o → Writable o
 writable o h = record { kind = h .kind; number = h .number; date = h .date; total = h .total; count = h .count }
 
-writables : (os : List Ordinativo) → Each OrderOk os → Writables os
+pub writables : (os : List Ordinativo) → Each OrderOk os → Writables os
 writables [] h = none
 writables (o ∷ os) h = more (writable o (h .0)) (writables os (h .1))
 

@@ -3,7 +3,7 @@ use Prim.Native.Nat.{ℕ, _<_, _≤_}
 use lib.IntN.{pos, _-ℤ_}
 use mathlib.Core.Path.{_≡_}
 use mathlib.Core.Bool.{Bool, true, cond}
-use mathlib.Core.List.{List, [], _∷_}
+use mathlib.Core.List.{List, [], _∷_, _++_}
 use lib.ListN.{length}
 use lib.Dec.{eqb}
 use Rattle.ranges.specs.declared.Found.the-variants.{At}
@@ -11,28 +11,32 @@ use Rattle.record.specs.declared.Key.{Key}
 use Rattle.slots.specs.Slots.{recordsAt}
 use Rattle.body.specs.Body.{centsOf}
 use Rattle.entries.specs.Entry.{slotsOf, placeOf}
-use Rattle.table.specs.Table.{tableOk, bodies, bodyOf, entryOf}
-use Rattle.flow.specs.Flow.{verdictOf}
+use Rattle.scan.specs.Bytes.{textIs}
+use Rattle.table.specs.Table.{tableOk, bodies, bodyOf, entryOf, abiOf}
+use Rattle.record.specs.declared.Record.{Record}
+use Rattle.flow.specs.declared.Verdict.the-variants.{Stands}
+use Rattle.flow.specs.Flow.{verdictOf, headerOf, flowOrders}
 use Rattle.order.specs.Ordinativo.{Ordinativo}
 use Rattle.tree.specs.Flow.{Answered}
 use Rattle.rules.specs.Rules.{orderCode, judgeOrder, judgeNotice}
 use Rattle.rules.specs.declared.Ruling.{Ruling}
+use Rattle.rules.specs.Effects.{recordsBy, allRecords, recordsMoved}
 use Rattle.rules.specs.Listed.{Applies, turn, NoticeApplies, noticeTurn}
-use Rattle.service.specs.Service.{orderComes, orderLeaves}
+use Rattle.service.specs.Service.{orderComes}
 use Rattle.notices.specs.declared.NoticeAnswer.{NoticeAnswer}
 use Rattle.notices.specs.declared.NoticeAnswer.the-variants.{Declined}
 use Rattle.notices.specs.declared.TotalsAnswer.{TotalsAnswer}
 use Rattle.notices.specs.Notices.{noticed, NoticePromise, noticeCodeOf, TotalsPromise}
 use Rattle.desk.specs.declared.FlowAnswer.{FlowAnswer}
-use Rattle.desk.specs.Desk.{served, flowReads, FlowPromise, flowCode, flowReply}
+use Rattle.desk.specs.Desk.{FlowPromise, flowCode, flowReply}
 use Rattle.theorems.specs.Engine.{recordsOf}
 use Rattle.theorems.specs.Given.{breaksAt, flowRefusals, firstOf}
 use Rattle.theorems.specs.Codes.{outcomeCodes, zeroCodes}
 
--- the codes that the rules give a flow's orders, "each on the table the one before left"
-abbrev pub codesInTurn : List ℕ → ℕ → ℕ → ℕ → List Ordinativo → List ℕ
-codesInTurn t base n year [] = []
-codesInTurn t base n year (o ∷ os) = orderCode (judgeOrder n year o (recordsAt t base n)) ∷ codesInTurn (orderLeaves t base n year o) base n year os
+-- the codes that the rules give a flow's orders, "each on the table the one before left", over a body's records
+abbrev pub codesInTurn : ℕ → ℕ → List Ordinativo → List Record → List ℕ
+codesInTurn slots year [] rs = []
+codesInTurn slots year (o ∷ os) rs = orderCode (judgeOrder slots year o rs) ∷ codesInTurn slots year os (recordsBy year o rs (judgeOrder slots year o rs))
 
 -- what an order comes to for body b of a table
 abbrev pub comesTo : List ℕ → ℕ → ℕ → Ordinativo → Ruling
@@ -63,21 +67,40 @@ EachNotice P = (t : List ℕ) → tableOk t ≡ true → (code : List ℕ) (b : 
     → (executing : Bool) (k : Key) (line : ℕ) (a : NoticeAnswer) (t′ : List ℕ) → NoticePromise t executing code k line a t′
     → P t b executing k line a t′
 
+-- A FLOW THAT IS TAKEN, on a table t with the outcome buffer out′ and the table t′ afterwards
+pub record Taken (t f : List ℕ) (a : FlowAnswer) (t′ out′ : List ℕ) : Type 0 where
+  -- it stands, its codice_ABI_BT is the table's, and its codice_ente_BT is the code of this body
+  pub at : ℕ
+  pub stands : verdictOf f ≡ Stands at
+  pub bank : textIs (abiOf t) (headerOf f at .abi) ≡ true
+  pub body : ℕ
+  pub named : bodyOf t (headerOf f at .ente) ≡ At body
+  -- its orders, for the flow's esercizio, get the rules' codes over the body's records, and leave the records that the rules give (rules/specs/Effects)
+  pub orders : flowReply a .orders ≡ length (flowOrders f at)
+  pub codes : outcomeCodes (length (flowOrders f at)) out′
+      ≡ codesInTurn (slotsOf t (entryOf body)) (headerOf f at .esercizio) (flowOrders f at) (recordsOf body t)
+  pub records : recordsAt t′ (placeOf t (entryOf body)) (slotsOf t (entryOf body))
+      ≡ allRecords (slotsOf t (entryOf body)) (headerOf f at .esercizio) (flowOrders f at) (recordsOf body t)
+  -- "An order is accepted exactly when no listed refusal applies", on what the orders before it left
+  pub exactly : (before : List Ordinativo) (o : Ordinativo) (after : List Ordinativo) → flowOrders f at ≡ before ++ (o ∷ after)
+      → let rs = allRecords (slotsOf t (entryOf body)) (headerOf f at .esercizio) before (recordsOf body t) in
+      Exactly (orderCode (judgeOrder (slotsOf t (entryOf body)) (headerOf f at .esercizio) o rs) ≡ 0) (None (Applies (slotsOf t (entryOf body)) (headerOf f at .esercizio) o rs))
+
 pub record Condition2 : Type 0 where
   -- "A flow is read as the profile in document 01 says": of any bytes, by grammar, tree, schema and fields alone (crates/tree/specs/Flow)
   pub reading : (s : List ℕ) → Answered s
   -- and each refusal of a flow is given exactly when document 01 says, with "place .. 0 but for code 5"
   pub refusals : (t f out : List ℕ) (a : FlowAnswer) (t′ out′ : List ℕ) → FlowPromise t f out a t′ out′
       → (flowCode a ≡ firstOf (flowRefusals t f (length out) (verdictOf f))) × (flowReply a .place ≡ cond (eqb (flowCode a) 5) (breaksAt (verdictOf f)) 0)
-  -- "each order .. is answered by the step table": the outcome codes of a flow served are those of the rules over the body's records
-  pub orders : (t f out : List ℕ) (a : FlowAnswer) (t′ out′ : List ℕ) → FlowPromise t f out a t′ out′
-      → (base n year : ℕ) (os : List Ordinativo) → flowReads t f (length out) ≡ served base n year os
-      → (flowReply a .orders ≡ length os) × (outcomeCodes (length os) out′ ≡ codesInTurn t base n year os)
+  -- "each order .. is answered by the step table", and accepted "exactly when no listed refusal applies": of a flow with code 0
+  pub taken : (t f out : List ℕ) (a : FlowAnswer) (t′ out′ : List ℕ) → FlowPromise t f out a t′ out′ → flowCode a ≡ 0 → Taken t f a t′ out′
   -- and `accepted` is "how many of them got outcome code 0"
   pub accepted : (t f out : List ℕ) (a : FlowAnswer) (t′ out′ : List ℕ) → FlowPromise t f out a t′ out′ → flowCode a ≡ 0
       → flowReply a .accepted ≡ zeroCodes (outcomeCodes (flowReply a .orders) out′)
   -- "execution and reversal is answered by the .. notice rules there": by those over the records of the body with that code
   pub notices : EachNotice (λ t b executing k line a t′. a ≡ noticed (judgeNotice executing k line (recordsOf b t)))
+  pub moved : EachNotice (λ t b executing k line a t′.
+      recordsAt t′ (placeOf t (entryOf b)) (slotsOf t (entryOf b)) ≡ recordsMoved executing line (recordsOf b t) (judgeNotice executing k line (recordsOf b t)))
   -- "An order is accepted exactly when no listed refusal applies." (What each says: rules/specs/Listed.) Its code is another exactly when that refusal
   -- is the first that does
   pub exactly : EachOrder (λ t b year o. Exactly (orderCode (comesTo t b year o) ≡ 0) (None (Applies (slotsOf t (entryOf b)) year o (recordsOf b t))))

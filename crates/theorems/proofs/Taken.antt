@@ -1,0 +1,123 @@
+-- A FLOW THAT IS TAKEN: it is for the body that its header names, and its orders are answered and stored as the rules say.
+use Prim.Native.Nat.{ℕ, _+_, _*_, _≤_, _<_}
+use mathlib.Core.Path.{_≡_, refl, sym, ap, _∙_}
+use mathlib.Core.Bool.{Bool, true, false, cond}
+use mathlib.Core.List.{List, [], _∷_, _++_}
+use native.Mathlib.Omega.{arith}
+use lib.ListN.{length}
+use lib.Dec.{leb}
+use Rattle.scan.specs.Bytes.{textIs}
+use Rattle.ranges.specs.declared.Found.{Found}
+use Rattle.ranges.specs.declared.Found.the-variants.{At, Nothing}
+use Rattle.record.specs.Slot.{slotSize}
+use Rattle.slots.specs.Slots.{recordsAt}
+use Rattle.body.specs.Body.{bodyOk}
+use Rattle.entries.specs.Entry.{slotsOf, placeOf}
+use Rattle.table.specs.Table.{tableOk, abiOf, bodyOf, entryOf}
+use Rattle.table.proofs.Bodies.{body-at, found-body}
+use Rattle.order.specs.Ordinativo.{Ordinativo}
+use Rattle.flow.specs.declared.Verdict.{Verdict}
+use Rattle.flow.specs.declared.Verdict.the-variants.{MarkupBreaks, StructureBreaks, FieldBreaks, Stands}
+use Rattle.flow.specs.Flow.{verdictOf, headerOf, flowOrders}
+use Rattle.flow.proofs.Laws.{flow-stood}
+use Rattle.flow.proofs.Values.{orders-ok, header-ok}
+use Rattle.rules.specs.Rules.{judgeOrder, orderCode}
+use Rattle.rules.specs.Effects.{recordsBy, allRecords}
+use Rattle.rules.specs.Listed.{Applies}
+use Rattle.service.specs.Service.{orderComes, orderLeaves, outcomeSize, allLeave}
+use Rattle.service.proofs.Kept.{Writables, none, more, order-kept, order-records, all-kept, all-records}
+use Rattle.desk.specs.declared.FlowAnswer.{FlowAnswer}
+use Rattle.desk.specs.declared.FlowAnswer.the-variants.{InvalidTable, TooLong, BrokenMarkup, BrokenStructure, BrokenField, OtherBank, UnknownBody, NoRoom}
+use Rattle.desk.specs.Desk.{Reading, refused, served, maxFlow, flowReads, flowAnswer, FlowPromise, flowCode, flowReply}
+use Rattle.theorems.specs.Engine.{recordsOf}
+use Rattle.theorems.specs.Codes.{outcomeCodes}
+use Rattle.theorems.specs.Condition2.{codesInTurn, Exactly, None, Taken}
+use Rattle.theorems.proofs.Accepted.{codesOn, orders-in-turn}
+use Rattle.theorems.proofs.Exactly.{order-exactly}
+use Rattle.theorems.proofs.Named.{writables}
+
+front-writable : (xs zs : List Ordinativo) → Writables (xs ++ zs) → Writables xs
+front-writable [] zs w = none
+front-writable (x ∷ xs) zs (more w ws) = more w (front-writable xs zs ws)
+
+-- THE ORDERS on a valid body: over its table is over its records
+module _ (base n year : ℕ) (y : (2000 ≤ year) × (year ≤ 2099)) where
+  codes-over : (t : List ℕ) (os : List Ordinativo) → base + slotSize * n ≤ length t → bodyOk t base n ≡ true → Writables os
+      → codesOn t base n year os ≡ codesInTurn n year os (recordsAt t base n)
+  codes-over t [] fits ok none = refl
+  codes-over t (o ∷ os) fits ok (more w ws) =
+      let k = order-kept t base n year o fits ok w y in
+      ap (λ (cs : List ℕ). orderCode (judgeOrder n year o (recordsAt t base n)) ∷ cs)
+      (codes-over (orderLeaves t base n year o) os (omega (arith, k .long)) (k .ok) ws ∙ ap (codesInTurn n year os) (order-records t base n year o fits ok w y))
+
+  exactly-then : (t : List ℕ) (before : List Ordinativo) (o : Ordinativo) → base + slotSize * n ≤ length t → bodyOk t base n ≡ true → Writables before
+      → Exactly (orderCode (judgeOrder n year o (allRecords n year before (recordsAt t base n))) ≡ 0) (None (Applies n year o (allRecords n year before (recordsAt t base n))))
+  unfolding orderComes
+  exactly-then t before o fits ok ws =
+      let k = all-kept t base n year before fits ok ws y in
+      rw (← all-records t base n year before fits ok ws y) (order-exactly (allLeave t base n year before) base n (k .ok) year o)
+
+module _ (t f out : List ℕ) (a : FlowAnswer) (t′ out′ : List ℕ) (p : FlowPromise t f out a t′ out′) (z : flowCode a ≡ 0) where
+  not-refused : {A : Type 0} (x : FlowAnswer) → (flowCode x ≡ 0 → ⊥) → flowReads t f (length out) ≡ refused x → A
+  not-refused x n e = absurd (n (sym (ap flowCode (p .0 ∙ ap (flowAnswer t) e)) ∙ z))
+
+  is-taken : (at b : ℕ) → tableOk t ≡ true → verdictOf f ≡ Stands at → textIs (abiOf t) (headerOf f at .abi) ≡ true → bodyOf t (headerOf f at .ente) ≡ At b
+      → flowReads t f (length out) ≡ served (placeOf t (entryOf b)) (slotsOf t (entryOf b)) (headerOf f at .esercizio) (flowOrders f at) → Taken t f a t′ out′
+  is-taken at b ok s k e d =
+      let v = body-at t ok b (found-body t ok (headerOf f at .ente) b e) in
+      let h = flow-stood f at s in
+      let y = header-ok f at h .0 .esercizio in
+      let os = flowOrders f at in
+      let ws = writables os (orders-ok f at h) in
+      let base = placeOf t (entryOf b) in
+      let n = slotsOf t (entryOf b) in
+      let year = headerOf f at .esercizio in
+      let x = orders-in-turn t f out a t′ out′ p base n year os d in
+      record {
+        at = at;
+        stands = s;
+        bank = k;
+        body = b;
+        named = e;
+        orders = x .0;
+        codes = x .1 ∙ codes-over base n year y t os (v .inside) (v .valid) ws;
+        records = ap (λ (u : List ℕ). recordsAt u base n) ((rw d at p) .1) ∙ all-records t base n year os (v .inside) (v .valid) ws y;
+        exactly = λ before o after q. exactly-then base n year y t before o (v .inside) (v .valid) (front-writable before (o ∷ after) (rw q at ws));
+      }
+
+  by-room : (at b : ℕ) → tableOk t ≡ true → leb (length f) maxFlow ≡ true → verdictOf f ≡ Stands at → textIs (abiOf t) (headerOf f at .abi) ≡ true
+      → bodyOf t (headerOf f at .ente) ≡ At b → (u : Bool) → leb (outcomeSize * length (flowOrders f at)) (length out) ≡ u → Taken t f a t′ out′
+  unfolding flowReads
+  by-room at b ok l s k e true d = is-taken at b ok s k e (rw (ok, l, s, k, e, d))
+  by-room at b ok l s k e false d = not-refused NoRoom (λ q. omega arith) (rw (ok, l, s, k, e, d))
+
+  by-body : (at : ℕ) → tableOk t ≡ true → leb (length f) maxFlow ≡ true → verdictOf f ≡ Stands at → textIs (abiOf t) (headerOf f at .abi) ≡ true
+      → (x : Found) → bodyOf t (headerOf f at .ente) ≡ x → Taken t f a t′ out′
+  unfolding flowReads
+  by-body at ok l s k (At b) e = by-room at b ok l s k e (leb (outcomeSize * length (flowOrders f at)) (length out)) refl
+  by-body at ok l s k Nothing e = not-refused UnknownBody (λ q. omega arith) (rw (ok, l, s, k, e))
+
+  by-bank : (at : ℕ) → tableOk t ≡ true → leb (length f) maxFlow ≡ true → verdictOf f ≡ Stands at → (u : Bool) → textIs (abiOf t) (headerOf f at .abi) ≡ u → Taken t f a t′ out′
+  unfolding flowReads
+  by-bank at ok l s true k = by-body at ok l s k (bodyOf t (headerOf f at .ente)) refl
+  by-bank at ok l s false k = not-refused OtherBank (λ q. omega arith) (rw (ok, l, s, k))
+
+  by-verdict : tableOk t ≡ true → leb (length f) maxFlow ≡ true → (v : Verdict) → verdictOf f ≡ v → Taken t f a t′ out′
+  unfolding flowReads
+  by-verdict ok l (MarkupBreaks q) s = not-refused BrokenMarkup (λ q. omega arith) (rw (ok, l, s))
+  by-verdict ok l StructureBreaks s = not-refused BrokenStructure (λ q. omega arith) (rw (ok, l, s))
+  by-verdict ok l (FieldBreaks q) s = not-refused (BrokenField q) (λ q. omega arith) (rw (ok, l, s))
+  by-verdict ok l (Stands at) s = by-bank at ok l s (textIs (abiOf t) (headerOf f at .abi)) refl
+
+  by-length : tableOk t ≡ true → (u : Bool) → leb (length f) maxFlow ≡ u → Taken t f a t′ out′
+  unfolding flowReads
+  by-length ok true l = by-verdict ok l (verdictOf f) refl
+  by-length ok false l = not-refused TooLong (λ q. omega arith) (rw (ok, l))
+
+  by-table : (u : Bool) → tableOk t ≡ u → Taken t f a t′ out′
+  unfolding flowReads
+  by-table true ok = by-length ok (leb (length f) maxFlow) refl
+  by-table false ok = not-refused InvalidTable (λ q. omega arith) (rw ok)
+
+  pub flow-taken : Taken t f a t′ out′
+  flow-taken = by-table (tableOk t) refl
