@@ -1,10 +1,12 @@
 -- CONDITION 2, proved.
 use Prim.Native.Nat.{ℕ}
 use lib.IntN.{pos, _-ℤ_}
-use mathlib.Core.Path.{_≡_, sym, ap, _∙_}
-use mathlib.Core.Bool.{Bool, true}
+use mathlib.Core.Path.{_≡_, refl, sym, ap, _∙_}
+use mathlib.Core.Bool.{Bool, true, false, cond}
 use mathlib.Core.List.{List}
-use Rattle.ranges.specs.declared.Found.the-variants.{At}
+use lib.ListN.{length}
+use lib.Dec.{eqb}
+use Rattle.ranges.specs.declared.Found.the-variants.{At, Nothing}
 use Rattle.record.specs.declared.Key.{Key}
 use Rattle.slots.proofs.Index.{length-records}
 use Rattle.entries.specs.Entry.{slotsOf, placeOf}
@@ -16,10 +18,15 @@ use Rattle.rules.specs.Effects.{recordsMoved}
 use Rattle.service.specs.Service.{noticeComes}
 use Rattle.service.proofs.Moved.{notice-records}
 use Rattle.notices.specs.declared.NoticeAnswer.{NoticeAnswer}
-use Rattle.address.specs.declared.Addressed.the-variants.{Body}
+use Rattle.notices.specs.declared.NoticeAnswer.the-variants.{InvalidTable, UnknownBody}
+use Rattle.address.specs.declared.Addressed.the-variants.{Invalid, Unknown, Body}
 use Rattle.notices.specs.declared.TotalsAnswer.{TotalsAnswer}
 use Rattle.address.specs.Address.{addressed}
-use Rattle.notices.specs.Notices.{noticed, noticeBy, noticeTableBy, NoticePromise, bodyTotals, totalsOf, TotalsPromise}
+use Rattle.notices.specs.Notices.{noticed, noticeBy, noticeTableBy, NoticePromise, zeroTotals, bodyTotals, totalsOf, TotalsPromise}
+use Rattle.request.specs.Request.{needed, requestOk}
+use Rattle.opening.specs.declared.Opened.{Opened}
+use Rattle.opening.specs.declared.Opened.the-variants.{Open, WrongRequest, WrongLength}
+use Rattle.opening.specs.Opening.{openOf, openCode, OpenPromise}
 use Rattle.tree.proofs.Theorem.{answered}
 use Rattle.theorems.specs.Engine.{recordsOf}
 use Rattle.theorems.specs.Condition2.{Condition2}
@@ -56,6 +63,34 @@ module _ (t : List ℕ) (ok : tableOk t ≡ true) (code : List ℕ) (b : ℕ) (e
   unfolding totalsOf
   totals-are a p = p ∙ rw is-body
 
+-- NO BODY
+module _ (t : List ℕ) (code : List ℕ) where
+  no-table : tableOk t ≡ false → addressed t code ≡ Invalid
+  unfolding addressed
+  no-table e = rw e
+
+  no-body : tableOk t ≡ true → bodyOf t code ≡ Nothing → addressed t code ≡ Unknown
+  unfolding addressed
+  no-body ok e = rw (ok, e)
+
+  notice-refused : (executing : Bool) (k : Key) (line : ℕ) (a : NoticeAnswer) (t′ : List ℕ) → NoticePromise t executing code k line a t′
+      → (tableOk t ≡ false → a ≡ InvalidTable) × (tableOk t ≡ true → bodyOf t code ≡ Nothing → a ≡ UnknownBody)
+  unfolding noticeBy
+  notice-refused executing k line a t′ p = (λ e. p .0 ∙ ap (noticeBy t executing k line) (no-table e), λ ok e. p .0 ∙ ap (noticeBy t executing k line) (no-body ok e))
+
+  totals-refused : (a : TotalsAnswer) → TotalsPromise t code a → (tableOk t ≡ false → a ≡ zeroTotals 1) × (tableOk t ≡ true → bodyOf t code ≡ Nothing → a ≡ zeroTotals 7)
+  unfolding totalsOf
+  totals-refused a p = (λ e. p ∙ rw (no-table e), λ ok e. p ∙ rw (no-body ok e))
+
+opening-is : (q t : List ℕ) (a : Opened) (t′ : List ℕ) → OpenPromise q t a t′ → openCode a ≡ cond (requestOk q) (cond (eqb (length t) (needed q)) 0 10) 9
+unfolding openOf
+opening-is q t a t′ p = ap openCode (p .0) ∙ go (requestOk q) (eqb (length t) (needed q))
+  where
+    go : (x y : Bool) → openCode (cond x (cond y Open WrongLength) WrongRequest) ≡ cond x (cond y 0 10) 9
+    go true true = refl
+    go true false = refl
+    go false y = refl
+
 pub condition2 : Condition2
 unfolding bodyTotals
 condition2 = record {
@@ -71,6 +106,9 @@ condition2 = record {
       notice-exactly t executing code k line a t′ p (entryOf b) (placeOf t (entryOf b)) (slotsOf t (entryOf b)) (is-body t ok code b e);
   notice-answer = λ t ok code b e executing k line a t′ p.
       notice-answer t executing code k line a t′ p (entryOf b) (placeOf t (entryOf b)) (slotsOf t (entryOf b)) (is-body t ok code b e);
+  notice-refused = λ t executing code. notice-refused t code executing;
+  totals-refused = totals-refused;
+  opening = opening-is;
   no-such-order = λ t ok code b e executing k line a t′ p.
       no-such-key t executing code k line a t′ p (entryOf b) (placeOf t (entryOf b)) (slotsOf t (entryOf b)) (is-body t ok code b e);
   totals = λ t ok code b e a p.

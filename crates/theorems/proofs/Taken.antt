@@ -74,6 +74,7 @@ module _ (t f out : List ℕ) (a : FlowAnswer) (t′ out′ : List ℕ) (p : Flo
       let year = headerOf f at .esercizio in
       let x = orders-in-turn t f out a t′ out′ p base n year os d in
       record {
+        valid = ok;
         at = at;
         stands = s;
         bank = k;

@@ -2,11 +2,11 @@
 use Prim.Native.Nat.{ℕ, _<_, _≤_}
 use lib.IntN.{pos, _-ℤ_}
 use mathlib.Core.Path.{_≡_}
-use mathlib.Core.Bool.{Bool, true, cond}
+use mathlib.Core.Bool.{Bool, true, false, cond}
 use mathlib.Core.List.{List, [], _∷_, _++_}
 use lib.ListN.{length}
 use lib.Dec.{eqb}
-use Rattle.ranges.specs.declared.Found.the-variants.{At}
+use Rattle.ranges.specs.declared.Found.the-variants.{At, Nothing}
 use Rattle.record.specs.declared.Key.{Key}
 use Rattle.slots.specs.Slots.{recordsAt}
 use Rattle.body.specs.Body.{centsOf}
@@ -24,9 +24,12 @@ use Rattle.rules.specs.Effects.{recordsBy, allRecords, recordsMoved}
 use Rattle.rules.specs.Listed.{Applies, turn, NoticeApplies, noticeTurn}
 use Rattle.service.specs.Service.{orderComes}
 use Rattle.notices.specs.declared.NoticeAnswer.{NoticeAnswer}
-use Rattle.notices.specs.declared.NoticeAnswer.the-variants.{Declined}
+use Rattle.notices.specs.declared.NoticeAnswer.the-variants.{InvalidTable, UnknownBody, Declined}
 use Rattle.notices.specs.declared.TotalsAnswer.{TotalsAnswer}
-use Rattle.notices.specs.Notices.{noticed, NoticePromise, noticeCodeOf, TotalsPromise}
+use Rattle.notices.specs.Notices.{noticed, NoticePromise, noticeCodeOf, zeroTotals, TotalsPromise}
+use Rattle.request.specs.Request.{needed, requestOk}
+use Rattle.opening.specs.declared.Opened.{Opened}
+use Rattle.opening.specs.Opening.{openCode, OpenPromise}
 use Rattle.desk.specs.declared.FlowAnswer.{FlowAnswer}
 use Rattle.desk.specs.Desk.{FlowPromise, flowCode, flowReply}
 use Rattle.theorems.specs.Engine.{recordsOf}
@@ -69,7 +72,8 @@ EachNotice P = (t : List ℕ) → tableOk t ≡ true → (code : List ℕ) (b : 
 
 -- A FLOW THAT IS TAKEN, on a table t with the outcome buffer out′ and the table t′ afterwards
 pub record Taken (t f : List ℕ) (a : FlowAnswer) (t′ out′ : List ℕ) : Type 0 where
-  -- it stands, its codice_ABI_BT is the table's, and its codice_ente_BT is the code of this body
+  -- the table is valid; the flow stands, its codice_ABI_BT is the table's, and its codice_ente_BT is the code of this body
+  pub valid : tableOk t ≡ true
   pub at : ℕ
   pub stands : verdictOf f ≡ Stands at
   pub bank : textIs (abiOf t) (headerOf f at .abi) ≡ true
@@ -110,6 +114,14 @@ pub record Condition2 : Type 0 where
   pub notice-exactly : EachNotice (λ t b executing k line a t′. Exactly (noticeCodeOf a ≡ 0) (None (NoticeApplies executing k line (recordsOf b t))))
   pub notice-answer : EachNotice (λ t b executing k line a t′. (c : ℕ) → (c ≡ 0 → ⊥)
       → Exactly (noticeCodeOf a ≡ c) (InTurn noticeTurn (NoticeApplies executing k line (recordsOf b t)) c))
+  -- "1 the table isn't valid; .. 7 no body has this code", of a notice and of totals: "A refusal gives zeros"
+  pub notice-refused : (t : List ℕ) (executing : Bool) (code : List ℕ) (k : Key) (line : ℕ) (a : NoticeAnswer) (t′ : List ℕ)
+      → NoticePromise t executing code k line a t′
+      → (tableOk t ≡ false → a ≡ InvalidTable) × (tableOk t ≡ true → bodyOf t code ≡ Nothing → a ≡ UnknownBody)
+  pub totals-refused : (t code : List ℕ) (a : TotalsAnswer) → TotalsPromise t code a
+      → (tableOk t ≡ false → a ≡ zeroTotals 1) × (tableOk t ≡ true → bodyOf t code ≡ Nothing → a ≡ zeroTotals 7)
+  -- "9 opening: ABI digits, length, count, .. is wrong; 10 opening: the buffer hasn't the needed length"
+  pub opening : (q t : List ℕ) (a : Opened) (t′ : List ℕ) → OpenPromise q t a t′ → openCode a ≡ cond (requestOk q) (cond (eqb (length t) (needed q)) 0 10) 9
   -- "a kind other than 1 and 2, or a number 0, gets 16"
   pub no-such-order : EachNotice (λ t b executing k line a t′. Strange k → (a ≡ Declined 16) × (t′ ≡ t))
   -- "a body's totals are those of its records"

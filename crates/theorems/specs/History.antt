@@ -113,7 +113,7 @@ module _ (E : Engine) (t₀ : List ℕ) (b : ℕ) (cs : List Call) where
     -- the same for the orders of any keys, and whatever a line is held to be worth
     pub worth-history : (p : Which) (v : Value)
         → worth p v (recordsOf b now) + reversals (weight p v) L ≡ worth p v (recordsOf b t₀) + executions (weight p v) L
-    -- one line of one order is executed once at most
+    -- at any moment at most one executed line has this key and number
     pub line-most : (key : Key) (line : ℕ) → worth (withKey key) (onLine line) (recordsOf b now) ≤ 1
     -- what totals answer at that moment are the cents of those records
     pub totals-are : (code : List ℕ) → position t₀ (some code) ≡ some b → (a : TotalsAnswer) → TotalsPromise now code a

@@ -14,7 +14,7 @@ use Rattle.table.specs.Table.{tableOk}
 use Rattle.desk.specs.declared.FlowAnswer.the-variants.{BrokenField}
 use Rattle.desk.specs.Desk.{refused, maxFlow, forBank, flowReads}
 use Rattle.marked.specs.Flows.{single}
-use Rattle.witness.specs.Flows.{two, broken, changing, annulling, headerFor, orderTo, order}
+use Rattle.witness.specs.Flows.{two, changing, annulling, headerFor, orderTo, order}
 use Rattle.scan.specs.Bytes.{bytes, isLetter, isDigit, isAlnum, isNameByte, isWhite, all, run, runEnd, startsWith, hasAt, textIs}
 use Rattle.scan.specs.Characters.{isChar, sized, isTail, charSize, pastOr, charAt}
 use Rattle.calendar.specs.Calendar.{leap, monthLength, isDate}
@@ -40,20 +40,12 @@ pub record ReadAs (f : List ℕ) (h : Header) (os : List Ordinativo) : Type 0 wh
   pub header : headerOf f at ≡ h
   pub orders : flowOrders f at ≡ os
 
--- a flow with a field that breaks, and where
-pub record Breaks (f : List ℕ) (p : ℕ) : Type 0 where
-  pub short : leb (length f) maxFlow ≡ true
-  pub breaks : verdictOf f ≡ FieldBreaks p
-
 pub record Flows : Type 0 where
   pub own : ReadAs (single "471") (headerFor "471") (order 1 ∷ [])
   pub other : ReadAs (single "000471") (headerFor "000471") (order 1 ∷ [])
   pub more : ReadAs two (headerFor "471") (order 1 ∷ order 2 ∷ [])
   pub changed : ReadAs changing (headerFor "471") (orderTo Variazione 1 ∷ [])
   pub annulled : ReadAs annulling (headerFor "471") (orderTo Annullo 1 ∷ [])
-  -- the flow whose last field breaks, and that it is the flow of one order up to its own second
-  pub late : Breaks broken 967
-  pub cut : single "471" ≡ take 656 broken ++ bytes "</flusso_ordinativi>"
 
 pub flows : Flows
 unfolding isLetter isDigit isAlnum isNameByte isWhite all run runEnd startsWith hasAt textIs isChar sized isTail charSize pastOr charAt leap monthLength isDate isIdentifying codiceAbi identificativo codiceEnte tipoOperazione digitsAfter digits esercizio numero zeroInFront importo progressivo dataOf clock dataOra tailBy meantBy replacedAfter anagrafica fieldStands repeat until nameAt pieceAt textAt endTagAt optionalAt elementBy childBy childrenBy contentBy elementAt contentAt rootAt markupOf childAt childrenChildrenBy childrenFrom keep keptFrom nameIs structureAll rowsOf inOrder textOnly fitBy fitsAt fieldsBy fieldsAt firstBad inRow ordersTextIn inside lineOf linesOf eight linesIn orderOf ordersOf verdictOf
@@ -63,15 +55,9 @@ flows = record {
   more = record { at = 19; short = refl; stands = refl; header = refl; orders = refl };
   changed = record { at = 19; short = refl; stands = refl; header = refl; orders = refl };
   annulled = record { at = 19; short = refl; stands = refl; header = refl; orders = refl };
-  late = record { short = refl; breaks = refl };
-  cut = refl;
 }
 
 -- what such a flow comes to on a valid table
 pub reads : {f : List ℕ} {h : Header} {os : List Ordinativo} (t : List ℕ) (room : ℕ) → ReadAs f h os → tableOk t ≡ true → flowReads t f room ≡ forBank t room h os
 unfolding flowReads
 reads t room r e = rw (e, r .short, r .stands) (λ i. forBank t room (r .header i) (r .orders i))
-
-pub breaks : {f : List ℕ} {p : ℕ} (t : List ℕ) (room : ℕ) → Breaks f p → tableOk t ≡ true → flowReads t f room ≡ refused (BrokenField p)
-unfolding flowReads
-breaks t room r e = rw (e, r .short, r .breaks)

@@ -20,9 +20,9 @@ use Rattle.record.specs.declared.Key.{Key}
 use Rattle.desk.specs.declared.FlowAnswer.the-variants.{Taken, BrokenField}
 use Rattle.desk.specs.Desk.{refused, served, forBank, flowReads, flowAnswer, flowTable, flowOutcomes}
 use Rattle.marked.specs.Flows.{requestOf, sampleTable, single, room}
-use Rattle.witness.specs.Flows.{two, broken, changing, annulling, headerFor, orderTo, order, linesCode, first, second, twoLined, crowd}
+use Rattle.witness.specs.Flows.{two, changing, annulling, headerFor, orderTo, order, linesCode, first, second, twoLined}
 use Rattle.witness.specs.Takers.{OneValue, Mixed, codeAsked}
-use Rattle.witness.proofs.Computed.{flows, reads, breaks}
+use Rattle.witness.proofs.Computed.{flows, reads}
 use Rattle.calendar.specs.Calendar.{leap, monthLength, isDate}
 use Rattle.ranges.specs.Ranges.{zeros}
 use Rattle.digits.specs.Digits.{digitsAfter, digits}
@@ -60,7 +60,6 @@ pub record Facts : Type 0 where
   pub valid-first : tableOk first ≡ true
   pub valid-second : tableOk second ≡ true
   pub valid-lined : tableOk twoLined ≡ true
-  pub valid-crowd : tableOk crowd ≡ true
   -- the flows are for the bank and for a body with room
   pub own : forBank sampleTable 16 (headerFor "471") one ≡ served 464 4 2021 one
   pub again : forBank second 16 (headerFor "471") one ≡ served 464 4 2021 one
@@ -69,7 +68,6 @@ pub record Facts : Type 0 where
   pub own-first : forBank first 16 (headerFor "471") one ≡ served 464 4 2021 one
   pub changed : forBank twoLined 16 (headerFor "471") (change ∷ []) ≡ served 464 4 2021 (change ∷ [])
   pub annulled : forBank twoLined 16 (headerFor "471") (annul ∷ []) ≡ served 464 4 2021 (annul ∷ [])
-  pub crowded : forBank crowd 16 (headerFor "471") one ≡ served 176 1 2021 one
   -- the answers
   pub answer : flowAnswer sampleTable (served 464 4 2021 one) ≡ Taken 1 1
   pub answer-again : flowAnswer second (served 464 4 2021 one) ≡ Taken 1 0
@@ -80,7 +78,6 @@ pub record Facts : Type 0 where
   -- outcome codes
   pub code-0 : getD (flowOutcomes second (room 2) (served 464 4 2021 both)) 2 0 ≡ 14
   pub code-1 : getD (flowOutcomes second (room 2) (served 464 4 2021 both)) 18 0 ≡ 0
-  pub code-crowd : getD (flowOutcomes crowd (room 1) (served 176 1 2021 one)) 2 0 ≡ 0
   -- the first bytes of 471's first and second slot: 0 empty, 1 a mandato
   pub slot : getD (flowTable sampleTable (served 464 4 2021 one)) 464 0 ≡ 1
   pub slot-empty : getD sampleTable 464 0 ≡ 0
@@ -97,10 +94,6 @@ pub record Facts : Type 0 where
   pub found : findIn (recordsAt twoLined 464 4) 0 (keyFor 2021 annul) ≡ At 0
   pub waits : situationIn (nth (recordsAt twoLined 464 4) 0) ≡ Waiting
   -- 000471 has filled its slots, 471 has not
-  pub comes-crowd : orderComes crowd 176 1 2021 (order 1) ≡ Accepted Insert 0
-  pub crowd-bodies : bodies crowd ≡ 2
-  pub crowd-place : placeOf crowd (entryOf 0) ≡ 80
-  pub crowd-full : usedAt crowd (placeOf crowd (entryOf 0)) (slotsOf crowd (entryOf 0)) ≡ slotsOf crowd (entryOf 0)
   -- two bodies whose codes have one value, and what each is told of 000471's mandato 1
   pub mixed : Mixed first (bytes "000471") (bytes "471")
   pub notice-other : noticeAnswer first true (bytes "000471") key 1 ≡ Done 100
@@ -120,7 +113,6 @@ facts = record {
   valid-first = refl;
   valid-second = refl;
   valid-lined = refl;
-  valid-crowd = refl;
   own = refl;
   again = refl;
   more = refl;
@@ -128,7 +120,6 @@ facts = record {
   own-first = refl;
   changed = refl;
   annulled = refl;
-  crowded = refl;
   answer = refl;
   answer-again = refl;
   answer-more = refl;
@@ -137,7 +128,6 @@ facts = record {
   answer-annul = refl;
   code-0 = refl;
   code-1 = refl;
-  code-crowd = refl;
   slot = refl;
   slot-empty = refl;
   next = refl;
@@ -150,10 +140,6 @@ facts = record {
   lines-right = refl;
   found = refl;
   waits = refl;
-  comes-crowd = refl;
-  crowd-bodies = refl;
-  crowd-place = refl;
-  crowd-full = refl;
   mixed = record { one = 0; other = 1; left = refl; right = refl; value = record { value = 471; left = refl; right = refl } };
   notice-other = refl;
   notice-own = refl;
@@ -186,9 +172,3 @@ changed-reads = reads twoLined 16 (flows .changed) (facts .valid-lined) ∙ fact
 
 pub annulled-reads : flowReads twoLined annulling 16 ≡ served 464 4 2021 (annul ∷ [])
 annulled-reads = reads twoLined 16 (flows .annulled) (facts .valid-lined) ∙ facts .annulled
-
-pub crowded-reads : flowReads crowd (single "471") 16 ≡ served 176 1 2021 one
-crowded-reads = reads crowd 16 (flows .own) (facts .valid-crowd) ∙ facts .crowded
-
-pub broken-reads : flowReads sampleTable broken 16 ≡ refused (BrokenField 967)
-broken-reads = breaks sampleTable 16 (flows .late) (facts .valid)

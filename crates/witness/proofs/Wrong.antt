@@ -1,5 +1,5 @@
 -- WHAT THE PROMISES RULE OUT, each on a flow or a call for document 01's table; and that such flows are taken.
-use Prim.Native.Nat.{ℕ}
+use Prim.Native.Nat.{ℕ, _≤_}
 use mathlib.Core.Path.{_≡_, refl, sym, ap, _∙_, subst}
 use mathlib.Core.Bool.{true}
 use mathlib.Core.List.{List, [], _∷_}
@@ -15,16 +15,49 @@ use Rattle.desk.specs.declared.FlowAnswer.{FlowAnswer}
 use Rattle.desk.specs.declared.FlowAnswer.the-variants.{Taken}
 use Rattle.desk.specs.declared.FlowReply.{FlowReply}
 use Rattle.desk.specs.Desk.{Reading, flowReads, flowAnswer, flowTable, flowOutcomes, Gives, FlowPromise, flowReply, FlowReplies}
+use Rattle.ranges.specs.declared.Found.{Found}
+use Rattle.ranges.specs.declared.Found.the-variants.{At}
+use Rattle.record.specs.declared.Record.{Record}
+use Rattle.table.proofs.Bodies.{found-body}
+use Rattle.order.specs.Ordinativo.{Ordinativo}
+use Rattle.flow.specs.declared.Verdict.{Verdict}
+use Rattle.flow.specs.declared.Verdict.the-variants.{FieldBreaks, Stands}
+use Rattle.flow.specs.Flow.{headerOf}
+use Rattle.rules.specs.Listed.{Applies, sostituzione, misnumbered, missummed, present, full, absent, annulled, executed, differs}
+use Rattle.service.specs.Service.{orderComes}
+use Rattle.theorems.proofs.Condition1.{condition1}
 use Rattle.theorems.proofs.Condition2.{condition2}
 use Rattle.marked.specs.Flows.{requestOf, sampleTable, single, room}
-use Rattle.witness.specs.Flows.{two, broken, changing, annulling, order, first, second, twoLined, crowd}
+use Rattle.witness.specs.Flows.{two, changing, annulling, order, first, second, twoLined}
 use Rattle.witness.specs.Takers.{Taker, Keeps, RefusesAll, OneOutcome, StoresNothing, FirstOnly, InventsAccepted, CountsOrders, KeepsAmounts, AnnulsByNumber, NoSlotForOthers, HalfApplied, ServesElsewhere, Notifier, KeepsNotice, Teller, KeepsTotals, Opener, KeepsOpen, InventsUsed, UsedUnseen, Mixed, ByNumber, NoticeByNumber, TotalsByNumber, OpenByNumber}
 use Rattle.witness.proofs.Computed.{flows}
-use Rattle.witness.proofs.Facts.{key, change, annul, facts, own-reads, again-reads, more-reads, other-first-reads, own-first-reads, changed-reads, annulled-reads, crowded-reads, broken-reads}
+use Rattle.witness.proofs.Facts.{key, change, annul, facts, own-reads, again-reads, more-reads, other-first-reads, own-first-reads, changed-reads, annulled-reads}
 
 -- a result that keeps the promise is that of the reading
 by-reading : (t f out : List ℕ) {t′ out′ : List ℕ} {a : FlowAnswer} {g : Reading} → flowReads t f (length out) ≡ g → FlowPromise t f out a t′ out′ → Gives t out g a t′ out′
 by-reading t f out e p = rw e at p
+
+-- a verdict has one place, a search one answer
+one-place : {v : Verdict} {i j : ℕ} → v ≡ Stands i → v ≡ Stands j → i ≡ j
+one-place e d = cc
+
+one-body : {v : Found} {i j : ℕ} → v ≡ At i → v ≡ At j → i ≡ j
+one-body e d = cc
+
+breaks-stands : {v : Verdict} {p i : ℕ} → v ≡ FieldBreaks p → v ≡ Stands i → ⊥
+breaks-stands e d = let z : _≡_ {A = ℕ} 0 1 = cc in omega arith
+
+-- "15 (INSERIMENTO: the body has no empty slot)"
+full-body : {slots year c : ℕ} {o : Ordinativo} {rs : List Record} → Applies slots year o rs c → c ≡ 15 → slots ≤ length rs
+full-body (full p l) e = l
+full-body (sostituzione p) e = absurd (omega arith)
+full-body (misnumbered p) e = absurd (omega arith)
+full-body (missummed p) e = absurd (omega arith)
+full-body (present p r h) e = absurd (omega arith)
+full-body (absent p h) e = absurd (omega arith)
+full-body (annulled p r h a) e = absurd (omega arith)
+full-body (executed p r h a k x) e = absurd (omega arith)
+full-body (differs p r h d) e = absurd (omega arith)
 
 -- a byte of buffers that are one
 byte : (i : ℕ) {x y : List ℕ} → x ≡ y → getD x i 0 ≡ getD y i 0
@@ -125,19 +158,26 @@ module _ (T : Taker) (keeps : Keeps T) where
       let z = r twoLined annulling (room 1) 464 4 2021 0 annul annulled-reads refl (facts .lines-right) (facts .found) (facts .waits) in
       omega (arith, ap accepted e)
 
-  -- 000471's one slot is full, and 471's order is accepted
+  -- 15 is given exactly where the body is full
   pub no-slot-for-others : NoSlotForOthers T → ⊥
+  unfolding orderComes
   no-slot-for-others r =
-      let e = by-reading crowd (single "471") (room 1) crowded-reads (keeps crowd (single "471") (room 1)) .2 in
-      let z = r crowd (single "471") (room 1) 176 1 2021 0 0 (order 1) crowded-reads refl (facts .comes-crowd) (omega (arith, facts .crowd-bodies)) (λ q. omega (arith, facts .crowd-place)) (facts .crowd-full) in
-      omega (arith, facts .code-crowd, byte 2 e)
+      let t = r .table in
+      let k = condition2 .taken t (r .flow) (r .lent) _ _ _ (keeps t (r .flow) (r .lent)) (r .taken) in
+      let i = one-place (r .stands) (k .stands) in
+      let n = rw i at (r .named) in
+      let b = one-body n (k .named) in
+      let c = ap (λ (l : List ℕ). getD l 0 0) (rw (rw i at (r .first)) at (k .codes)) in
+      let w = condition2 .answer t (k .valid) (k .body) (found-body t (k .valid) (headerOf (r .flow) (k .at) .ente) (k .body) (k .named)) (headerOf (r .flow) (k .at) .esercizio) (r .order) 15 (λ q. omega arith) .0 (sym c ∙ r .answered) in
+      let l = full-body (w .0) refl in
+      let m = rw b at (r .empty) in
+      omega arith
 
-  -- the flow whose last field breaks leaves the table, and the flow of its first order alone does not
+  -- a field that breaks refuses the flow, and a refused flow leaves the table
   pub half-applied : HalfApplied T → ⊥
   half-applied r =
-      let z = r sampleTable broken (single "471") (room 1) 967 (flows .own .at) 656 (flows .late .breaks) (flows .own .stands) (omega arith) (flows .cut) in
-      let e = by-reading sampleTable broken (room 1) broken-reads (keeps sampleTable broken (room 1)) .1 in
-      omega (arith, stored _ _ _ (keeps sampleTable (single "471") (room 1)), facts .slot-empty, byte 464 z, byte 464 e)
+      let k = keeps (r .table) (r .flow) (r .lent) in
+      r .changed (condition1 .refused-flow (r .table) (r .flow) (r .lent) _ _ _ k (λ z. breaks-stands (r .late) (condition2 .taken (r .table) (r .flow) (r .lent) _ _ _ k z .stands)) .0)
 
   pub serves-elsewhere : ServesElsewhere T → ⊥
   serves-elsewhere r =

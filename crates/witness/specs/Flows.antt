@@ -11,15 +11,11 @@ use Rattle.order.specs.Ordinativo.{Ordinativo}
 use Rattle.orders.specs.Orders.{Header}
 use Rattle.lines.specs.Lines.{lineCode}
 use Rattle.service.specs.Service.{orderLeaves}
-use Rattle.marked.specs.Flows.{requestOf, sampleTable, mandatoFor, mandato, flowOf}
+use Rattle.marked.specs.Flows.{requestOf, sampleTable, mandato, flowOf}
 
 -- FLOWS for 471: mandato 1 and mandato 2 inserted
 abbrev pub two : List ℕ
 two = flowOf "471" (mandato "INSERIMENTO" "1" ++ mandato "INSERIMENTO" "2")
-
--- the same with the last field of the second broken: no name
-abbrev pub broken : List ℕ
-broken = flowOf "471" (mandato "INSERIMENTO" "1" ++ mandatoFor "" "INSERIMENTO" "2")
 
 -- mandato 1 changed, and annulled
 abbrev pub changing : List ℕ
@@ -75,9 +71,6 @@ second = orderLeaves sampleTable 464 4 2021 (order 1)
 abbrev pub twoLined : List ℕ
 twoLined = orderLeaves sampleTable 464 4 2021 (twoLines 1)
 
--- for the same bodies with one slot each, and when 000471 has filled its own
+-- for the same bodies with one slot each
 abbrev pub small : List ℕ
 small = opened (requestOf 1)
-
-abbrev pub crowd : List ℕ
-crowd = orderLeaves small 80 1 2021 (order 1)

@@ -4,13 +4,13 @@
 use Prim.Native.Nat.{ℕ, _+_, _*_, _<_, _≤_}
 use mathlib.Core.Path.{_≡_}
 use mathlib.Core.Bool.{Bool, true}
-use mathlib.Core.List.{List, [], _∷_, _++_}
-use lib.ListN.{length, getD, take}
+use mathlib.Core.List.{List, [], _∷_}
+use lib.ListN.{length, getD}
 use Rattle.scan.specs.Bytes.{bytes, part}
 use Rattle.digits.specs.declared.Number.the-variants.{Value}
 use Rattle.digits.specs.Digits.{digits}
 use Rattle.ranges.specs.declared.Found.the-variants.{At}
-use Rattle.codes.specs.declared.Operation.the-variants.{Inserimento, Variazione, Annullo}
+use Rattle.codes.specs.declared.Operation.the-variants.{Variazione, Annullo}
 use Rattle.record.specs.declared.Key.{Key}
 use Rattle.record.specs.Slot.{slotSize, recordAt}
 use Rattle.slots.specs.Slots.{usedAt, recordsAt, findIn}
@@ -24,7 +24,7 @@ use Rattle.order.specs.Ordinativo.{Ordinativo}
 use Rattle.flow.specs.declared.Verdict.the-variants.{FieldBreaks, Stands}
 use Rattle.flow.specs.Flow.{verdictOf, headerOf, flowOrders}
 use Rattle.rules.specs.declared.Situation.the-variants.{Waiting}
-use Rattle.rules.specs.declared.Change.the-variants.{Insert, Vary}
+use Rattle.rules.specs.declared.Change.the-variants.{Vary}
 use Rattle.rules.specs.declared.Ruling.the-variants.{Accepted}
 use Rattle.rules.specs.Rules.{keyFor, nth, situationIn}
 use Rattle.service.specs.Service.{orderComes, orderLeaves}
@@ -95,16 +95,31 @@ module _ (T : Taker) where
       → o .operation ≡ Annullo → linesCode o ≡ 0 → findIn (recordsAt t base n) 0 (keyFor year o) ≡ At i
       → situationIn (nth (recordsAt t base n) i) ≡ Waiting → reply t f out .accepted ≡ 1
 
-  -- "'No slot' answered because another body filled its own", to an order that the rules accept
-  abbrev pub NoSlotForOthers : Type 0
-  NoSlotForOthers = (t f out : List ℕ) (base n year i b : ℕ) (o : Ordinativo) → flowReads t f (length out) ≡ served base n year (o ∷ [])
-      → o .operation ≡ Inserimento → orderComes t base n year o ≡ Accepted Insert i → b < bodies t → (placeOf t (entryOf b) ≡ base → ⊥)
-      → usedAt t (placeOf t (entryOf b)) (slotsOf t (entryOf b)) ≡ slotsOf t (entryOf b) → getD (T .outcomes t f out) 2 0 ≡ 15
+  -- "'No slot' answered because another body filled its own", or for whatever reason: somewhere the first order of a flow gets 15, though its body has
+  -- an empty slot
+  pub record NoSlotForOthers : Type 0 where
+    pub table : List ℕ
+    pub flow : List ℕ
+    pub lent : List ℕ
+    pub taken : reply table flow lent .code ≡ 0
+    pub at : ℕ
+    pub stands : verdictOf flow ≡ Stands at
+    pub body : ℕ
+    pub named : bodyOf table (headerOf flow at .ente) ≡ At body
+    pub empty : length (recordsOf body table) < slotsOf table (entryOf body)
+    pub order : Ordinativo
+    pub others : List Ordinativo
+    pub first : flowOrders flow at ≡ order ∷ others
+    pub answered : getD (T .outcomes table flow lent) 2 0 ≡ 15
 
-  -- "A flow half applied before a late field broke": it leaves what the flow leaves that ends before the order with that field
-  abbrev pub HalfApplied : Type 0
-  HalfApplied = (t f g out : List ℕ) (p i q : ℕ) → verdictOf f ≡ FieldBreaks p → verdictOf g ≡ Stands i → q ≤ p
-      → g ≡ take q f ++ bytes "</flusso_ordinativi>" → T .table t f out ≡ T .table t g out
+  -- "A flow half applied before a late field broke": somewhere a field breaks, and the table is another
+  pub record HalfApplied : Type 0 where
+    pub table : List ℕ
+    pub flow : List ℕ
+    pub lent : List ℕ
+    pub place : ℕ
+    pub late : verdictOf flow ≡ FieldBreaks place
+    pub changed : T .table table flow lent ≡ table → ⊥
 
   -- a body served on another body's slots: whatever it writes elsewhere, the slots of the flow's own body stay as they were
   abbrev pub ServesElsewhere : Type 0
