@@ -115,8 +115,8 @@ pub fn white_end(s: &[u8], at: usize) -> usize
     i
 }
 
-// Whether the bytes x stand at a position, compared one by one.
-fn has_few(s: &[u8], at: usize, x: &[u8]) -> bool
+// Whether the bytes x stand at a position.
+pub fn has(s: &[u8], at: usize, x: &[u8]) -> bool
     requires { ⌜ at ≤ length (now s) ⌝ }
     ensures { λ r. ⌜ r ≡ hasAt (now (x .entry)) (now (s .entry)) at ⌝ }
 {
@@ -131,29 +131,6 @@ fn has_few(s: &[u8], at: usize, x: &[u8]) -> bool
         i += 1;
     }
     true
-}
-
-// Whether the bytes x stand at a position: eight at a time, the last eight over those before.
-pub fn has(s: &[u8], at: usize, x: &[u8]) -> bool
-    requires { ⌜ at ≤ length (now s) ⌝ }
-    ensures { λ r. ⌜ r ≡ hasAt (now (x .entry)) (now (s .entry)) at ⌝ }
-{
-    let n = x.len();
-    if s.len() - at < n {
-        return false;
-    }
-    if n < 8 {
-        return has_few(s, at, x);
-    }
-    let last = n - 8;
-    let mut i = 0;
-    while i < last {
-        if words::read8(s, at + i) != words::read8(x, i) {
-            return false;
-        }
-        i += 8;
-    }
-    words::read8(s, at + last) == words::read8(x, last)
 }
 
 // Whether a text is x: the same bytes and no other.

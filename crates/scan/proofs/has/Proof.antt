@@ -1,51 +1,51 @@
-use mathlib.Core.Path.{_≡_, refl, sym, ap, _∙_}
-use Prim.Native.Nat.{ℕ, _+_, _-_, _≤_, _<_}
+use native.Mathlib.Nat.{add-zero}
 use native.Mathlib.Omega.{arith}
 use borrow.Author.Needs.{needs}
-use lib.ListN.{length, getD}
-use Rattle.scan.proofs.Laws.{has-less}
-use Rattle.scan.proofs.Words.{Same, eight-more, no-eight, last-eight}
+use Rattle.scan.proofs.Laws.{has-more, has-not, has-less, has-all}
+use Rattle.scan.specs.Bytes.{hasAt}
+use mathlib.Core.Path.{_≡_, refl, sym, _∙_}
+use Prim.Native.Nat.{ℕ, _≤_, _<_, _-_, _+_}
+use lib.ListN.{length, getD, drop}
 use Rattle.scan.proofs.has.Statement.{statement}
 use Rattle.scan.proofs.has.Tie as tie
+use Rattle.scan.proofs.has.Reads as reads
+use Rattle.scan.proofs.has.Lts as lts
 
 abbrev Inv-loop : tie.InvT-loop
-Inv-loop s at x n last i₀ i = (i < length x) × (at + length x ≤ length s) × (last + 8 ≡ length x) × Same s x at i
+Inv-loop s at x i₀ i = (i ≤ length x) × (at + length x ≤ length s) × (hasAt x s at ≡ hasAt (drop i x) s (at + i))
 
 abbrev μ-loop : tie.MeasureT-loop
-μ-loop s at x n last i₀ i = length x - i
+μ-loop s at x i₀ i = length x - i
 
 sub-if1 : tie.Need-sub-if1 Inv-loop μ-loop
 sub-if1 c = search needs
 
 returns : tie.Need-returns Inv-loop μ-loop
 returns c =
-    let a = c .before .before .before .args in
-    sym (has-less (a .x .now) (a .s .now) (a .at) (c .before .before .before .pre) (c .if1 .taken))
-
-has-few-requires : tie.Need-has-few-requires Inv-loop μ-loop
-has-few-requires c κs = search needs
-
-returns-2 : tie.Need-returns-2 Inv-loop μ-loop
-returns-2 c = search needs
+    let s = c .before .args .s .now in
+    let x = c .before .args .x .now in
+    let at = c .before .args .at in
+    sym (has-less x s at (c .before .pre) (c .if1 .taken))
 
 loop-holds : tie.Need-loop-holds Inv-loop μ-loop
-loop-holds c = (omega arith, omega arith, omega arith, λ j l. absurd (omega arith))
+loop-holds c = (omega arith, omega arith, rw add-zero refl)
 
-add-read8 : tie.Need-add-read8 Inv-loop μ-loop
-add-read8 c = omega arith
+add-if2 : tie.Need-add-if2 Inv-loop μ-loop
+add-if2 c = omega arith
 
-read8-requires : tie.Need-read8-requires Inv-loop μ-loop
-read8-requires c κs = omega arith
+shared-slice-read-if2 : tie.Need-shared-slice-read-if2 Inv-loop μ-loop
+shared-slice-read-if2 c = omega arith
 
-read8-requires-2 : tie.Need-read8-requires-2 Inv-loop μ-loop
-read8-requires-2 c κs = omega arith
+shared-slice-read-if2-2 : tie.Need-shared-slice-read-if2-2 Inv-loop μ-loop
+shared-slice-read-if2-2 c = omega arith
 
-returns-3 : tie.Need-returns-3 Inv-loop μ-loop
-returns-3 c =
-    let a = c .before .before .before .before .before .before .before .before .before .args in
-    let u = c .before .before .read8 .ensures in
-    let v = c .before .read82 .ensures in
-    sym (no-eight (a .s .now) (a .x .now) (a .at) (c .before .before .before .before .loop .i) (omega arith) (λ e. c .if3 .taken (u ∙ e ∙ sym v)))
+returns-2 : tie.Need-returns-2 Inv-loop μ-loop
+returns-2 c =
+    let s = c .before .before .before .before .before .before .args .s .now in
+    let x = c .before .before .before .before .before .before .args .x .now in
+    let at = c .before .before .before .before .before .before .args .at in
+    let i = c .before .before .before .before .loop .i in
+    sym (c .before .before .before .before .loop .inv .2 ∙ has-not x s at i (omega arith) (omega arith) (c .if2 .taken))
 
 add-i : tie.Need-add-i Inv-loop μ-loop
 add-i c = omega arith
@@ -55,30 +55,19 @@ loop-less c = omega arith
 
 loop-again : tie.Need-loop-again Inv-loop μ-loop
 loop-again c =
-    let k = c .before .before .before .before .before .before .before in
-    let a = k .before .before .args in
-    let u = c .before .before .read8 .ensures in
-    let v = c .before .read82 .ensures in
+    let s = c .before .before .before .before .before .before .args .s .now in
+    let x = c .before .before .before .before .before .before .args .x .now in
+    let at = c .before .before .before .before .before .before .args .at in
     let i = c .before .before .before .before .loop .i in
-    (omega arith, omega arith, omega arith, eight-more (a .s .now) (a .x .now) (a .at) i i (λ j. omega (arith, k .before .shared-slice-known .given j)) (λ j. omega (arith, k .shared-slice-known2 .given j)) (omega arith) (c .before .before .before .before .loop .inv .3) (sym u ∙ c .if3 .left ∙ v))
+    (omega arith, omega arith, c .before .before .before .before .loop .inv .2 ∙ has-more x s at i (omega arith) (omega arith) (c .if2 .left))
 
-add-read8-2 : tie.Need-add-read8-2 Inv-loop μ-loop
-add-read8-2 c = omega arith
-
-read8-requires-3 : tie.Need-read8-requires-3 Inv-loop μ-loop
-read8-requires-3 c κs = omega arith
-
-read8-requires-4 : tie.Need-read8-requires-4 Inv-loop μ-loop
-read8-requires-4 c κs = omega arith
-
-returns-4 : tie.Need-returns-4 Inv-loop μ-loop
-returns-4 c =
-    let k = c .before .before .before .before .before .before in
-    let a = k .before .before .args in
-    let u = c .before .read83 .ensures in
-    let v = c .read84 .ensures in
-    let l = c .before .before .before .loop in
-    last-eight (a .s .now) (a .x .now) (a .at) (l .i) (length (a .x .now) - 8) (c .before .read83 .result) (c .read84 .result) (λ j. omega (arith, k .before .shared-slice-known .given j)) (λ j. omega (arith, k .shared-slice-known2 .given j)) (omega arith) (omega arith) (omega arith) (l .inv .3) u v
+returns-3 : tie.Need-returns-3 Inv-loop μ-loop
+returns-3 c =
+    let s = c .before .before .before .args .s .now in
+    let x = c .before .before .before .args .x .now in
+    let at = c .before .before .before .args .at in
+    let i = c .before .loop .i in
+    sym (c .before .loop .inv .2 ∙ has-all x s at i (omega arith))
 
 pub has-spec : {M : Type 1} → statement M
 has-spec =
@@ -88,17 +77,12 @@ has-spec =
     μ-loop
     sub-if1
     returns
-    has-few-requires
-    returns-2
     loop-holds
-    add-read8
-    read8-requires
-    read8-requires-2
-    returns-3
+    add-if2
+    shared-slice-read-if2
+    shared-slice-read-if2-2
+    returns-2
     add-i
     loop-less
     loop-again
-    add-read8-2
-    read8-requires-3
-    read8-requires-4
-    returns-4)
+    returns-3)
