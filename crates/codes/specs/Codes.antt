@@ -1,7 +1,7 @@
 -- The forms whose text stays bytes (document 01, "The fields"). A text is taken as it stands in the flow: nothing is trimmed.
 use Prim.Native.Nat.{ℕ}
 use mathlib.Core.List.{List}
-use mathlib.Core.Bool.{Bool, cond, _&&_}
+use mathlib.Core.Bool.{Bool, true, false, cond, _&&_}
 use lib.ListN.{length}
 use lib.Dec.{eqb}
 use Rattle.scan.specs.Bytes.{bytes, between, isDigit, all, textIs}
@@ -31,6 +31,10 @@ tipoOperazione t =
     (cond (textIs (bytes "VARIAZIONE") t) (Operazione Variazione)
     (cond (textIs (bytes "ANNULLO") t) (Operazione Annullo)
     (cond (textIs (bytes "SOSTITUZIONE") t) (Operazione Sostituzione) NoOperation)))
+
+abbrev pub isAsked : Asked → Bool
+isAsked (Operazione o) = true
+isAsked NoOperation = false
 
 -- an operation's number, 1 to 4 in the field table's order (document 01, "Answers", outcome byte 1)
 abbrev pub operationNumber : Operation → ℕ

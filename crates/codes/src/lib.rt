@@ -1,7 +1,7 @@
 // The forms whose text stays bytes: the two codes, the identifier of a flow, and the words of tipo_operazione. Nothing here makes a number.
 use ranges::Class;
 ghost use mathlib.Core.Path.{_≡_};
-ghost use Rattle.codes.specs.Codes.{codiceAbi, identificativo, codiceEnte, tipoOperazione, operationNumber};
+ghost use Rattle.codes.specs.Codes.{codiceAbi, identificativo, codiceEnte, tipoOperazione, isAsked, operationNumber};
 
 pub enum Operation {
     Inserimento,
@@ -79,4 +79,13 @@ pub fn tipo_operazione(t: &[u8]) -> Asked
         return Asked::Operazione(Operation::Sostituzione);
     }
     Asked::NoOperation
+}
+
+pub fn is_asked(a: Asked) -> bool
+    ensures { λ r. ⌜ r ≡ isAsked a ⌝ }
+{
+    match a {
+        Asked::Operazione(_) => true,
+        Asked::NoOperation => false,
+    }
 }

@@ -1,13 +1,23 @@
 -- The forms that write a number in digits (document 01, "The fields"). A text is taken as it stands in the flow: nothing is trimmed.
 use Prim.Native.Nat.{ℕ, _+_, _*_, _-_}
 use mathlib.Core.List.{List, [], _∷_}
-use mathlib.Core.Bool.{Bool, cond, not, _&&_}
+use mathlib.Core.Bool.{Bool, true, false, cond, not, _&&_}
 use lib.ListN.{length, take, drop}
 use lib.Dec.{eqb}
 use Rattle.scan.specs.Bytes.{byte, byteAt, between, isDigit, run}
 use Rattle.bounds.specs.Bounds.{isYear, isNumero}
 use Rattle.digits.specs.declared.Number.{Number}
 use Rattle.digits.specs.declared.Number.the-variants.{Value, NoNumber}
+
+-- a number is written
+abbrev pub isValue : Number → Bool
+isValue (Value v) = true
+isValue NoNumber = false
+
+-- .. of which f holds
+abbrev pub valueIs : (ℕ → Bool) → Number → Bool
+valueIs f (Value v) = f v
+valueIs f NoNumber = false
 
 -- a number of which f holds
 abbrev pub within : (ℕ → Bool) → Number → Number
@@ -24,12 +34,18 @@ unfoldable pub digits : ℕ → ℕ → List ℕ → Number
 digits lo hi t = cond (between lo hi (length t)) (digitsAfter 0 t) NoNumber
 
 -- esercizio: four digits, 2000 to 2099
+abbrev pub esercizioWritten : List ℕ → Number
+esercizioWritten t = digits 4 4 t
+
 unfoldable pub esercizio : List ℕ → Number
-esercizio t = within isYear (digits 4 4 t)
+esercizio t = within isYear (esercizioWritten t)
 
 -- numero: 1 to 7 digits, value 1 to 9,999,999; leading zeros don't count
+abbrev pub numeroWritten : List ℕ → Number
+numeroWritten t = digits 1 7 t
+
 unfoldable pub numero : List ℕ → Number
-numero t = within isNumero (digits 1 7 t)
+numero t = within isNumero (numeroWritten t)
 
 abbrev pub inCents : Number → Number → Number
 inCents (Value w) (Value c) = Value (w * 100 + c)

@@ -2,12 +2,21 @@
 ghost use mathlib.Core.Path.{_≡_};
 ghost use Prim.Native.Nat.{_≤_};
 ghost use Rattle.scan.specs.Bytes.{between};
-ghost use Rattle.digits.specs.Digits.{within, digits, esercizio, numero, progressivo, importo};
+ghost use Rattle.digits.specs.Digits.{isValue, within, digits, esercizio, numeroWritten, numero, progressivo, importo};
 ghost use Rattle.digits.specs.Inner.{zeroFirst};
 
 pub enum Number {
     Value(u64),
     NoNumber,
+}
+
+pub fn is_value(n: Number) -> bool
+    ensures { λ r. ⌜ r ≡ isValue n ⌝ }
+{
+    match n {
+        Number::Value(_) => true,
+        Number::NoNumber => false,
+    }
 }
 
 fn number_within(n: Number, lo: u64, hi: u64) -> Number
@@ -63,7 +72,7 @@ pub fn two_digits(t: &[u8]) -> Number
     digits_of(t, 2, 2)
 }
 
-// A year.
+// A year, in a date or an esercizio.
 pub fn four_digits(t: &[u8]) -> Number
     ensures { λ r. ⌜ r ≡ digits 4 4 (now (t .entry)) ⌝ }
 {
@@ -73,13 +82,20 @@ pub fn four_digits(t: &[u8]) -> Number
 pub fn esercizio_of(t: &[u8]) -> Number
     ensures { λ r. ⌜ r ≡ esercizio (now (t .entry)) ⌝ }
 {
-    number_within(digits_of(t, 4, 4), bounds::FIRST_YEAR, bounds::LAST_YEAR)
+    number_within(four_digits(t), bounds::FIRST_YEAR, bounds::LAST_YEAR)
+}
+
+// The number that a numero writes, 0 too.
+pub fn numero_written(t: &[u8]) -> Number
+    ensures { λ r. ⌜ r ≡ numeroWritten (now (t .entry)) ⌝ }
+{
+    digits_of(t, 1, 7)
 }
 
 pub fn numero_of(t: &[u8]) -> Number
     ensures { λ r. ⌜ r ≡ numero (now (t .entry)) ⌝ }
 {
-    number_within(digits_of(t, 1, 7), 1, bounds::MAX_NUMERO)
+    number_within(numero_written(t), 1, bounds::MAX_NUMERO)
 }
 
 pub fn progressivo_of(t: &[u8]) -> Number

@@ -28,7 +28,7 @@ fn ref_tail(t: &[u8], at: usize) -> usize
 }
 
 // How many bytes a text has once the five references are replaced, counted without replacing them.
-fn replaced_length(t: &[u8]) -> usize
+pub fn replaced_length(t: &[u8]) -> usize
     ensures { λ r. ⌜ r ≡ length (replaced (now (t .entry))) ⌝ }
 {
     let mut i = 0;

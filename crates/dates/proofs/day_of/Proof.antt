@@ -29,11 +29,8 @@ enum-told-3 c = search needs
 returns-3 : tie.Need-returns-3
 returns-3 c = search needs
 
-on-date-requires : tie.Need-on-date-requires
-on-date-requires c κs = search needs
-
 returns-4 : tie.Need-returns-4
-returns-4 c = rw (c .before .before .before .before .before .before .before .before .y .given .1, c .before .before .before .before .before .m .given .1, c .before .before .d .given .1) (c .on-date .ensures)
+returns-4 c = rw (c .before .before .before .before .before .before .before .y .given .1, c .before .before .before .before .m .given .1, c .before .d .given .1)
 
 pub day-of-spec : {M : Type 1} → statement M
 day-of-spec =
@@ -48,5 +45,4 @@ day-of-spec =
     enum-known-d
     enum-told-3
     returns-3
-    on-date-requires
     returns-4)

@@ -1,0 +1,162 @@
+use borrow.Author.Needs.{needs}
+use mathlib.Core.Path.{_≡_, sym, ap, _∙_}
+use mathlib.Core.Bool.{true, false}
+use native.Mathlib.Omega.{arith}
+use borrow.Author.Tests.{not-true, not-false}
+use Rattle.digits.specs.declared.Number.{Number}
+use Rattle.dates.specs.Dates.{dataWritten, isOn, signs, dateIn, areNumbers}
+use Rattle.dates.proofs.Laws.{signs-19, written-no-signs, written-no-day, written-time}
+use Rattle.dates.proofs.data_ora_written.Statement.{statement}
+use Rattle.dates.proofs.data_ora_written.Tie as tie
+
+signs-stand-requires : tie.Need-signs-stand-requires
+signs-stand-requires c κs = search needs
+
+returns : tie.Need-returns
+returns c =
+    let t = c .before .before .before .args .t .now in
+    let s : signs t ≡ false = sym (c .before .signs-stand .ensures) ∙ not-true _ (c .if1 .taken) in
+    sym (written-no-signs t s)
+
+sub-data-written : tie.Need-sub-data-written
+sub-data-written c =
+    let t = c .before .before .before .args .t .now in
+    let s : signs t ≡ true = sym (c .before .signs-stand .ensures) ∙ not-false _ (c .if1 .left) in
+    let l = signs-19 t s in
+    omega arith
+
+part-data-written-start : tie.Need-part-data-written-start
+part-data-written-start c =
+    let t = c .before .before .before .args .t .now in
+    let s : signs t ≡ true = sym (c .before .signs-stand .ensures) ∙ not-false _ (c .if1 .left) in
+    let l = signs-19 t s in
+    omega arith
+
+part-data-written-end : tie.Need-part-data-written-end
+part-data-written-end c =
+    let t = c .before .before .before .args .t .now in
+    let s : signs t ≡ true = sym (c .before .signs-stand .ensures) ∙ not-false _ (c .if1 .left) in
+    let l = signs-19 t s in
+    omega arith
+
+data-written-requires : tie.Need-data-written-requires
+data-written-requires c κs = search needs
+
+is-on-requires : tie.Need-is-on-requires
+is-on-requires c κs = search needs
+
+returns-2 : tie.Need-returns-2
+returns-2 c =
+    let t = c .before .before .before .before .before .before .before .args .t .now in
+    let s : signs t ≡ true = sym (c .before .before .before .before .before .signs-stand .ensures) ∙ not-false _ (c .before .before .before .before .if1 .left) in
+    let o : isOn (dataWritten (dateIn t)) ≡ false = ap isOn (sym (c .before .before .data-written .ensures)) ∙ (sym (c .before .is-on .ensures) ∙ not-true _ (c .if2 .taken)) in
+    sym (written-no-day t s o)
+
+sub-two-digits : tie.Need-sub-two-digits
+sub-two-digits c =
+    let t = c .before .before .before .before .before .before .before .args .t .now in
+    let s : signs t ≡ true = sym (c .before .before .before .before .before .signs-stand .ensures) ∙ not-false _ (c .before .before .before .before .if1 .left) in
+    let l = signs-19 t s in
+    omega arith
+
+part-two-digits-start : tie.Need-part-two-digits-start
+part-two-digits-start c =
+    let t = c .before .before .before .before .before .before .before .args .t .now in
+    let s : signs t ≡ true = sym (c .before .before .before .before .before .signs-stand .ensures) ∙ not-false _ (c .before .before .before .before .if1 .left) in
+    let l = signs-19 t s in
+    omega arith
+
+part-two-digits-end : tie.Need-part-two-digits-end
+part-two-digits-end c =
+    let t = c .before .before .before .before .before .before .before .args .t .now in
+    let s : signs t ≡ true = sym (c .before .before .before .before .before .signs-stand .ensures) ∙ not-false _ (c .before .before .before .before .if1 .left) in
+    let l = signs-19 t s in
+    omega arith
+
+two-digits-requires : tie.Need-two-digits-requires
+two-digits-requires c κs = search needs
+
+sub-two-digits-2 : tie.Need-sub-two-digits-2
+sub-two-digits-2 c =
+    let t = c .before .before .before .before .before .before .before .before .before .args .t .now in
+    let s : signs t ≡ true = sym (c .before .before .before .before .before .before .before .signs-stand .ensures) ∙ not-false _ (c .before .before .before .before .before .before .if1 .left) in
+    let l = signs-19 t s in
+    omega arith
+
+part-two-digits-start-2 : tie.Need-part-two-digits-start-2
+part-two-digits-start-2 c =
+    let t = c .before .before .before .before .before .before .before .before .before .args .t .now in
+    let s : signs t ≡ true = sym (c .before .before .before .before .before .before .before .signs-stand .ensures) ∙ not-false _ (c .before .before .before .before .before .before .if1 .left) in
+    let l = signs-19 t s in
+    omega arith
+
+part-two-digits-end-2 : tie.Need-part-two-digits-end-2
+part-two-digits-end-2 c =
+    let t = c .before .before .before .before .before .before .before .before .before .args .t .now in
+    let s : signs t ≡ true = sym (c .before .before .before .before .before .before .before .signs-stand .ensures) ∙ not-false _ (c .before .before .before .before .before .before .if1 .left) in
+    let l = signs-19 t s in
+    omega arith
+
+two-digits-requires-2 : tie.Need-two-digits-requires-2
+two-digits-requires-2 c κs = search needs
+
+sub-two-digits-3 : tie.Need-sub-two-digits-3
+sub-two-digits-3 c =
+    let t = c .before .before .before .before .before .before .before .before .before .before .before .args .t .now in
+    let s : signs t ≡ true = sym (c .before .before .before .before .before .before .before .before .before .signs-stand .ensures) ∙ not-false _ (c .before .before .before .before .before .before .before .before .if1 .left) in
+    let l = signs-19 t s in
+    omega arith
+
+part-two-digits-start-3 : tie.Need-part-two-digits-start-3
+part-two-digits-start-3 c =
+    let t = c .before .before .before .before .before .before .before .before .before .before .before .args .t .now in
+    let s : signs t ≡ true = sym (c .before .before .before .before .before .before .before .before .before .signs-stand .ensures) ∙ not-false _ (c .before .before .before .before .before .before .before .before .if1 .left) in
+    let l = signs-19 t s in
+    omega arith
+
+part-two-digits-end-3 : tie.Need-part-two-digits-end-3
+part-two-digits-end-3 c =
+    let t = c .before .before .before .before .before .before .before .before .before .before .before .args .t .now in
+    let s : signs t ≡ true = sym (c .before .before .before .before .before .before .before .before .before .signs-stand .ensures) ∙ not-false _ (c .before .before .before .before .before .before .before .before .if1 .left) in
+    let l = signs-19 t s in
+    omega arith
+
+two-digits-requires-3 : tie.Need-two-digits-requires-3
+two-digits-requires-3 c κs = search needs
+
+are-numbers-requires : tie.Need-are-numbers-requires
+are-numbers-requires c κs = search needs
+
+returns-3 : tie.Need-returns-3
+returns-3 c =
+    let t = c .before .before .before .before .before .before .before .before .before .before .before .before .before .before .args .t .now in
+    let s : signs t ≡ true = sym (c .before .before .before .before .before .before .before .before .before .before .before .before .signs-stand .ensures) ∙ not-false _ (c .before .before .before .before .before .before .before .before .before .before .before .if1 .left) in
+    let o : isOn (dataWritten (dateIn t)) ≡ true = ap isOn (sym (c .before .before .before .before .before .before .before .before .before .data-written .ensures)) ∙ (sym (c .before .before .before .before .before .before .before .before .is-on .ensures) ∙ not-false _ (c .before .before .before .before .before .before .before .if2 .left)) in
+    rw (c .before .before .before .before .before .two-digits .ensures, c .before .before .before .two-digits2 .ensures, c .before .two-digits3 .ensures) at (c .are-numbers .ensures) ∙ sym (written-time t s o)
+
+pub data-ora-written-spec : {M : Type 1} → statement M
+data-ora-written-spec =
+    tie.close
+    (tie.spec
+    signs-stand-requires
+    returns
+    sub-data-written
+    part-data-written-start
+    part-data-written-end
+    data-written-requires
+    is-on-requires
+    returns-2
+    sub-two-digits
+    part-two-digits-start
+    part-two-digits-end
+    two-digits-requires
+    sub-two-digits-2
+    part-two-digits-start-2
+    part-two-digits-end-2
+    two-digits-requires-2
+    sub-two-digits-3
+    part-two-digits-start-3
+    part-two-digits-end-3
+    two-digits-requires-3
+    are-numbers-requires
+    returns-3)
