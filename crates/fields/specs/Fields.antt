@@ -14,50 +14,65 @@ use Rattle.dates.specs.Dates.{dataOra, dataOf}
 use Rattle.names.specs.Names.{anagrafica}
 use Rattle.fields.specs.declared.Judged.{Judged}
 use Rattle.fields.specs.declared.Judged.the-variants.{Stands, Breaks}
+use Rattle.fields.specs.declared.Value as field
 use Rattle.fields.specs.declared.Value.the-variants as value
 use Rattle.fields.specs.declared.Reading.{Reading}
 use Rattle.fields.specs.declared.Reading.the-variants as reading
+use Rattle.fields.specs.declared.Cause.{Cause}
 use Rattle.fields.specs.declared.Form.{Form}
 use Rattle.fields.specs.declared.Form.the-variants.{CodiceAbi, Identificativo, DataOra, CodiceEnte, Esercizio, TipoOperazione, Numero, Data, Importo, Progressivo, Anagrafica}
+use Rattle.fields.specs.Causes.{causeOf}
 
--- A READING: the value that a text of the form says, or that it breaks. Of a text that stays bytes only that it has the form is said.
-abbrev pub ofText : Bool → Reading
-ofText true = reading.Holds value.Text
-ofText false = reading.Breaks
+-- WHAT A TEXT SAYS: a value of the form, or none. Of a text that stays bytes only that it has the form is said.
+pub data Valued : Type 0 where
+  some : field.Value → Valued
+  none : Valued
 
-abbrev pub ofNumber : Number → Reading
-ofNumber (Value v) = reading.Holds (value.Number v)
-ofNumber NoNumber = reading.Breaks
+abbrev pub ofText : Bool → Valued
+ofText true = some value.Text
+ofText false = none
 
-abbrev pub ofDay : Day → Reading
-ofDay (On d) = reading.Holds (value.Day d)
-ofDay NoDay = reading.Breaks
+abbrev pub ofNumber : Number → Valued
+ofNumber (Value v) = some (value.Number v)
+ofNumber NoNumber = none
 
-abbrev pub ofOperation : Asked → Reading
-ofOperation (Operazione o) = reading.Holds (value.Operation o)
-ofOperation NoOperation = reading.Breaks
+abbrev pub ofDay : Day → Valued
+ofDay (On d) = some (value.Day d)
+ofDay NoDay = none
+
+abbrev pub ofOperation : Asked → Valued
+ofOperation (Operazione o) = some (value.Operation o)
+ofOperation NoOperation = none
 
 -- which form asks what, in the table's order
-abbrev pub readingOf : Form → List ℕ → Reading
-readingOf CodiceAbi t = ofText (codiceAbi t)
-readingOf Identificativo t = ofText (identificativo t)
-readingOf DataOra t = ofText (dataOra t)
-readingOf CodiceEnte t = ofText (codiceEnte t)
-readingOf Esercizio t = ofNumber (esercizio t)
-readingOf TipoOperazione t = ofOperation (tipoOperazione t)
-readingOf Numero t = ofNumber (numero t)
-readingOf Data t = ofDay (dataOf t)
-readingOf Importo t = ofNumber (importo t)
-readingOf Progressivo t = ofNumber (progressivo t)
-readingOf Anagrafica t = ofText (anagrafica t)
+abbrev pub fieldValue : Form → List ℕ → Valued
+fieldValue CodiceAbi t = ofText (codiceAbi t)
+fieldValue Identificativo t = ofText (identificativo t)
+fieldValue DataOra t = ofText (dataOra t)
+fieldValue CodiceEnte t = ofText (codiceEnte t)
+fieldValue Esercizio t = ofNumber (esercizio t)
+fieldValue TipoOperazione t = ofOperation (tipoOperazione t)
+fieldValue Numero t = ofNumber (numero t)
+fieldValue Data t = ofDay (dataOf t)
+fieldValue Importo t = ofNumber (importo t)
+fieldValue Progressivo t = ofNumber (progressivo t)
+fieldValue Anagrafica t = ofText (anagrafica t)
 
--- IT STANDS: its reading is a value
-abbrev pub standsBy : Reading → Judged
-standsBy (reading.Holds v) = Stands
-standsBy reading.Breaks = Breaks
+-- A READING: the value that a text says, or what is wrong with it (Causes)
+abbrev pub told : Cause → Valued → Reading
+told w (some v) = reading.Holds v
+told w none = reading.Breaks w
+
+abbrev pub readingOf : Form → List ℕ → Reading
+readingOf f t = told (causeOf f t) (fieldValue f t)
+
+-- IT STANDS: it says a value
+abbrev pub standsBy : Valued → Judged
+standsBy (some v) = Stands
+standsBy none = Breaks
 
 unfoldable pub fieldStands : Form → List ℕ → Judged
-fieldStands f t = standsBy (readingOf f t)
+fieldStands f t = standsBy (fieldValue f t)
 
 -- the same of each kind of form
 abbrev pub judged : Bool → Judged

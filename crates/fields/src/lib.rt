@@ -1,11 +1,12 @@
-// The eleven forms of document 01's field table: each is read once, for its value or that it breaks.
+// The eleven forms of document 01's field table: each is read once, for its value, and where it has none for what is wrong.
 use calendar::Date;
 use codes::Asked;
 use codes::Operation;
 use dates::Day;
 use digits::Number;
 ghost use mathlib.Core.Path.{_≡_};
-ghost use Rattle.fields.specs.Fields.{ofText, ofNumber, ofDay, ofOperation, readingOf, fieldStands};
+ghost use Rattle.fields.specs.Causes.{causeNumber, longest, longer, formed, causeOf};
+ghost use Rattle.fields.specs.Fields.{ofText, ofNumber, ofDay, ofOperation, told, readingOf, fieldStands};
 
 pub enum Judged {
     Stands,
@@ -35,46 +36,135 @@ pub enum Value {
     Operation(Operation),
 }
 
+// The longest text that a form allows, in bytes or, of a name, as its form counts.
+pub enum Longest {
+    Bytes(usize),
+    OfName(usize),
+}
+
+// What is wrong with a field's text, in the order in which a cause is told.
+pub enum Cause {
+    Empty,
+    Long,
+    Misformed,
+    OutOfRange,
+}
+
 // A field's text read by its form.
 pub enum Reading {
     Holds(Value),
-    Breaks,
+    Breaks(Cause),
 }
 
-fn text_reading(has_form: bool) -> Reading
-    ensures { λ r. ⌜ r ≡ ofText «has_form» ⌝ }
+// A cause's number in a flow's answer.
+pub fn cause_number(c: Cause) -> u64
+    ensures { λ r. ⌜ r ≡ causeNumber c ⌝ }
+{
+    match c {
+        Cause::Empty => 1,
+        Cause::Long => 2,
+        Cause::Misformed => 3,
+        Cause::OutOfRange => 4,
+    }
+}
+
+pub fn longest_of(f: Form) -> Longest
+    ensures { λ r. ⌜ r ≡ longest f ⌝ }
+{
+    match f {
+        Form::CodiceAbi => Longest::Bytes(bounds::ABI),
+        Form::Identificativo => Longest::Bytes(35),
+        Form::DataOra => Longest::Bytes(19),
+        Form::CodiceEnte => Longest::Bytes(bounds::MAX_CODE),
+        Form::Esercizio => Longest::Bytes(4),
+        Form::TipoOperazione => Longest::Bytes(12),
+        Form::Numero => Longest::Bytes(7),
+        Form::Data => Longest::Bytes(10),
+        Form::Importo => Longest::Bytes(12),
+        Form::Progressivo => Longest::Bytes(3),
+        Form::Anagrafica => Longest::OfName(140),
+    }
+}
+
+fn is_longer(l: Longest, t: &[u8]) -> bool
+    ensures { λ r. ⌜ r ≡ longer l (now (t .entry)) ⌝ }
+{
+    match l {
+        Longest::Bytes(n) => n < t.len(),
+        Longest::OfName(n) => n < names::replaced_length(t),
+    }
+}
+
+// Whether a text has the form, whatever value it writes.
+fn is_formed(f: Form, t: &[u8]) -> bool
+    ensures { λ r. ⌜ r ≡ formed f (now (t .entry)) ⌝ }
+{
+    match f {
+        Form::CodiceAbi => codes::codice_abi(t),
+        Form::Identificativo => codes::identificativo_flusso(t),
+        Form::DataOra => dates::data_ora_written(t),
+        Form::CodiceEnte => codes::codice_ente(t),
+        Form::Esercizio => digits::is_value(digits::four_digits(t)),
+        Form::TipoOperazione => codes::is_asked(codes::tipo_operazione(t)),
+        Form::Numero => digits::is_value(digits::numero_written(t)),
+        Form::Data => dates::is_on(dates::data_written(t)),
+        Form::Importo => digits::is_value(digits::importo_of(t)),
+        Form::Progressivo => digits::is_value(digits::progressivo_of(t)),
+        Form::Anagrafica => names::anagrafica_of(t),
+    }
+}
+
+// What is wrong with a text that breaks: the first cause that applies. A text that stands is never asked for one.
+pub fn cause_of(f: Form, t: &[u8]) -> Cause
+    ensures { λ r. ⌜ r ≡ causeOf f (now (t .entry)) ⌝ }
+{
+    if t.len() == 0 {
+        return Cause::Empty;
+    }
+    if is_longer(longest_of(f), t) {
+        return Cause::Long;
+    }
+    if is_formed(f, t) {
+        Cause::OutOfRange
+    } else {
+        Cause::Misformed
+    }
+}
+
+fn text_reading(has_form: bool, f: Form, t: &[u8]) -> Reading
+    ensures { λ r. ⌜ r ≡ told (causeOf f (now (t .entry))) (ofText «has_form») ⌝ }
 {
     if has_form {
         Reading::Holds(Value::Text)
     } else {
-        Reading::Breaks
+        Reading::Breaks(cause_of(f, t))
     }
 }
 
-fn number_reading(n: Number) -> Reading
-    ensures { λ r. ⌜ r ≡ ofNumber n ⌝ }
+fn number_reading(n: Number, f: Form, t: &[u8]) -> Reading
+    ensures { λ r. ⌜ r ≡ told (causeOf f (now (t .entry))) (ofNumber n) ⌝ }
 {
     match n {
         Number::Value(v) => Reading::Holds(Value::Number(v)),
-        Number::NoNumber => Reading::Breaks,
+        Number::NoNumber => Reading::Breaks(cause_of(f, t)),
     }
 }
 
-fn day_reading(d: Day) -> Reading
-    ensures { λ r. ⌜ r ≡ ofDay d ⌝ }
+fn day_reading(d: Day, f: Form, t: &[u8]) -> Reading
+    ensures { λ r. ⌜ r ≡ told (causeOf f (now (t .entry))) (ofDay d) ⌝ }
 {
     match d {
         Day::On(date) => Reading::Holds(Value::Day(date)),
-        Day::NoDay => Reading::Breaks,
+        Day::NoDay => Reading::Breaks(cause_of(f, t)),
     }
 }
 
-fn operation_reading(a: Asked) -> Reading
-    ensures { λ r. ⌜ r ≡ ofOperation a ⌝ }
+fn operation_reading(a: Asked, f: Form, t: &[u8]) -> Reading
+    ensures { λ r. ⌜ r ≡ told (causeOf f (now (t .entry))) (ofOperation a) ⌝ }
 {
     match a {
         Asked::Operazione(o) => Reading::Holds(Value::Operation(o)),
-        Asked::NoOperation => Reading::Breaks,
+        Asked::NoOperation => Reading::Breaks(cause_of(f, t)),
     }
 }
 
@@ -83,17 +173,17 @@ pub fn field_of(f: Form, t: &[u8]) -> Reading
     ensures { λ r. ⌜ r ≡ readingOf f (now (t .entry)) ⌝ }
 {
     match f {
-        Form::CodiceAbi => text_reading(codes::codice_abi(t)),
-        Form::Identificativo => text_reading(codes::identificativo_flusso(t)),
-        Form::DataOra => text_reading(dates::data_ora(t)),
-        Form::CodiceEnte => text_reading(codes::codice_ente(t)),
-        Form::Esercizio => number_reading(digits::esercizio_of(t)),
-        Form::TipoOperazione => operation_reading(codes::tipo_operazione(t)),
-        Form::Numero => number_reading(digits::numero_of(t)),
-        Form::Data => day_reading(dates::data_of(t)),
-        Form::Importo => number_reading(digits::importo_of(t)),
-        Form::Progressivo => number_reading(digits::progressivo_of(t)),
-        Form::Anagrafica => text_reading(names::anagrafica_of(t)),
+        Form::CodiceAbi => text_reading(codes::codice_abi(t), f, t),
+        Form::Identificativo => text_reading(codes::identificativo_flusso(t), f, t),
+        Form::DataOra => text_reading(dates::data_ora(t), f, t),
+        Form::CodiceEnte => text_reading(codes::codice_ente(t), f, t),
+        Form::Esercizio => number_reading(digits::esercizio_of(t), f, t),
+        Form::TipoOperazione => operation_reading(codes::tipo_operazione(t), f, t),
+        Form::Numero => number_reading(digits::numero_of(t), f, t),
+        Form::Data => day_reading(dates::data_of(t), f, t),
+        Form::Importo => number_reading(digits::importo_of(t), f, t),
+        Form::Progressivo => number_reading(digits::progressivo_of(t), f, t),
+        Form::Anagrafica => text_reading(names::anagrafica_of(t), f, t),
     }
 }
 
@@ -103,6 +193,6 @@ pub fn field_stands(f: Form, t: &[u8]) -> Judged
 {
     match field_of(f, t) {
         Reading::Holds(_) => Judged::Stands,
-        Reading::Breaks => Judged::Breaks,
+        Reading::Breaks(_) => Judged::Breaks,
     }
 }

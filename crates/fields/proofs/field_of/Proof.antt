@@ -1,5 +1,5 @@
-use mathlib.Core.Path.{ap, _∙_}
-use Rattle.fields.specs.Fields.{ofText, ofNumber, ofDay, ofOperation}
+use mathlib.Core.Path.{_∙_}
+use Rattle.fields.proofs.Laws.{told-text, told-number, told-day, told-operation}
 use borrow.Author.Needs.{needs}
 use Rattle.fields.proofs.field_of.Statement.{statement}
 use Rattle.fields.proofs.field_of.Tie as tie
@@ -104,37 +104,37 @@ text-reading-requires-5 : tie.Need-text-reading-requires-5
 text-reading-requires-5 c κs = search needs
 
 returns : tie.Need-returns
-returns c = rw (c .before .before .enum-told .given .1) (c .text-reading .ensures ∙ ap ofText (c .before .codice-abi .ensures))
+returns c = rw (c .before .before .enum-told .given .1) (rw (c .before .before .enum-told .given .1) at (c .text-reading .ensures) ∙ told-text _ (c .before .codice-abi .ensures))
 
 returns-2 : tie.Need-returns-2
-returns-2 c = rw (c .before .before .enum-told2 .given .1) (c .text-reading2 .ensures ∙ ap ofText (c .before .identificativo-flusso .ensures))
+returns-2 c = rw (c .before .before .enum-told2 .given .1) (rw (c .before .before .enum-told2 .given .1) at (c .text-reading2 .ensures) ∙ told-text _ (c .before .identificativo-flusso .ensures))
 
 returns-3 : tie.Need-returns-3
-returns-3 c = rw (c .before .before .enum-told3 .given .1) (c .text-reading3 .ensures ∙ ap ofText (c .before .data-ora .ensures))
+returns-3 c = rw (c .before .before .enum-told3 .given .1) (rw (c .before .before .enum-told3 .given .1) at (c .text-reading3 .ensures) ∙ told-text _ (c .before .data-ora .ensures))
 
 returns-4 : tie.Need-returns-4
-returns-4 c = rw (c .before .before .enum-told4 .given .1) (c .text-reading4 .ensures ∙ ap ofText (c .before .codice-ente .ensures))
+returns-4 c = rw (c .before .before .enum-told4 .given .1) (rw (c .before .before .enum-told4 .given .1) at (c .text-reading4 .ensures) ∙ told-text _ (c .before .codice-ente .ensures))
 
 returns-5 : tie.Need-returns-5
-returns-5 c = rw (c .before .before .enum-told5 .given .1) (c .number-reading .ensures ∙ ap ofNumber (c .before .esercizio-of .ensures))
+returns-5 c = rw (c .before .before .enum-told5 .given .1) (rw (c .before .before .enum-told5 .given .1) at (c .number-reading .ensures) ∙ told-number _ (c .before .esercizio-of .ensures))
 
 returns-6 : tie.Need-returns-6
-returns-6 c = rw (c .before .before .enum-told6 .given .1) (c .operation-reading .ensures ∙ ap ofOperation (c .before .tipo-operazione .ensures))
+returns-6 c = rw (c .before .before .enum-told6 .given .1) (rw (c .before .before .enum-told6 .given .1) at (c .operation-reading .ensures) ∙ told-operation _ (c .before .tipo-operazione .ensures))
 
 returns-7 : tie.Need-returns-7
-returns-7 c = rw (c .before .before .enum-told7 .given .1) (c .number-reading2 .ensures ∙ ap ofNumber (c .before .numero-of .ensures))
+returns-7 c = rw (c .before .before .enum-told7 .given .1) (rw (c .before .before .enum-told7 .given .1) at (c .number-reading2 .ensures) ∙ told-number _ (c .before .numero-of .ensures))
 
 returns-8 : tie.Need-returns-8
-returns-8 c = rw (c .before .before .enum-told8 .given .1) (c .day-reading .ensures ∙ ap ofDay (c .before .data-of .ensures))
+returns-8 c = rw (c .before .before .enum-told8 .given .1) (rw (c .before .before .enum-told8 .given .1) at (c .day-reading .ensures) ∙ told-day _ (c .before .data-of .ensures))
 
 returns-9 : tie.Need-returns-9
-returns-9 c = rw (c .before .before .enum-told9 .given .1) (c .number-reading3 .ensures ∙ ap ofNumber (c .before .importo-of .ensures))
+returns-9 c = rw (c .before .before .enum-told9 .given .1) (rw (c .before .before .enum-told9 .given .1) at (c .number-reading3 .ensures) ∙ told-number _ (c .before .importo-of .ensures))
 
 returns-10 : tie.Need-returns-10
-returns-10 c = rw (c .before .before .enum-told10 .given .1) (c .number-reading4 .ensures ∙ ap ofNumber (c .before .progressivo-of .ensures))
+returns-10 c = rw (c .before .before .enum-told10 .given .1) (rw (c .before .before .enum-told10 .given .1) at (c .number-reading4 .ensures) ∙ told-number _ (c .before .progressivo-of .ensures))
 
 returns-11 : tie.Need-returns-11
-returns-11 c = rw (c .before .before .enum-told11 .given .1) (c .text-reading5 .ensures ∙ ap ofText (c .before .anagrafica-of .ensures))
+returns-11 c = rw (c .before .before .enum-told11 .given .1) (rw (c .before .before .enum-told11 .given .1) at (c .text-reading5 .ensures) ∙ told-text _ (c .before .anagrafica-of .ensures))
 
 pub field-of-spec : {M : Type 1} → statement M
 field-of-spec =

@@ -1,11 +1,8 @@
-use mathlib.Core.Path.{sym, ap, _∙_}
-use Rattle.fields.specs.Fields.{standsBy, fieldStands}
+use mathlib.Core.Path.{sym, _∙_}
+use Rattle.fields.proofs.Laws.{stands-holds, stands-breaks}
 use borrow.Author.Needs.{needs}
 use Rattle.fields.proofs.field_stands.Statement.{statement}
 use Rattle.fields.proofs.field_stands.Tie as tie
-use Rattle.fields.proofs.field_stands.Reads as reads
-use Rattle.fields.proofs.field_stands.Lts as lts
-use Rattle.fields.proofs.field_of.Reads as field-of-reads
 
 field-of-requires : tie.Need-field-of-requires
 field-of-requires c κs = search needs
@@ -17,12 +14,10 @@ enum-told-2 : tie.Need-enum-told-2
 enum-told-2 c = search needs
 
 returns : tie.Need-returns
-unfolding fieldStands
-returns c = ap standsBy (sym (c .enum-told .given .1) ∙ c .before .before .field-of .ensures)
+returns c = stands-holds _ _ (sym (c .enum-told .given .1) ∙ c .before .before .field-of .ensures)
 
 returns-2 : tie.Need-returns-2
-unfolding fieldStands
-returns-2 c = ap standsBy (sym (c .enum-told2 .given .1) ∙ c .before .before .field-of .ensures)
+returns-2 c = stands-breaks _ _ (sym (c .enum-told2 .given .1) ∙ c .before .before .field-of .ensures)
 
 pub field-stands-spec : {M : Type 1} → statement M
 field-stands-spec = tie.close (tie.spec field-of-requires enum-told enum-told-2 returns returns-2)

@@ -1,0 +1,52 @@
+use mathlib.Core.Path.{_≡_, sym, ap, _∙_}
+use mathlib.Core.Bool.{true, false}
+use Rattle.fields.specs.Causes.{longest, longer}
+use Rattle.fields.proofs.Laws.{cause-empty, cause-long, cause-range, cause-form}
+use borrow.Author.Needs.{needs}
+use Rattle.fields.proofs.cause_of.Statement.{statement}
+use Rattle.fields.proofs.cause_of.Tie as tie
+
+returns : tie.Need-returns
+returns c = sym (cause-empty (c .before .before .args .f) (c .before .before .args .t .now) (c .if1 .taken))
+
+longest-of-requires : tie.Need-longest-of-requires
+longest-of-requires c κs = search needs
+
+is-longer-requires : tie.Need-is-longer-requires
+is-longer-requires c κs = search needs
+
+returns-2 : tie.Need-returns-2
+returns-2 c =
+    let t = c .before .before .before .before .before .args .t .now in
+    let f = c .before .before .before .before .before .args .f in
+    let s : longer (longest f) t ≡ true = rw (c .before .before .longest-of .ensures) at (sym (c .before .is-longer .ensures)) ∙ c .if2 .taken in
+    sym (cause-long f t (c .before .before .before .if1 .left) s)
+
+is-formed-requires : tie.Need-is-formed-requires
+is-formed-requires c κs = search needs
+
+returns-3 : tie.Need-returns-3
+returns-3 c =
+    let t = c .before .before .before .before .before .before .before .args .t .now in
+    let f = c .before .before .before .before .before .before .before .args .f in
+    let s : longer (longest f) t ≡ false = rw (c .before .before .before .before .longest-of .ensures) at (sym (c .before .before .before .is-longer .ensures)) ∙ c .before .before .if2 .left in
+    sym (cause-range f t (c .before .before .before .before .before .if1 .left) s (sym (c .before .is-formed .ensures) ∙ c .if3 .taken))
+
+returns-4 : tie.Need-returns-4
+returns-4 c =
+    let t = c .before .before .before .before .before .before .before .args .t .now in
+    let f = c .before .before .before .before .before .before .before .args .f in
+    let s : longer (longest f) t ≡ false = rw (c .before .before .before .before .longest-of .ensures) at (sym (c .before .before .before .is-longer .ensures)) ∙ c .before .before .if2 .left in
+    sym (cause-form f t (c .before .before .before .before .before .if1 .left) s (sym (c .before .is-formed .ensures) ∙ c .if3 .left))
+
+pub cause-of-spec : {M : Type 1} → statement M
+cause-of-spec =
+    tie.close
+    (tie.spec
+    returns
+    longest-of-requires
+    is-longer-requires
+    returns-2
+    is-formed-requires
+    returns-3
+    returns-4)
