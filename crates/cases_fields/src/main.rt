@@ -1,13 +1,12 @@
-// Each form of field at its edges. A line of the input is a form, a text and what document 01 says of it, by hand; a line of the output has what the
-// code says beside it.
+// Each form of field at its edges. A line of the input is a form, a text and what documents 01 and 02 say of it, by hand: its value, or the cause;
+// a line of the output has what the code says beside it.
 use casebook::say;
 use casebook::say_column;
 use casebook::say_number;
-use codes::Asked;
-use dates::Day;
-use digits::Number;
 use fields::Form;
 use fields::Judged;
+use fields::Reading;
+use fields::Value;
 ghost use Prim.Native.Nat.{_≤_, _<_};
 ghost use lib.ListN.{length};
 
@@ -18,91 +17,41 @@ fn say_judged(j: Judged) {
     }
 }
 
-fn say_bool(stands: bool) {
-    if stands {
-        say(b"stands");
-    } else {
-        say(b"breaks");
-    }
-}
-
-fn say_value(n: Number) {
-    match n {
-        Number::Value(v) => {
-            say(b"stands ");
-            say_number(v);
+fn say_value(v: Value) {
+    say(b"stands");
+    match v {
+        Value::Text => {}
+        Value::Number(n) => {
+            say(b" ");
+            say_number(n);
         }
-        Number::NoNumber => say(b"breaks"),
-    }
-}
-
-fn say_day(d: Day) {
-    match d {
-        Day::On(date) => {
-            say(b"stands ");
+        Value::Day(date) => {
+            say(b" ");
             say_number(date.year);
             say(b" ");
             say_number(date.month);
             say(b" ");
             say_number(date.day);
         }
-        Day::NoDay => say(b"breaks"),
-    }
-}
-
-fn say_asked(a: Asked) {
-    match a {
-        Asked::Operazione(o) => {
-            say(b"stands ");
+        Value::Operation(o) => {
+            say(b" ");
             say_number(codes::operation_number(o) as u64);
         }
-        Asked::NoOperation => say(b"breaks"),
     }
 }
 
-// The forms that give a value.
-fn say_valued(form: &[u8], t: &[u8]) {
-    if scan::same(form, b"esercizio") {
-        return say_value(digits::esercizio_of(t));
+// A value, or the number of the cause.
+fn say_reading(r: Reading) {
+    match r {
+        Reading::Holds(v) => say_value(v),
+        Reading::Breaks(c) => {
+            say(b"breaks ");
+            say_number(fields::cause_number(c));
+        }
     }
-    if scan::same(form, b"numero") {
-        return say_value(digits::numero_of(t));
-    }
-    if scan::same(form, b"importo") {
-        return say_value(digits::importo_of(t));
-    }
-    if scan::same(form, b"progressivo") {
-        return say_value(digits::progressivo_of(t));
-    }
-    if scan::same(form, b"data") {
-        return say_day(dates::data_of(t));
-    }
-    if scan::same(form, b"tipo_operazione") {
-        return say_asked(codes::tipo_operazione(t));
-    }
-    say(b"is no form");
 }
 
-fn say_seen(form: &[u8], t: &[u8]) {
-    if scan::same(form, b"codice_ABI_BT") {
-        return say_bool(codes::codice_abi(t));
-    }
-    if scan::same(form, b"identificativo_flusso") {
-        return say_bool(codes::identificativo_flusso(t));
-    }
-    if scan::same(form, b"data_ora_creazione_flusso") {
-        return say_bool(dates::data_ora(t));
-    }
-    if scan::same(form, b"codice_ente_BT") {
-        return say_bool(codes::codice_ente(t));
-    }
-    if scan::same(form, b"anagrafica") {
-        return say_bool(names::anagrafica_of(t));
-    }
-    say_valued(form, t)
-}
-
-// The same by `field_stands`, which answers for all forms.
+// The form that a name stands for; any other name is a name's.
 fn form_of(form: &[u8]) -> Form {
     if scan::same(form, b"codice_ABI_BT") {
         return Form::CodiceAbi;
@@ -148,7 +97,7 @@ fn run_case(s: &[u8], a: usize, e: usize)
     say(b" \"");
     say_column(s, a, e, 1);
     say(b"\": ");
-    say_seen(&s[a..b], &text[..n]);
+    say_reading(fields::field_of(form_of(&s[a..b]), &text[..n]));
     say(b", expected ");
     say_column(s, a, e, 2);
     say(b"; by its form it ");

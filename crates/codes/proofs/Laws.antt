@@ -1,16 +1,22 @@
 -- How long a code is, which the crates above rely on, and a whole text as a part of itself.
-use mathlib.Core.Path.{_≡_}
-use mathlib.Core.Bool.{Bool, true}
+use mathlib.Core.Path.{_≡_, refl}
+use mathlib.Core.Bool.{Bool, true, false, cond}
 use mathlib.Core.List.{List}
 use Prim.Native.Nat.{ℕ, _≤_}
 use native.Mathlib.Nat.{sub-zero}
+use native.Mathlib.Omega.{arith}
 use lib.ListN.{length}
 use lib.Seq.{take-length}
 use lib.Dec.{eqb}
 use borrow.Author.Tests.{eqb-true}
-use Rattle.scan.specs.Bytes.{part, between, isDigit, isAlnum, all}
+use Rattle.scan.specs.Bytes.{bytes, part, between, isDigit, isAlnum, all, hasAt, textIs}
 use Rattle.scan.proofs.Laws.{both, in-range}
-use Rattle.codes.specs.Codes.{codiceAbi, codiceEnte}
+use Rattle.ranges.specs.Ranges.{isIdentifying}
+use Rattle.codes.specs.declared.Operation.{Operation}
+use Rattle.codes.specs.declared.Operation.the-variants.{Inserimento, Variazione, Annullo, Sostituzione}
+use Rattle.codes.specs.declared.Asked.{Asked}
+use Rattle.codes.specs.declared.Asked.the-variants.{Operazione, NoOperation}
+use Rattle.codes.specs.Codes.{codiceAbi, identificativo, codiceEnte, tipoOperazione, isAsked}
 
 -- every byte from the first to the last
 pub all-whole : (p : ℕ → Bool) (t : List ℕ) → all p (part t 0 (length t)) ≡ all p t
@@ -23,3 +29,24 @@ abi-length t e = eqb-true (length t) 5 (both (eqb (length t) 5) (all isDigit t) 
 pub ente-length : (t : List ℕ) → codiceEnte t ≡ true → (1 ≤ length t) × (length t ≤ 16)
 unfolding codiceEnte
 ente-length t e = in-range 1 16 (length t) (both (between 1 16 (length t)) (all isAlnum t) e .0)
+
+pub identificativo-length : (t : List ℕ) → identificativo t ≡ true → (1 ≤ length t) × (length t ≤ 35)
+unfolding identificativo
+identificativo-length t e = in-range 1 35 (length t) (both (between 1 35 (length t)) (all isIdentifying t) e .0)
+
+-- one word of four, and those after it
+word : (x t : List ℕ) (o : Operation) (rest : Asked) → (1 ≤ length x) × (length x ≤ 12) → (isAsked rest ≡ true → (1 ≤ length t) × (length t ≤ 12)) → isAsked (cond (textIs x t) (Operazione o) rest) ≡ true
+    → (1 ≤ length t) × (length t ≤ 12)
+unfolding textIs
+word x t o rest w h e = go (textIs x t) refl e
+  where
+    go : (b : Bool) → textIs x t ≡ b → isAsked (cond b (Operazione o) rest) ≡ true → (1 ≤ length t) × (length t ≤ 12)
+    go true f e = let l = eqb-true (length t) (length x) (both (eqb (length t) (length x)) (hasAt x t 0) f .0) in (omega arith, omega arith)
+    go false f e = h e
+
+pub operation-length : (t : List ℕ) → isAsked (tipoOperazione t) ≡ true → (1 ≤ length t) × (length t ≤ 12)
+unfolding tipoOperazione
+operation-length t =
+    word (bytes "INSERIMENTO") t Inserimento _ (omega arith, omega arith)
+    (word (bytes "VARIAZIONE") t Variazione _ (omega arith, omega arith)
+    (word (bytes "ANNULLO") t Annullo _ (omega arith, omega arith) (word (bytes "SOSTITUZIONE") t Sostituzione NoOperation (omega arith, omega arith) (λ e. let z : _≡_ {A = ℕ} 0 1 = cc in absurd (omega arith)))))

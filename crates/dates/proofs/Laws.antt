@@ -1,5 +1,5 @@
 -- Laws of dates and times, a way out of the code at a time.
-use mathlib.Core.Path.{_≡_, refl, sym, _∙_}
+use mathlib.Core.Path.{_≡_, refl, _∙_}
 use mathlib.Core.List.{List}
 use mathlib.Core.Bool.{Bool, true, false, cond, _&&_}
 use Prim.Native.Nat.{ℕ}
@@ -8,6 +8,7 @@ use lib.ListN.{length}
 use lib.Dec.{eqb}
 use borrow.Author.Tests.{eq-eqb, ne-eqb, eqb-true}
 use Rattle.scan.specs.Bytes.{byteAt, part}
+use Rattle.scan.proofs.Laws.{both}
 use Rattle.calendar.specs.declared.Date.{Date}
 use Rattle.calendar.specs.Calendar.{isDate}
 use Rattle.digits.specs.declared.Number.{Number}
@@ -114,6 +115,18 @@ module _ (t : List ℕ) where
 
     pub ora-time : isOn (dataOf (dateIn t)) ≡ true → dataOra t ≡ timeIn clock t
     ora-time e = ora-both t ∙ rw (s, e)
+
+-- how long a text of a form is
+pub data-10 : (t : List ℕ) → isOn (dataWritten t) ≡ true → length t ≡ 10
+data-10 t e = go (eqb (length t) 10) _ _ refl e
+  where
+    go : (b x : Bool) (d : Day) → eqb (length t) 10 ≡ b → isOn (cond (b && x) d NoDay) ≡ true → length t ≡ 10
+    go true x d f e = eqb-true (length t) 10 f
+    go false x d f e = let z : _≡_ {A = ℕ} 0 1 = cc in absurd (omega arith)
+
+pub ora-19 : (t : List ℕ) → dataOraWritten t ≡ true → length t ≡ 19
+unfolding dataOraWritten
+ora-19 t e = signs-19 t (both (signs t) _ e .0)
 
 -- a date that a field gives is a real one
 pub data-real : (t : List ℕ) {d : Date} → dataOf t ≡ On d → isDate d ≡ true

@@ -30,6 +30,15 @@ dataWritten t =
     (dayOf (digits 4 4 (part t 0 4)) (digits 2 2 (part t 5 7)) (digits 2 2 (part t 8 10)))
     NoDay
 
+-- a date is written, and one of which f holds
+abbrev pub isOn : Day → Bool
+isOn (On d) = true
+isOn NoDay = false
+
+abbrev pub dayIs : (Date → Bool) → Day → Bool
+dayIs f (On d) = f d
+dayIs f NoDay = false
+
 abbrev pub real : Day → Day
 real (On d) = onDate d
 real NoDay = NoDay
@@ -44,10 +53,6 @@ clock (Value h) (Value m) (Value s) = leb h 23 && (leb m 59 && leb s 59)
 clock (Value h) (Value m) NoNumber = false
 clock (Value h) NoNumber s = false
 clock NoNumber m s = false
-
-abbrev pub isOn : Day → Bool
-isOn (On d) = true
-isOn NoDay = false
 
 -- the length of YYYY-MM-DDThh:mm:ss, and what stands before its three numbers of a time
 unfoldable pub signs : List ℕ → Bool

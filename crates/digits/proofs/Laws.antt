@@ -11,10 +11,10 @@ use lib.Seq.{drop-cons, drop-drop, length-take-le, take-all, getD-take, getD-dro
 use lib.Dec.{eqb, leb}
 use borrow.Author.Tests.{eqb-true, eqb-false, eq-eqb, ne-eqb, le-leb, lt-leb, leb-true, leb-false}
 use Rattle.scan.specs.Bytes.{byteAt, part, between, isDigit, run}
-use Rattle.scan.proofs.Laws.{in-range}
+use Rattle.scan.proofs.Laws.{both, in-range}
 use Rattle.digits.specs.declared.Number.{Number}
 use Rattle.digits.specs.declared.Number.the-variants.{Value, NoNumber}
-use Rattle.digits.specs.Digits.{within, digitsAfter, digits, esercizio, numero, inCents, zeroInFront, amountOf, importo, progressivo}
+use Rattle.digits.specs.Digits.{isValue, within, digitsAfter, digits, esercizio, numero, inCents, zeroInFront, amountOf, importo, progressivo}
 use Rattle.digits.specs.Inner.{zeroFirst, importoBack}
 
 -- INVERSIONS: what a number says of the tests that led to it
@@ -322,3 +322,19 @@ importo-range t {n} e =
         omega arith
     go (Value w) NoNumber f g e = never e
     go NoNumber c f g e = never e
+
+-- HOW LONG a text of a form is
+
+cond-is : (b : Bool) (x : Number) → isValue (cond b x NoNumber) ≡ true → b ≡ true
+cond-is true x e = refl
+cond-is false x e = e
+
+pub digits-length : (lo hi : ℕ) (t : List ℕ) → isValue (digits lo hi t) ≡ true → (lo ≤ length t) × (length t ≤ hi)
+unfolding digits
+digits-length lo hi t e = in-range lo hi (length t) (cond-is (between lo hi (length t)) (digitsAfter 0 t) e)
+
+pub importo-length : (t : List ℕ) → isValue (importo t) ≡ true → (4 ≤ length t) × (length t ≤ 12)
+importo-length t e =
+    let stands = eqb (byteAt t (length t - 3)) 46 && not (zeroFirst t) in
+    let b = cond-is (between 4 12 (length t) && stands) (inCents (whole t) (cents t)) (ap isValue (sym (importo-back t)) ∙ e) in
+    in-range 4 12 (length t) (both (between 4 12 (length t)) stands b .0)

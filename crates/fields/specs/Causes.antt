@@ -8,7 +8,7 @@ use Rattle.bounds.specs.Bounds.{abiLength, maxCode, isYear, isNumero}
 use Rattle.calendar.specs.Calendar.{isDate}
 use Rattle.codes.specs.Codes.{codiceAbi, identificativo, codiceEnte, tipoOperazione, isAsked}
 use Rattle.digits.specs.Digits.{isValue, valueIs, esercizioWritten, numeroWritten, importo, progressivo}
-use Rattle.dates.specs.Dates.{dataWritten, dataOf, isOn, dataOraWritten, dataOraWithin}
+use Rattle.dates.specs.Dates.{dataWritten, isOn, dayIs, dataOraWritten, dataOraWithin}
 use Rattle.names.specs.Names.{replaced, anagrafica}
 use Rattle.fields.specs.declared.Form.{Form}
 use Rattle.fields.specs.declared.Form.the-variants.{CodiceAbi, Identificativo, DataOra, CodiceEnte, Esercizio, TipoOperazione, Numero, Data, Importo, Progressivo, Anagrafica}
@@ -64,7 +64,7 @@ inRange CodiceEnte t = true
 inRange Esercizio t = valueIs isYear (esercizioWritten t)
 inRange TipoOperazione t = true
 inRange Numero t = valueIs isNumero (numeroWritten t)
-inRange Data t = isOn (dataOf t)
+inRange Data t = dayIs isDate (dataWritten t)
 inRange Importo t = true
 inRange Progressivo t = true
 inRange Anagrafica t = true

@@ -1,6 +1,6 @@
 -- Laws of references and of the bytes that are left once they are replaced.
 use mathlib.Core.Path.{_≡_, refl, ap, _∙_}
-use mathlib.Core.List.{List}
+use mathlib.Core.List.{List, [], _∷_}
 use mathlib.Core.Bool.{Bool, true, false, cond}
 use Prim.Native.Nat.{ℕ, zero, suc, _+_, _≤_, _<_}
 use native.Mathlib.Nat.{add-zero}
@@ -10,8 +10,8 @@ use lib.Seq.{drop-cons}
 use lib.Dec.{leb}
 use borrow.Author.Tests.{ne-eqb, leb-true, leb-false}
 use Rattle.scan.specs.Bytes.{bytes, byteAt, startsWith, hasAt}
-use Rattle.scan.proofs.Laws.{has-within}
-use Rattle.names.specs.Names.{references, tailBy, meantBy, replacedAfter}
+use Rattle.scan.proofs.Laws.{in-range, has-within}
+use Rattle.names.specs.Names.{references, tailBy, meantBy, replacedAfter, replaced, anagrafica}
 
 -- where no & stands there is no reference
 pub ref-plain : (t : List ℕ) (at : ℕ) → (byteAt t at ≡ 38 → ⊥) → tailBy references (drop at t) ≡ 0
@@ -65,3 +65,13 @@ one-past t i k h e =
 pub replaced-end : (t : List ℕ) (i : ℕ) → length t ≤ i → length (replacedAfter 0 (drop i t)) ≡ 0
 unfolding replacedAfter
 replaced-end t i h = rw (drop-of-length-le t h)
+
+-- how long a name is: an empty text has nothing to count
+nothing-counted : (t : List ℕ) → 1 ≤ length (replaced t) → 1 ≤ length t
+unfolding replacedAfter
+nothing-counted [] h = h
+nothing-counted (b ∷ t) h = omega arith
+
+pub anagrafica-length : (t : List ℕ) → anagrafica t ≡ true → (1 ≤ length t) × (length (replaced t) ≤ 140)
+unfolding anagrafica
+anagrafica-length t e = let k = in-range 1 140 (length (replaced t)) e in (nothing-counted t (k .0), k .1)

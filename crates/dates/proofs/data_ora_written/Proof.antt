@@ -3,8 +3,7 @@ use mathlib.Core.Path.{_≡_, sym, ap, _∙_}
 use mathlib.Core.Bool.{true, false}
 use native.Mathlib.Omega.{arith}
 use borrow.Author.Tests.{not-true, not-false}
-use Rattle.digits.specs.declared.Number.{Number}
-use Rattle.dates.specs.Dates.{dataWritten, isOn, signs, dateIn, areNumbers}
+use Rattle.dates.specs.Dates.{dataWritten, isOn, signs, dateIn}
 use Rattle.dates.proofs.Laws.{signs-19, written-no-signs, written-no-day, written-time}
 use Rattle.dates.proofs.data_ora_written.Statement.{statement}
 use Rattle.dates.proofs.data_ora_written.Tie as tie

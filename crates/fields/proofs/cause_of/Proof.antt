@@ -1,4 +1,4 @@
-use mathlib.Core.Path.{_≡_, sym, ap, _∙_}
+use mathlib.Core.Path.{_≡_, sym, _∙_}
 use mathlib.Core.Bool.{true, false}
 use Rattle.fields.specs.Causes.{longest, longer}
 use Rattle.fields.proofs.Laws.{cause-empty, cause-long, cause-range, cause-form}
