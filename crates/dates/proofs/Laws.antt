@@ -1,12 +1,12 @@
 -- Laws of dates and times, a way out of the code at a time.
-use mathlib.Core.Path.{_≡_, refl, _∙_}
+use mathlib.Core.Path.{_≡_, refl, sym, _∙_}
 use mathlib.Core.List.{List}
-use mathlib.Core.Bool.{Bool, true, false, cond, _&&_}
+use mathlib.Core.Bool.{Bool, true, false, cond, not, _&&_}
 use Prim.Native.Nat.{ℕ}
 use native.Mathlib.Omega.{arith}
 use lib.ListN.{length}
 use lib.Dec.{eqb}
-use borrow.Author.Tests.{eq-eqb, ne-eqb, eqb-true}
+use borrow.Author.Tests.{eq-eqb, ne-eqb, eqb-true, not-false}
 use Rattle.scan.specs.Bytes.{byteAt, part}
 use Rattle.scan.proofs.Laws.{both}
 use Rattle.calendar.specs.declared.Date.{Date}
@@ -60,6 +60,10 @@ signs-19 t e = go (eqb (length t) 19) _ refl e
     go : (b x : Bool) → eqb (length t) 19 ≡ b → b && x ≡ true → length t ≡ 19
     go true x f e = eqb-true (length t) 19 f
     go false x f e = let z : _≡_ {A = ℕ} 0 1 = cc in absurd (omega arith)
+
+-- .. as the code has it
+pub seen-19 : (t : List ℕ) {x : Bool} → x ≡ signs t → not x ≡ false → length t ≡ 19
+seen-19 t e f = signs-19 t (sym e ∙ not-false _ f)
 
 module _ (t : List ℕ) where
   pub written-no-signs : signs t ≡ false → dataOraWritten t ≡ false

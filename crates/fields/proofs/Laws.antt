@@ -1,5 +1,5 @@
 -- Laws of readings: a way out of the code at a time.
-use mathlib.Core.Path.{_≡_, refl}
+use mathlib.Core.Path.{_≡_, refl, sym, _∙_}
 use mathlib.Core.List.{List}
 use mathlib.Core.Bool.{Bool, true, false}
 use Prim.Native.Nat.{ℕ}
@@ -13,6 +13,7 @@ use Rattle.fields.specs.declared.Judged.the-variants.{Stands, Breaks}
 use Rattle.fields.specs.declared.Value.{Value}
 use Rattle.fields.specs.declared.Reading.the-variants as reading
 use Rattle.fields.specs.declared.Form.{Form}
+use Rattle.fields.specs.declared.Longest.{Longest}
 use Rattle.fields.specs.declared.Cause.{Cause}
 use Rattle.fields.specs.declared.Cause.the-variants.{Empty, Long, Misformed, OutOfRange}
 use Rattle.fields.specs.Causes.{longest, longer, formed, causeOf}
@@ -52,6 +53,9 @@ module _ (f : Form) (t : List ℕ) where
 
 -- the four ways out of `cause_of`
 module _ (f : Form) (t : List ℕ) where
+  pub longer-by : {l : Longest} {x y : Bool} → l ≡ longest f → x ≡ longer l t → x ≡ y → longer (longest f) t ≡ y
+  longer-by e g h = rw (← e) (sym g ∙ h)
+
   pub cause-empty : length t ≡ 0 → causeOf f t ≡ Empty
   unfolding causeOf
   cause-empty e = rw (eq-eqb (length t) 0 e)
@@ -62,10 +66,10 @@ module _ (f : Form) (t : List ℕ) where
     cause-long e = rw (ne-eqb (length t) 0 n, e)
 
     module _ (s : longer (longest f) t ≡ false) where
-      pub cause-range : formed f t ≡ true → causeOf f t ≡ OutOfRange
-      unfolding causeOf
-      cause-range e = rw (ne-eqb (length t) 0 n, s, e)
-
       pub cause-form : formed f t ≡ false → causeOf f t ≡ Misformed
       unfolding causeOf
       cause-form e = rw (ne-eqb (length t) 0 n, s, e)
+
+      pub cause-range : formed f t ≡ true → causeOf f t ≡ OutOfRange
+      unfolding causeOf
+      cause-range e = rw (ne-eqb (length t) 0 n, s, e)

@@ -124,11 +124,10 @@ pub fn cause_of(f: Form, t: &[u8]) -> Cause
     if is_longer(longest_of(f), t) {
         return Cause::Long;
     }
-    if is_formed(f, t) {
-        Cause::OutOfRange
-    } else {
-        Cause::Misformed
+    if !is_formed(f, t) {
+        return Cause::Misformed;
     }
+    Cause::OutOfRange
 }
 
 fn text_reading(has_form: bool, f: Form, t: &[u8]) -> Reading

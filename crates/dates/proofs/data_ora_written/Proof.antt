@@ -1,10 +1,10 @@
-use borrow.Author.Needs.{needs}
 use mathlib.Core.Path.{_≡_, sym, ap, _∙_}
 use mathlib.Core.Bool.{true, false}
 use native.Mathlib.Omega.{arith}
+use borrow.Author.Needs.{needs}
 use borrow.Author.Tests.{not-true, not-false}
 use Rattle.dates.specs.Dates.{dataWritten, isOn, signs, dateIn}
-use Rattle.dates.proofs.Laws.{signs-19, written-no-signs, written-no-day, written-time}
+use Rattle.dates.proofs.Laws.{seen-19, written-no-signs, written-no-day, written-time}
 use Rattle.dates.proofs.data_ora_written.Statement.{statement}
 use Rattle.dates.proofs.data_ora_written.Tie as tie
 
@@ -18,25 +18,13 @@ returns c =
     sym (written-no-signs t s)
 
 sub-data-written : tie.Need-sub-data-written
-sub-data-written c =
-    let t = c .before .before .before .args .t .now in
-    let s : signs t ≡ true = sym (c .before .signs-stand .ensures) ∙ not-false _ (c .if1 .left) in
-    let l = signs-19 t s in
-    omega arith
+sub-data-written c = search needs
 
 part-data-written-start : tie.Need-part-data-written-start
-part-data-written-start c =
-    let t = c .before .before .before .args .t .now in
-    let s : signs t ≡ true = sym (c .before .signs-stand .ensures) ∙ not-false _ (c .if1 .left) in
-    let l = signs-19 t s in
-    omega arith
+part-data-written-start c = search needs
 
 part-data-written-end : tie.Need-part-data-written-end
-part-data-written-end c =
-    let t = c .before .before .before .args .t .now in
-    let s : signs t ≡ true = sym (c .before .signs-stand .ensures) ∙ not-false _ (c .if1 .left) in
-    let l = signs-19 t s in
-    omega arith
+part-data-written-end c = omega (arith, seen-19 _ (c .before .signs-stand .ensures) (c .if1 .left))
 
 data-written-requires : tie.Need-data-written-requires
 data-written-requires c κs = search needs
@@ -52,73 +40,37 @@ returns-2 c =
     sym (written-no-day t s o)
 
 sub-two-digits : tie.Need-sub-two-digits
-sub-two-digits c =
-    let t = c .before .before .before .before .before .before .before .args .t .now in
-    let s : signs t ≡ true = sym (c .before .before .before .before .before .signs-stand .ensures) ∙ not-false _ (c .before .before .before .before .if1 .left) in
-    let l = signs-19 t s in
-    omega arith
+sub-two-digits c = search needs
 
 part-two-digits-start : tie.Need-part-two-digits-start
-part-two-digits-start c =
-    let t = c .before .before .before .before .before .before .before .args .t .now in
-    let s : signs t ≡ true = sym (c .before .before .before .before .before .signs-stand .ensures) ∙ not-false _ (c .before .before .before .before .if1 .left) in
-    let l = signs-19 t s in
-    omega arith
+part-two-digits-start c = search needs
 
 part-two-digits-end : tie.Need-part-two-digits-end
-part-two-digits-end c =
-    let t = c .before .before .before .before .before .before .before .args .t .now in
-    let s : signs t ≡ true = sym (c .before .before .before .before .before .signs-stand .ensures) ∙ not-false _ (c .before .before .before .before .if1 .left) in
-    let l = signs-19 t s in
-    omega arith
+part-two-digits-end c = omega (arith, seen-19 _ (c .before .before .before .before .before .signs-stand .ensures) (c .before .before .before .before .if1 .left))
 
 two-digits-requires : tie.Need-two-digits-requires
 two-digits-requires c κs = search needs
 
 sub-two-digits-2 : tie.Need-sub-two-digits-2
-sub-two-digits-2 c =
-    let t = c .before .before .before .before .before .before .before .before .before .args .t .now in
-    let s : signs t ≡ true = sym (c .before .before .before .before .before .before .before .signs-stand .ensures) ∙ not-false _ (c .before .before .before .before .before .before .if1 .left) in
-    let l = signs-19 t s in
-    omega arith
+sub-two-digits-2 c = search needs
 
 part-two-digits-start-2 : tie.Need-part-two-digits-start-2
-part-two-digits-start-2 c =
-    let t = c .before .before .before .before .before .before .before .before .before .args .t .now in
-    let s : signs t ≡ true = sym (c .before .before .before .before .before .before .before .signs-stand .ensures) ∙ not-false _ (c .before .before .before .before .before .before .if1 .left) in
-    let l = signs-19 t s in
-    omega arith
+part-two-digits-start-2 c = search needs
 
 part-two-digits-end-2 : tie.Need-part-two-digits-end-2
-part-two-digits-end-2 c =
-    let t = c .before .before .before .before .before .before .before .before .before .args .t .now in
-    let s : signs t ≡ true = sym (c .before .before .before .before .before .before .before .signs-stand .ensures) ∙ not-false _ (c .before .before .before .before .before .before .if1 .left) in
-    let l = signs-19 t s in
-    omega arith
+part-two-digits-end-2 c = omega (arith, seen-19 _ (c .before .before .before .before .before .before .before .signs-stand .ensures) (c .before .before .before .before .before .before .if1 .left))
 
 two-digits-requires-2 : tie.Need-two-digits-requires-2
 two-digits-requires-2 c κs = search needs
 
 sub-two-digits-3 : tie.Need-sub-two-digits-3
-sub-two-digits-3 c =
-    let t = c .before .before .before .before .before .before .before .before .before .before .before .args .t .now in
-    let s : signs t ≡ true = sym (c .before .before .before .before .before .before .before .before .before .signs-stand .ensures) ∙ not-false _ (c .before .before .before .before .before .before .before .before .if1 .left) in
-    let l = signs-19 t s in
-    omega arith
+sub-two-digits-3 c = search needs
 
 part-two-digits-start-3 : tie.Need-part-two-digits-start-3
-part-two-digits-start-3 c =
-    let t = c .before .before .before .before .before .before .before .before .before .before .before .args .t .now in
-    let s : signs t ≡ true = sym (c .before .before .before .before .before .before .before .before .before .signs-stand .ensures) ∙ not-false _ (c .before .before .before .before .before .before .before .before .if1 .left) in
-    let l = signs-19 t s in
-    omega arith
+part-two-digits-start-3 c = search needs
 
 part-two-digits-end-3 : tie.Need-part-two-digits-end-3
-part-two-digits-end-3 c =
-    let t = c .before .before .before .before .before .before .before .before .before .before .before .args .t .now in
-    let s : signs t ≡ true = sym (c .before .before .before .before .before .before .before .before .before .signs-stand .ensures) ∙ not-false _ (c .before .before .before .before .before .before .before .before .if1 .left) in
-    let l = signs-19 t s in
-    omega arith
+part-two-digits-end-3 c = omega (arith, seen-19 _ (c .before .before .before .before .before .before .before .before .before .signs-stand .ensures) (c .before .before .before .before .before .before .before .before .if1 .left))
 
 two-digits-requires-3 : tie.Need-two-digits-requires-3
 two-digits-requires-3 c κs = search needs

@@ -1,7 +1,6 @@
-use mathlib.Core.Path.{_≡_, sym, _∙_}
-use mathlib.Core.Bool.{true, false}
-use Rattle.fields.specs.Causes.{longest, longer}
-use Rattle.fields.proofs.Laws.{cause-empty, cause-long, cause-range, cause-form}
+use mathlib.Core.Path.{sym, _∙_}
+use borrow.Author.Tests.{not-true, not-false}
+use Rattle.fields.proofs.Laws.{longer-by, cause-empty, cause-long, cause-form, cause-range}
 use borrow.Author.Needs.{needs}
 use Rattle.fields.proofs.cause_of.Statement.{statement}
 use Rattle.fields.proofs.cause_of.Tie as tie
@@ -17,27 +16,26 @@ is-longer-requires c κs = search needs
 
 returns-2 : tie.Need-returns-2
 returns-2 c =
-    let t = c .before .before .before .before .before .args .t .now in
     let f = c .before .before .before .before .before .args .f in
-    let s : longer (longest f) t ≡ true = rw (c .before .before .longest-of .ensures) at (sym (c .before .is-longer .ensures)) ∙ c .if2 .taken in
-    sym (cause-long f t (c .before .before .before .if1 .left) s)
+    let t = c .before .before .before .before .before .args .t .now in
+    sym (cause-long f t (c .before .before .before .if1 .left) (longer-by f t (c .before .before .longest-of .ensures) (c .before .is-longer .ensures) (c .if2 .taken)))
 
 is-formed-requires : tie.Need-is-formed-requires
 is-formed-requires c κs = search needs
 
 returns-3 : tie.Need-returns-3
 returns-3 c =
-    let t = c .before .before .before .before .before .before .before .args .t .now in
     let f = c .before .before .before .before .before .before .before .args .f in
-    let s : longer (longest f) t ≡ false = rw (c .before .before .before .before .longest-of .ensures) at (sym (c .before .before .before .is-longer .ensures)) ∙ c .before .before .if2 .left in
-    sym (cause-range f t (c .before .before .before .before .before .if1 .left) s (sym (c .before .is-formed .ensures) ∙ c .if3 .taken))
+    let t = c .before .before .before .before .before .before .before .args .t .now in
+    let s = longer-by f t (c .before .before .before .before .longest-of .ensures) (c .before .before .before .is-longer .ensures) (c .before .before .if2 .left) in
+    sym (cause-form f t (c .before .before .before .before .before .if1 .left) s (sym (c .before .is-formed .ensures) ∙ not-true _ (c .if3 .taken)))
 
 returns-4 : tie.Need-returns-4
 returns-4 c =
-    let t = c .before .before .before .before .before .before .before .args .t .now in
     let f = c .before .before .before .before .before .before .before .args .f in
-    let s : longer (longest f) t ≡ false = rw (c .before .before .before .before .longest-of .ensures) at (sym (c .before .before .before .is-longer .ensures)) ∙ c .before .before .if2 .left in
-    sym (cause-form f t (c .before .before .before .before .before .if1 .left) s (sym (c .before .is-formed .ensures) ∙ c .if3 .left))
+    let t = c .before .before .before .before .before .before .before .args .t .now in
+    let s = longer-by f t (c .before .before .before .before .longest-of .ensures) (c .before .before .before .is-longer .ensures) (c .before .before .if2 .left) in
+    sym (cause-range f t (c .before .before .before .before .before .if1 .left) s (sym (c .before .is-formed .ensures) ∙ not-false _ (c .if3 .left)))
 
 pub cause-of-spec : {M : Type 1} → statement M
 cause-of-spec =
