@@ -12,8 +12,9 @@ use Rattle.scan.specs.declared.Walk.{Walk}
 use Rattle.scan.specs.declared.Walk.the-variants.{Past, Broken}
 use Rattle.scan.specs.Bytes.{bytes, byteAt, part, between, isLetter, isNameByte, isWhite, all, run, runEnd, hasAt}
 use Rattle.scan.specs.Characters.{isChar, sized, isTail, charSize, charSizeAt, pastOr, charAt}
-use Rattle.scan.proofs.Laws.{never, both, cond-past, Advance, stands, run-more, run-from, has-within, size-within, char-past}
-use Rattle.tokens.specs.Tokens.{andThen, repeat, until, nameAt, whiteAt, refAt, pieceAt, textAt, endTagAt, optionalAt}
+use Rattle.scan.specs.References.{Reference, refAt}
+use Rattle.scan.proofs.Laws.{never, both, cond-past, Advance, stands, run-more, run-from, has-within, size-within, char-past, ref-is}
+use Rattle.tokens.specs.Tokens.{andThen, repeat, until, nameAt, whiteAt, pieceAt, textAt, endTagAt, optionalAt}
 use Rattle.tokens.proofs.Laws.{then-past, Steps, name-past, piece-past, text-past, end-past, piece-end}
 use Rattle.markup.specs.Markup.{childBy, childrenBy, contentBy, elementAt, mark, declaration, rootAt, markupOf}
 use Rattle.markup.proofs.Laws.{content-past, parts, element-past}
@@ -147,19 +148,10 @@ module _ (s : List ℕ) (stop : ℕ → Bool) (step : ℕ → Walk) (P : ℕ →
 
 module _ (s : List ℕ) where
   -- TEXT
-  string : (p r n : ℕ) {x : List ℕ} → length x ≡ n → Piece x → hasAt x s p ≡ true → Past (p + n) ≡ Past r → Piece (part s p r)
-  string p r n {x} l g h e =
-      let z : r ≡ p + length x = cc in
-      rw (z, has-part s x p h) g
-
   ref-sound : (p r : ℕ) → refAt s p ≡ Past r → Piece (part s p r)
-  unfolding refAt
-  ref-sound p r =
-      choose _ (string p r 5 refl amp)
-      (choose _ (string p r 4 refl lt)
-      (choose _ (string p r 4 refl gt)
-      (choose _ (string p r 6 refl quot)
-      (choose _ (string p r 6 refl apos) never))))
+  ref-sound p r e =
+      let f = ref-is (λ (x : Reference). Piece (x .written)) s p r (amp, (lt, (gt, (quot, (apos, tt))))) e in
+      rw (← f .past, has-part s (f .which .written) p (f .there)) (f .holds)
 
   -- a part that begins with another byte is not b alone
   not-alone : (p r b : ℕ) → Advance s p r → eqb (byteAt s p) b ≡ false → part s p r ≡ b ∷ [] → ⊥

@@ -1,43 +1,20 @@
 -- Laws of references and of the bytes that are left once they are replaced.
-use mathlib.Core.Path.{_≡_, refl, ap, _∙_}
-use mathlib.Core.List.{List}
-use mathlib.Core.Bool.{Bool, true, false, cond}
+use mathlib.Core.Path.{_≡_, refl, ap, subst, _∙_}
+use mathlib.Core.List.{List, _∷_}
+use mathlib.Core.Option.{Option, none, some}
 use Prim.Native.Nat.{ℕ, zero, suc, _+_, _≤_, _<_}
 use native.Mathlib.Nat.{add-zero}
+use native.Mathlib.Numerals.{add-one, sub-one}
 use native.Mathlib.Omega.{arith}
 use lib.ListN.{length, drop, drop-of-length-le}
 use lib.Seq.{drop-cons}
-use lib.Dec.{leb}
-use borrow.Author.Tests.{ne-eqb, leb-true, leb-false}
-use Rattle.scan.specs.Bytes.{bytes, byteAt, startsWith, hasAt}
-use Rattle.scan.proofs.Laws.{has-within}
-use Rattle.names.specs.Names.{references, tailBy, meantBy, replacedAfter}
-
--- where no & stands there is no reference
-pub ref-plain : (t : List ℕ) (at : ℕ) → (byteAt t at ≡ 38 → ⊥) → tailBy references (drop at t) ≡ 0
-unfolding tailBy startsWith
-ref-plain t at n = go (leb (suc at) (length t)) refl
-  where
-    go : (k : Bool) → leb (suc at) (length t) ≡ k → tailBy references (drop at t) ≡ 0
-    go true h = rw (drop-cons t at 0 (leb-true (suc at) (length t) h), ne-eqb _ _ n)
-    go false h = let w : length t ≤ at = omega (arith, leb-false (suc at) (length t) h) in rw (drop-of-length-le t w)
-
--- a reference stands in the text whole
-ref-one : (x t : List ℕ) (at k r : ℕ) → at < length t → length x ≡ suc k → at + suc r ≤ length t → at + suc (cond (hasAt x t at) k r) ≤ length t
-ref-one x t at k r h l w = go (hasAt x t at) refl
-  where
-    go : (b : Bool) → hasAt x t at ≡ b → at + suc (cond b k r) ≤ length t
-    go true e = omega (arith, has-within x t at (omega arith) e)
-    go false e = w
-
-ref-in : (t : List ℕ) (at : ℕ) → at < length t → at + suc (tailBy references (drop at t)) ≤ length t
-unfolding tailBy hasAt
-ref-in t at h =
-    ref-one (bytes "&amp;") t at 4 _ h refl
-    (ref-one (bytes "&lt;") t at 3 _ h refl
-    (ref-one (bytes "&gt;") t at 3 _ h refl
-    (ref-one (bytes "&quot;") t at 5 _ h refl
-    (ref-one (bytes "&apos;") t at 5 0 h refl (omega arith)))))
+use borrow.Author.Tests.{ne-eqb}
+use Rattle.scan.specs.declared.Walk.the-variants.{Past, Broken}
+use Rattle.scan.specs.Bytes.{byteAt, startsWith, hasAt}
+use Rattle.scan.specs.References.{Reference, references, whichAt, refAt}
+use Rattle.scan.proofs.Laws.{has-within, ref-is, ref-is-none}
+use Rattle.names.specs.Names.{meant, follow, replacedAfter}
+use Rattle.names.specs.Inner.{OnePast}
 
 replaced-skip : (k : ℕ) (t : List ℕ) (j : ℕ) → j + k ≤ length t → replacedAfter k (drop j t) ≡ replacedAfter 0 (drop (j + k) t)
 unfolding replacedAfter
@@ -47,20 +24,39 @@ replaced-skip (suc k) t j h =
     let w : j < length t = omega arith in
     rw (drop-cons t j 0 w, ← q) (replaced-skip k t (suc j) (omega arith))
 
--- past one byte, or one reference, the count is one more
-pub record OnePast (t : List ℕ) (i k : ℕ) : Type 0 where
-  pub past : i + (1 + k) ≤ length t
-  pub counted : length (replacedAfter 0 (drop i t)) ≡ suc (length (replacedAfter 0 (drop (i + (1 + k)) t)))
+module _ (t : List ℕ) (i : ℕ) (h : i < length t) where
+  -- where no & stands there is no reference
+  ref-plain : (byteAt t i ≡ 38 → ⊥) → whichAt references t i ≡ none
+  unfolding whichAt hasAt startsWith
+  ref-plain n = rw (drop-cons t i 0 h, ne-eqb _ _ n)
 
-counted-past : (t : List ℕ) (i k : ℕ) → i < length t → k ≡ tailBy references (drop i t) → length (replacedAfter 0 (drop i t)) ≡ suc (length (replacedAfter k (drop (suc i) t)))
-unfolding replacedAfter
-counted-past t i k h e = rw (e, drop-cons t i 0 h)
+  -- what the byte at i, or the reference there, comes to
+  which-here : whichAt references (drop i t) 0 ≡ whichAt references t i
+  unfolding whichAt hasAt
+  which-here = refl
 
-pub one-past : (t : List ℕ) (i k : ℕ) → i < length t → k ≡ tailBy references (drop i t) → OnePast t i k
-one-past t i k h e =
-    let w : i + suc k ≤ length t = rw e (ref-in t i h) in
-    let q : suc i + k ≡ i + (1 + k) = omega arith in
-    record { past = omega arith; counted = counted-past t i k h e ∙ rw (← q) (ap (λ (l : List ℕ). suc (length l)) (replaced-skip k t (suc i) (omega arith))) }
+  replaced-is : {o : Option Reference} → whichAt references t i ≡ o → replacedAfter 0 (drop i t) ≡ meant o (byteAt t i) ∷ replacedAfter (follow o) (drop (suc i) t)
+  unfolding replacedAfter
+  replaced-is {o} e = let f : whichAt references (byteAt t i ∷ drop (suc i) t) 0 ≡ o = rw (drop-cons t i 0 h) at (which-here ∙ e) in rw (drop-cons t i 0 h, f)
+
+  byte-past : whichAt references t i ≡ none → OnePast t i (i + 1)
+  byte-past e = record { on = omega arith; within = omega arith; counted = rw (replaced-is e, add-one) }
+
+  pub past-plain : (byteAt t i ≡ 38 → ⊥) → OnePast t i (i + 1)
+  past-plain n = byte-past (ref-plain n)
+
+  pub past-broken : (q : ℕ) → refAt t i ≡ Broken q → OnePast t i (i + 1)
+  past-broken q e = byte-past (ref-is-none t i q e)
+
+  written-past : (r : Reference) (n : ℕ) → length (r .written) ≡ suc n → i + length (r .written) ≤ length t → whichAt references t i ≡ some r → OnePast t i (i + length (r .written))
+  written-past r n l w e =
+      let q : i + suc n ≡ suc i + n = omega arith in
+      record { on = omega arith; within = w; counted = rw (replaced-is e, l, q, sub-one) (ap (λ (x : List ℕ). suc (length x)) (replaced-skip n t (suc i) (omega arith))) }
+
+  pub past-ref : (q : ℕ) → refAt t i ≡ Past q → OnePast t i q
+  past-ref q e =
+      let r = ref-is (λ (r : Reference). (n : ℕ) × (length (r .written) ≡ suc n)) t i q ((4, refl), ((3, refl), ((3, refl), ((5, refl), ((5, refl), tt))))) e in
+      subst (OnePast t i) (r .past) (written-past (r .which) (r .holds .0) (r .holds .1) (has-within (r .which .written) t i (omega arith) (r .there)) (r .is))
 
 pub replaced-end : (t : List ℕ) (i : ℕ) → length t ≤ i → length (replacedAfter 0 (drop i t)) ≡ 0
 unfolding replacedAfter

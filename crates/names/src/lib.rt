@@ -1,30 +1,23 @@
 // The form of anagrafica_beneficiario and anagrafica_versante: its bytes are counted as if the five references were replaced.
+use scan::Walk;
 ghost use mathlib.Core.Path.{_≡_};
-ghost use Prim.Native.Nat.{_≤_};
-ghost use lib.ListN.{length, drop};
-ghost use Rattle.names.specs.Names.{references, tailBy, replaced, anagrafica};
+ghost use Prim.Native.Nat.{_<_};
+ghost use lib.ListN.{length};
+ghost use Rattle.names.specs.Names.{replaced, anagrafica};
+ghost use Rattle.names.specs.Inner.{OnePast};
 
-// How many bytes follow the & of a reference that stands at a position, 0 where none does.
-fn ref_tail(t: &[u8], at: usize) -> usize
-    requires { ⌜ at ≤ length (now t) ⌝ }
-    ensures { λ r. ⌜ r ≡ tailBy references (drop at (now (t .entry))) ⌝ }
+// Past the byte at a position, or past the reference that stands there.
+fn past_one(t: &[u8], at: usize) -> usize
+    requires { ⌜ at < length (now t) ⌝ }
+    ensures { λ r. ⌜ OnePast (now (t .entry)) at r ⌝ }
 {
-    if scan::byte(t, at) != b'&' {
-        return 0;
+    if t[at] != b'&' {
+        return at + 1;
     }
-    if scan::has(t, at, b"&amp;") {
-        return 4;
+    match scan::reference(t, at) {
+        Walk::Past(q) => q,
+        Walk::Broken(p) => at + 1,
     }
-    if scan::has(t, at, b"&lt;") {
-        return 3;
-    }
-    if scan::has(t, at, b"&gt;") {
-        return 3;
-    }
-    if scan::has(t, at, b"&quot;") {
-        return 5;
-    }
-    if scan::has(t, at, b"&apos;") { 5 } else { 0 }
 }
 
 // How many bytes a text has once the five references are replaced, counted without replacing them.
@@ -34,7 +27,7 @@ fn replaced_length(t: &[u8]) -> usize
     let mut i = 0;
     let mut n: usize = 0;
     while i < t.len() {
-        i += 1 + ref_tail(t, i);
+        i = past_one(t, i);
         n += 1;
     }
     n

@@ -12,8 +12,9 @@ use Rattle.scan.specs.declared.Walk.{Walk}
 use Rattle.scan.specs.declared.Walk.the-variants.{Past, Broken}
 use Rattle.scan.specs.Bytes.{bytes, byteAt, part, isLetter, isNameByte, runEnd, startsWith, hasAt}
 use Rattle.scan.specs.Characters.{isChar, sized, charAt}
-use Rattle.scan.proofs.Laws.{never, both, cond-past, Advance, inside, stands, run-more, run-from, run-within, has-within, has-past, char-past, char-some, size-one}
-use Rattle.tokens.specs.Tokens.{andThen, repeat, until, nameAt, refAt, pieceAt, textAt, endTagAt, optionalAt, isPlain}
+use Rattle.scan.specs.References.{refAt}
+use Rattle.scan.proofs.Laws.{never, both, cond-past, Advance, inside, stands, run-more, run-from, run-within, has-within, ref-past, char-past, char-some, size-one}
+use Rattle.tokens.specs.Tokens.{andThen, repeat, until, nameAt, pieceAt, textAt, endTagAt, optionalAt, isPlain}
 
 pub then-past : (w : Walk) (k : ℕ → Walk) {q : ℕ} → andThen w k ≡ Past q → (p : ℕ) × (w ≡ Past p) × (k p ≡ Past q)
 then-past (Past p) k e = (p, refl, e)
@@ -92,51 +93,6 @@ module _ (s : List ℕ) (at : ℕ) where
     pub name-long : 48 < e - at → nameAt s at ≡ Broken at
     unfolding nameAt
     name-long h = rw (← r, l, lt-leb (e - at) 48 h)
-
--- REFERENCES
--- a choice of strings: the first that stands, or the rest
-alt : (b : Bool) {s : List ℕ} {p x q : ℕ} (rest : Walk) → (b ≡ true → Advance s p x) → (rest ≡ Past q → Advance s p q) → cond b (Past x) rest ≡ Past q → Advance s p q
-alt true {s} {p} {x} {q} rest f g e = let z : x ≡ q = cc in rw z at (f refl)
-alt false rest f g e = g e
-
-pub ref-past : (s : List ℕ) (p q : ℕ) → refAt s p ≡ Past q → Advance s p q
-unfolding refAt
-ref-past s p q =
-    alt _ _ (has-past _ s p 4 refl)
-    (alt _ _ (has-past _ s p 3 refl)
-    (alt _ _ (has-past _ s p 3 refl)
-    (alt _ _ (has-past _ s p 5 refl)
-    (alt _ _ (has-past _ s p 5 refl) never))))
-
--- refAt, a way out of the code at a time
-module _ (s : List ℕ) (at : ℕ) where
-  pub ref-amp : hasAt (bytes "&amp;") s at ≡ true → refAt s at ≡ Past (at + 5)
-  unfolding refAt
-  ref-amp h = rw h
-
-  module _ (a : hasAt (bytes "&amp;") s at ≡ false) where
-    pub ref-lt : hasAt (bytes "&lt;") s at ≡ true → refAt s at ≡ Past (at + 4)
-    unfolding refAt
-    ref-lt h = rw (a, h)
-
-    module _ (b : hasAt (bytes "&lt;") s at ≡ false) where
-      pub ref-gt : hasAt (bytes "&gt;") s at ≡ true → refAt s at ≡ Past (at + 4)
-      unfolding refAt
-      ref-gt h = rw (a, b, h)
-
-      module _ (c : hasAt (bytes "&gt;") s at ≡ false) where
-        pub ref-quot : hasAt (bytes "&quot;") s at ≡ true → refAt s at ≡ Past (at + 6)
-        unfolding refAt
-        ref-quot h = rw (a, b, c, h)
-
-        module _ (d : hasAt (bytes "&quot;") s at ≡ false) where
-          pub ref-apos : hasAt (bytes "&apos;") s at ≡ true → refAt s at ≡ Past (at + 6)
-          unfolding refAt
-          ref-apos h = rw (a, b, c, d, h)
-
-          pub ref-none : hasAt (bytes "&apos;") s at ≡ false → refAt s at ≡ Broken at
-          unfolding refAt
-          ref-none h = rw (a, b, c, d, h)
 
 -- PIECES OF A TEXT
 pub piece-past : (s : List ℕ) → Steps s (pieceAt s)
