@@ -13,7 +13,7 @@ use Rattle.scan.specs.declared.Walk.the-variants.{Past, Broken}
 use Rattle.scan.specs.Bytes.{bytes, byteAt, part, between, isLetter, isNameByte, isWhite, all, run, runEnd, hasAt}
 use Rattle.scan.specs.Characters.{isChar, sized, isTail, charSize, charSizeAt, pastOr, charAt}
 use Rattle.scan.specs.References.{Reference, refAt}
-use Rattle.scan.proofs.Laws.{never, both, cond-past, Advance, stands, run-more, run-from, has-within, size-within, char-past, ref-is}
+use Rattle.scan.proofs.Laws.{never, both, choose, cond-past, Advance, stands, run-more, run-from, has-within, size-within, char-past, ref-is}
 use Rattle.tokens.specs.Tokens.{andThen, repeat, until, nameAt, whiteAt, pieceAt, textAt, endTagAt, optionalAt}
 use Rattle.tokens.proofs.Laws.{then-past, Steps, name-past, piece-past, text-past, end-past, piece-end}
 use Rattle.markup.specs.Markup.{childBy, childrenBy, contentBy, elementAt, mark, declaration, rootAt, markupOf}
@@ -21,11 +21,6 @@ use Rattle.markup.proofs.Laws.{content-past, parts, element-past}
 use Rattle.grammar.specs.Grammar.{Name, name, White, white, Allowed, Character, one, two, three, four, Piece, char, amp, lt, gt, quot, apos, Pieces, none, more, Text, text, endTag, Element, element, Content, elements, only, Elements, last, next, Optional, absent, present, Mark, Declaration, Flow, flow}
 use Rattle.grammar.proofs.Parts.{no, not-so, part-join, part-none, part-next, part-1, part-2, part-3, part-4, part-length, has-part, has-split, has-byte, part-has}
 use Rattle.grammar.proofs.Pieces.{other, all-at, piece-rest}
-
--- a choice of two: what follows from the one that is taken
-choose : {W A : Type 0} (b : Bool) {x y n : W} → (b ≡ true → x ≡ n → A) → (y ≡ n → A) → cond b x y ≡ n → A
-choose true f g e = f refl e
-choose false f g e = g e
 
 -- CHARACTERS
 sized-is : (n least v m : ℕ) → sized n least v ≡ suc m → (n ≡ suc m) × Allowed least v

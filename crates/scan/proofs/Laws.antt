@@ -57,8 +57,17 @@ pub both : (a b : Bool) → (a && b) ≡ true → (a ≡ true) × (b ≡ true)
 both true b e = (refl, e)
 both false b e = let z : _≡_ {A = ℕ} 0 1 = cc in absurd (omega arith)
 
+pub not-is : (b : Bool) → not b ≡ true → b ≡ false
+not-is true e = let z : _≡_ {A = ℕ} 0 1 = cc in absurd (omega arith)
+not-is false e = refl
+
 pub in-range : (lo hi b : ℕ) → between lo hi b ≡ true → (lo ≤ b) × (b ≤ hi)
 in-range lo hi b e = let h = both (leb lo b) (leb b hi) e in (leb-true lo b (h .0), leb-true b hi (h .1))
+
+-- a choice of two: what follows from the one that is taken
+pub choose : {W A : Type 0} (b : Bool) {x y n : W} → (b ≡ true → x ≡ n → A) → (y ≡ n → A) → cond b x y ≡ n → A
+choose true f g e = f refl e
+choose false f g e = g e
 
 pub cond-past : (b : Bool) (x : Walk) (p : ℕ) {q : ℕ} → cond b x (Broken p) ≡ Past q → (b ≡ true) × (x ≡ Past q)
 cond-past true x p e = (refl, e)
@@ -185,7 +194,7 @@ module _ {a b c d x y z w : ℕ} (ex : x ≡ a) (ey : y ≡ b) (ez : z ≡ c) (e
               size-none n = rw (← ex, ← ey, ← ez, ← ew, lt-leb x 127 h, le-leb 192 x k, lt-leb x 223 l, t, u, le-leb 224 x (omega arith), lt-leb x 239 m, v, le-leb 240 x (omega arith), lt-leb x 247 n)
 
 -- what has a size is a character
-sized-is : (n least v m : ℕ) → sized n least v ≡ suc m → (n ≡ suc m) × (isChar v ≡ true)
+pub sized-is : (n least v m : ℕ) → sized n least v ≡ suc m → (n ≡ suc m) × (isChar v ≡ true)
 unfolding sized
 sized-is n least v m = go (leb least v) (isChar v) refl
   where
@@ -271,6 +280,23 @@ module _ (s : List ℕ) (p n : ℕ) (f : n ≡ charSizeAt s p) where
       go : (k : ℕ) → k ≡ charSizeAt s p → (k ≡ 0 → ⊥) → p + k ≤ length s
       go zero g h = absurd (h refl)
       go (suc k) g h = size-within s p k (sym g)
+
+-- what charAt says of the size
+pub char-sized : (s : List ℕ) (p q : ℕ) → charAt s p ≡ Past q → p + charSizeAt s p ≡ q
+unfolding charAt pastOr
+char-sized s p q = go (charSizeAt s p)
+  where
+    go : (n : ℕ) → pastOr n p ≡ Past q → p + n ≡ q
+    go zero e = never e
+    go (suc n) e = cc
+
+pub char-unsized : (s : List ℕ) (p q : ℕ) → charAt s p ≡ Broken q → charSizeAt s p ≡ 0
+unfolding charAt pastOr
+char-unsized s p q = go (charSizeAt s p)
+  where
+    go : (n : ℕ) → pastOr n p ≡ Broken q → n ≡ 0
+    go zero e = refl
+    go (suc n) e = never (sym e)
 
 -- past the end stands no character
 pub char-end : (s : List ℕ) (p : ℕ) → length s ≤ p → charAt s p ≡ Broken p

@@ -13,7 +13,7 @@ use Rattle.scan.specs.declared.Walk.the-variants.{Past, Broken}
 use Rattle.scan.specs.Bytes.{bytes, byteAt, part, isLetter, isNameByte, runEnd, startsWith, hasAt}
 use Rattle.scan.specs.Characters.{isChar, sized, charAt}
 use Rattle.scan.specs.References.{refAt}
-use Rattle.scan.proofs.Laws.{never, both, cond-past, Advance, inside, stands, run-more, run-from, run-within, has-within, ref-past, char-past, char-some, size-one}
+use Rattle.scan.proofs.Laws.{never, both, not-is, cond-past, Advance, inside, stands, run-more, run-from, run-within, has-within, ref-past, char-past, char-some, size-one}
 use Rattle.tokens.specs.Tokens.{andThen, repeat, until, nameAt, pieceAt, textAt, endTagAt, optionalAt, isPlain}
 
 pub then-past : (w : Walk) (k : ℕ → Walk) {q : ℕ} → andThen w k ≡ Past q → (p : ℕ) × (w ≡ Past p) × (k p ≡ Past q)
@@ -146,10 +146,6 @@ char-plain s at l h = char-some s at 1 (sym (size-one refl refl refl refl h ∙ 
   where
     go : sized 1 0 (byteAt s at) ≡ 1
     go = rw (le-leb 0 (byteAt s at) (omega arith), le-leb 32 (byteAt s at) l, le-leb (byteAt s at) 55295 (omega arith), ne-eqb (byteAt s at) 9 (λ e. omega arith), ne-eqb (byteAt s at) 10 (λ e. omega arith), ne-eqb (byteAt s at) 13 (λ e. omega arith))
-
-not-is : (b : Bool) → not b ≡ true → b ≡ false
-not-is true e = let z : _≡_ {A = ℕ} 0 1 = cc in absurd (omega arith)
-not-is false e = refl
 
 -- a plain byte is passed over
 pub plain-piece : (s : List ℕ) (i : ℕ) → i < length s → isPlain (byteAt s i) ≡ true → pieceAt s i ≡ Past (i + 1)
