@@ -118,7 +118,7 @@ static struct reading {
     unsigned passed_over; /* how deep in elements that aren't read */
     int broken;
     unsigned accepted;
-    char text[256]; /* of the field; longer than any may be */
+    char text[1024]; /* of the field; longer than any may be */
     unsigned length;
     sqlite3_int64 body, esercizio;
     int kind, inserts;
@@ -177,6 +177,15 @@ static int is(const char *text)
     return reading.length == strlen(text) && memcmp(reading.text, text, reading.length) == 0;
 }
 
+/* How many characters a text in UTF-8 has. */
+static unsigned characters_of(const char *text, unsigned length)
+{
+    unsigned count = 0;
+    for (unsigned i = 0; i < length; i++)
+        count += ((unsigned char)text[i] & 0xC0) != 0x80;
+    return count;
+}
+
 /* The end of a field: its text is whole. */
 static void read_field(enum field field)
 {
@@ -194,7 +203,7 @@ static void read_field(enum field field)
     case TOTAL: reading.total = cents_of(text, length); break;
     case POSITION: reading.positions[reading.lines] = number_of(text, length); break;
     case AMOUNT: reading.amounts[reading.lines] = cents_of(text, length); break;
-    case PARTY_NAME: reading.broken |= length < 1 || length > 140; break;
+    case PARTY_NAME: reading.broken |= length < 1 || characters_of(text, length) > 140; break;
     case NO_FIELD: break;
     }
 }

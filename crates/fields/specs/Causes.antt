@@ -9,11 +9,11 @@ use Rattle.calendar.specs.Calendar.{isDate}
 use Rattle.codes.specs.Codes.{codiceAbi, identificativo, codiceEnte, tipoOperazione, isAsked}
 use Rattle.digits.specs.Digits.{isValue, valueIs, esercizioWritten, numeroWritten, importo, progressivo}
 use Rattle.dates.specs.Dates.{dataWritten, isOn, dayIs, dataOraWritten, dataOraWithin}
-use Rattle.names.specs.Names.{replaced, anagrafica}
+use Rattle.names.specs.Names.{replaced, characters, anagrafica}
 use Rattle.fields.specs.declared.Form.{Form}
 use Rattle.fields.specs.declared.Form.the-variants.{CodiceAbi, Identificativo, DataOra, CodiceEnte, Esercizio, TipoOperazione, Numero, Data, Importo, Progressivo, Anagrafica}
 use Rattle.fields.specs.declared.Longest.{Longest}
-use Rattle.fields.specs.declared.Longest.the-variants.{Bytes, OfName}
+use Rattle.fields.specs.declared.Longest.the-variants.{Bytes, Characters}
 use Rattle.fields.specs.declared.Cause.{Cause}
 use Rattle.fields.specs.declared.Cause.the-variants.{Empty, Long, Misformed, OutOfRange}
 
@@ -23,7 +23,7 @@ causeNumber Long = 2
 causeNumber Misformed = 3
 causeNumber OutOfRange = 4
 
--- THE LONGEST ALLOWED TEXT of each form (document 01, "The fields"): in bytes as they stand in the flow, and of a name as its form counts
+-- THE LONGEST ALLOWED TEXT of each form (document 01, "The fields"): in bytes as they stand in the flow, and of a name in characters as its form counts them
 abbrev pub longest : Form → Longest
 longest CodiceAbi = Bytes abiLength
 longest Identificativo = Bytes 35
@@ -35,11 +35,11 @@ longest Numero = Bytes 7
 longest Data = Bytes 10
 longest Importo = Bytes 12
 longest Progressivo = Bytes 3
-longest Anagrafica = OfName 140
+longest Anagrafica = Characters 140
 
 abbrev pub longer : Longest → List ℕ → Bool
 longer (Bytes n) t = ltb n (length t)
-longer (OfName n) t = ltb n (length (replaced t))
+longer (Characters n) t = ltb n (characters (replaced t))
 
 -- THE RIGHT FORM, whatever value it writes: four digits, 1 to 7 digits, YYYY-MM-DD, YYYY-MM-DDThh:mm:ss; where document 01 gives no range, the form whole
 unfoldable pub formed : Form → List ℕ → Bool

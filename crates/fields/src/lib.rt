@@ -36,10 +36,10 @@ pub enum Value {
     Operation(Operation),
 }
 
-// The longest text that a form allows, in bytes or, of a name, as its form counts.
+// The longest text that a form allows, in bytes or, of a name, in characters as its form counts them.
 pub enum Longest {
     Bytes(usize),
-    OfName(usize),
+    Characters(usize),
 }
 
 // What is wrong with a field's text, in the order in which a cause is told.
@@ -82,7 +82,7 @@ pub fn longest_of(f: Form) -> Longest
         Form::Data => Longest::Bytes(10),
         Form::Importo => Longest::Bytes(12),
         Form::Progressivo => Longest::Bytes(3),
-        Form::Anagrafica => Longest::OfName(140),
+        Form::Anagrafica => Longest::Characters(140),
     }
 }
 
@@ -91,7 +91,7 @@ fn is_longer(l: Longest, t: &[u8]) -> bool
 {
     match l {
         Longest::Bytes(n) => n < t.len(),
-        Longest::OfName(n) => n < names::replaced_length(t),
+        Longest::Characters(n) => n < names::characters_of(t),
     }
 }
 

@@ -15,8 +15,9 @@ use Rattle.scan.specs.declared.Walk.{Walk}
 use Rattle.scan.specs.declared.Walk.the-variants.{Past}
 use Rattle.scan.specs.Bytes.{bytes, byteAt, part, isLetter, isDigit, isNameByte, isWhite, all, run, runEnd, startsWith, hasAt}
 use Rattle.scan.specs.Characters.{isChar, sized, isTail, charSizeAt, charAt}
+use Rattle.scan.specs.References.{whichAt, refAt}
 use Rattle.scan.proofs.Laws.{both, run-more, run-stop, run-end, size-one, size-two, size-three, size-four, char-some}
-use Rattle.tokens.specs.Tokens.{nameAt, whiteAt, refAt, pieceAt, textAt, endTagAt, optionalAt}
+use Rattle.tokens.specs.Tokens.{nameAt, whiteAt, pieceAt, textAt, endTagAt, optionalAt}
 use Rattle.tokens.proofs.Laws.{name-some, piece-ref, piece-char, text-stop, text-step, end-some}
 use Rattle.markup.specs.Markup.{childrenBy, elementAt, contentAt, mark, declaration, markupOf}
 use Rattle.markup.proofs.Laws.{content-text, content-empty, content-children, children-stop, children-step, element-ends, root-is, markup-ends}
@@ -129,7 +130,7 @@ module _ (s : List ℕ) (p : ℕ) where
   reference t e f = let b = has-byte s 38 t p e in (piece-ref s p b ∙ f, λ z. omega arith)
 
   piece-is : {x : List ℕ} → Piece x → hasAt x s p ≡ true → hasAt (bytes "]]>") s p ≡ false → (pieceAt s p ≡ Past (p + length x)) × (byteAt s p ≡ 60 → ⊥)
-  unfolding refAt hasAt startsWith
+  unfolding refAt whichAt hasAt startsWith
   piece-is (char c f g) e h =
       let a : byteAt s p ≡ 38 → ⊥ = λ z. g (rw z at (char-alone c e (omega arith))) in
       let l : byteAt s p ≡ 60 → ⊥ = λ z. f (rw z at (char-alone c e (omega arith))) in

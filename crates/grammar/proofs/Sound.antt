@@ -12,19 +12,15 @@ use Rattle.scan.specs.declared.Walk.{Walk}
 use Rattle.scan.specs.declared.Walk.the-variants.{Past, Broken}
 use Rattle.scan.specs.Bytes.{bytes, byteAt, part, between, isLetter, isNameByte, isWhite, all, run, runEnd, hasAt}
 use Rattle.scan.specs.Characters.{isChar, sized, isTail, charSize, charSizeAt, pastOr, charAt}
-use Rattle.scan.proofs.Laws.{never, both, cond-past, Advance, stands, run-more, run-from, has-within, size-within, char-past}
-use Rattle.tokens.specs.Tokens.{andThen, repeat, until, nameAt, whiteAt, refAt, pieceAt, textAt, endTagAt, optionalAt}
+use Rattle.scan.specs.References.{Reference, refAt}
+use Rattle.scan.proofs.Laws.{never, both, choose, cond-past, Advance, stands, run-more, run-from, has-within, size-within, char-past, ref-is}
+use Rattle.tokens.specs.Tokens.{andThen, repeat, until, nameAt, whiteAt, pieceAt, textAt, endTagAt, optionalAt}
 use Rattle.tokens.proofs.Laws.{then-past, Steps, name-past, piece-past, text-past, end-past, piece-end}
 use Rattle.markup.specs.Markup.{childBy, childrenBy, contentBy, elementAt, mark, declaration, rootAt, markupOf}
 use Rattle.markup.proofs.Laws.{content-past, parts, element-past}
 use Rattle.grammar.specs.Grammar.{Name, name, White, white, Allowed, Character, one, two, three, four, Piece, char, amp, lt, gt, quot, apos, Pieces, none, more, Text, text, endTag, Element, element, Content, elements, only, Elements, last, next, Optional, absent, present, Mark, Declaration, Flow, flow}
 use Rattle.grammar.proofs.Parts.{no, not-so, part-join, part-none, part-next, part-1, part-2, part-3, part-4, part-length, has-part, has-split, has-byte, part-has}
 use Rattle.grammar.proofs.Pieces.{other, all-at, piece-rest}
-
--- a choice of two: what follows from the one that is taken
-choose : {W A : Type 0} (b : Bool) {x y n : W} → (b ≡ true → x ≡ n → A) → (y ≡ n → A) → cond b x y ≡ n → A
-choose true f g e = f refl e
-choose false f g e = g e
 
 -- CHARACTERS
 sized-is : (n least v m : ℕ) → sized n least v ≡ suc m → (n ≡ suc m) × Allowed least v
@@ -147,19 +143,10 @@ module _ (s : List ℕ) (stop : ℕ → Bool) (step : ℕ → Walk) (P : ℕ →
 
 module _ (s : List ℕ) where
   -- TEXT
-  string : (p r n : ℕ) {x : List ℕ} → length x ≡ n → Piece x → hasAt x s p ≡ true → Past (p + n) ≡ Past r → Piece (part s p r)
-  string p r n {x} l g h e =
-      let z : r ≡ p + length x = cc in
-      rw (z, has-part s x p h) g
-
   ref-sound : (p r : ℕ) → refAt s p ≡ Past r → Piece (part s p r)
-  unfolding refAt
-  ref-sound p r =
-      choose _ (string p r 5 refl amp)
-      (choose _ (string p r 4 refl lt)
-      (choose _ (string p r 4 refl gt)
-      (choose _ (string p r 6 refl quot)
-      (choose _ (string p r 6 refl apos) never))))
+  ref-sound p r e =
+      let f = ref-is (λ (x : Reference). Piece (x .written)) s p r (amp, (lt, (gt, (quot, (apos, tt))))) e in
+      rw (← f .past, has-part s (f .which .written) p (f .there)) (f .holds)
 
   -- a part that begins with another byte is not b alone
   not-alone : (p r b : ℕ) → Advance s p r → eqb (byteAt s p) b ≡ false → part s p r ≡ b ∷ [] → ⊥

@@ -33,7 +33,9 @@ fn say_form(f: Form) -> bool {
             b"1 to 9 digits, a point, two digits; no zero in front unless it is the only digit there; no sign",
         ),
         Form::Progressivo => say(b"1 to 3 digits"),
-        Form::Anagrafica => say(b"1 to 140 bytes, counted after the five references are replaced"),
+        Form::Anagrafica => say(
+            b"1 to 140 characters, each of the five references counting as one",
+        ),
     }
 }
 

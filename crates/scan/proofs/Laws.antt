@@ -1,6 +1,7 @@
 -- Laws of the bytes and characters of a flow, which the crates above cite instead of the definitions' text.
 use mathlib.Core.Path.{_≡_, refl, sym, ap, _∙_}
 use mathlib.Core.List.{List, [], _∷_}
+use mathlib.Core.Option.{Option, none, some}
 use mathlib.Core.Bool.{Bool, true, false, cond, not, _&&_, _||_, and-false}
 use Prim.Native.Nat.{ℕ, zero, suc, _+_, _-_, _*_, _≤_, _<_}
 use native.Mathlib.Nat.{add-zero}
@@ -12,8 +13,9 @@ use lib.Dec.{leb, eqb, eqb·zero-suc}
 use borrow.Author.Tests.{eq-eqb, ne-eqb, eqb-true, leb-true, leb-false, le-leb, lt-leb}
 use Rattle.scan.specs.declared.Walk.{Walk}
 use Rattle.scan.specs.declared.Walk.the-variants.{Past, Broken}
-use Rattle.scan.specs.Bytes.{byteAt, part, between, isLetter, isDigit, isAlnum, isNameByte, isWhite, run, runEnd, startsWith, hasAt}
+use Rattle.scan.specs.Bytes.{bytes, byteAt, part, between, isLetter, isDigit, isAlnum, isNameByte, isWhite, run, runEnd, startsWith, hasAt}
 use Rattle.scan.specs.Characters.{isChar, sized, isTail, charSize, charSizeAt, pastOr, charAt}
+use Rattle.scan.specs.References.{Reference, references, whichAt, pastRef, refAt}
 
 -- a run goes on over a byte of its kind, and ends at another one and at the end of the flow
 module _ (p : ℕ → Bool) (s : List ℕ) (i : ℕ) where
@@ -55,8 +57,17 @@ pub both : (a b : Bool) → (a && b) ≡ true → (a ≡ true) × (b ≡ true)
 both true b e = (refl, e)
 both false b e = let z : _≡_ {A = ℕ} 0 1 = cc in absurd (omega arith)
 
+pub not-is : (b : Bool) → not b ≡ true → b ≡ false
+not-is true e = let z : _≡_ {A = ℕ} 0 1 = cc in absurd (omega arith)
+not-is false e = refl
+
 pub in-range : (lo hi b : ℕ) → between lo hi b ≡ true → (lo ≤ b) × (b ≤ hi)
 in-range lo hi b e = let h = both (leb lo b) (leb b hi) e in (leb-true lo b (h .0), leb-true b hi (h .1))
+
+-- a choice of two: what follows from the one that is taken
+pub choose : {W A : Type 0} (b : Bool) {x y n : W} → (b ≡ true → x ≡ n → A) → (y ≡ n → A) → cond b x y ≡ n → A
+choose true f g e = f refl e
+choose false f g e = g e
 
 pub cond-past : (b : Bool) (x : Walk) (p : ℕ) {q : ℕ} → cond b x (Broken p) ≡ Past q → (b ≡ true) × (x ≡ Past q)
 cond-past true x p e = (refl, e)
@@ -183,7 +194,7 @@ module _ {a b c d x y z w : ℕ} (ex : x ≡ a) (ey : y ≡ b) (ez : z ≡ c) (e
               size-none n = rw (← ex, ← ey, ← ez, ← ew, lt-leb x 127 h, le-leb 192 x k, lt-leb x 223 l, t, u, le-leb 224 x (omega arith), lt-leb x 239 m, v, le-leb 240 x (omega arith), lt-leb x 247 n)
 
 -- what has a size is a character
-sized-is : (n least v m : ℕ) → sized n least v ≡ suc m → (n ≡ suc m) × (isChar v ≡ true)
+pub sized-is : (n least v m : ℕ) → sized n least v ≡ suc m → (n ≡ suc m) × (isChar v ≡ true)
 unfolding sized
 sized-is n least v m = go (leb least v) (isChar v) refl
   where
@@ -270,6 +281,23 @@ module _ (s : List ℕ) (p n : ℕ) (f : n ≡ charSizeAt s p) where
       go zero g h = absurd (h refl)
       go (suc k) g h = size-within s p k (sym g)
 
+-- what charAt says of the size
+pub char-sized : (s : List ℕ) (p q : ℕ) → charAt s p ≡ Past q → p + charSizeAt s p ≡ q
+unfolding charAt pastOr
+char-sized s p q = go (charSizeAt s p)
+  where
+    go : (n : ℕ) → pastOr n p ≡ Past q → p + n ≡ q
+    go zero e = never e
+    go (suc n) e = cc
+
+pub char-unsized : (s : List ℕ) (p q : ℕ) → charAt s p ≡ Broken q → charSizeAt s p ≡ 0
+unfolding charAt pastOr
+char-unsized s p q = go (charSizeAt s p)
+  where
+    go : (n : ℕ) → pastOr n p ≡ Broken q → n ≡ 0
+    go zero e = refl
+    go (suc n) e = never (sym e)
+
 -- past the end stands no character
 pub char-end : (s : List ℕ) (p : ℕ) → length s ≤ p → charAt s p ≡ Broken p
 unfolding charAt pastOr
@@ -278,3 +306,76 @@ char-end s p h = go (charSizeAt s p) refl
     go : (n : ℕ) → charSizeAt s p ≡ n → pastOr n p ≡ Broken p
     go zero e = refl
     go (suc m) e = let w = size-within s p m e in absurd (omega arith)
+
+-- REFERENCES
+-- P of each of rs
+abbrev pub Each : (Reference → Type 0) → List Reference → Type 0
+Each P [] = Unit
+Each P (r ∷ rs) = P r × Each P rs
+
+-- the reference of rs that stands from p up to q, and P of it
+pub record Referred (P : Reference → Type 0) (rs : List Reference) (s : List ℕ) (p q : ℕ) : Type 0 where
+  pub which : Reference
+  pub is : whichAt rs s p ≡ some which
+  pub holds : P which
+  pub there : hasAt (which .written) s p ≡ true
+  pub past : p + length (which .written) ≡ q
+
+module _ (P : Reference → Type 0) (s : List ℕ) (p q : ℕ) where
+  which-is : (rs : List Reference) → Each P rs → pastRef (whichAt rs s p) p ≡ Past q → Referred P rs s p q
+  unfolding whichAt
+  which-is [] h e = never e
+  which-is (r ∷ rs) h e = go (hasAt (r .written) s p) refl (which-is rs (h .1)) e
+    where
+      go : (b : Bool) → hasAt (r .written) s p ≡ b → (pastRef (whichAt rs s p) p ≡ Past q → Referred P rs s p q) → pastRef (cond b (some r) (whichAt rs s p)) p ≡ Past q → Referred P (r ∷ rs) s p q
+      go true f more k = record { which = r; is = rw f; holds = h .0; there = f; past = cc }
+      go false f more k = let m = more k in record { which = m .which; is = rw f (m .is); holds = m .holds; there = m .there; past = m .past }
+
+  pub ref-is : Each P references → refAt s p ≡ Past q → Referred P references s p q
+  unfolding refAt
+  ref-is = which-is references
+
+-- where none is passed over none stands
+pub ref-is-none : (s : List ℕ) (p q : ℕ) → refAt s p ≡ Broken q → whichAt references s p ≡ none
+unfolding refAt
+ref-is-none s p q = go (whichAt references s p)
+  where
+    go : (o : Option Reference) → pastRef o p ≡ Broken q → o ≡ none
+    go none e = refl
+    go (some r) e = never (sym e)
+
+pub ref-past : (s : List ℕ) (p q : ℕ) → refAt s p ≡ Past q → Advance s p q
+ref-past s p q e =
+    let r = ref-is (λ (r : Reference). (n : ℕ) × (length (r .written) ≡ suc n)) s p q ((4, refl), ((3, refl), ((3, refl), ((5, refl), ((5, refl), tt))))) e in
+    let g = has-past (r .which .written) s p (r .holds .0) (r .holds .1) (r .there) in
+    record { on = omega arith; within = omega arith }
+
+-- refAt, a way out of the code at a time
+module _ (s : List ℕ) (at : ℕ) where
+  pub ref-amp : hasAt (bytes "&amp;") s at ≡ true → refAt s at ≡ Past (at + 5)
+  unfolding refAt whichAt
+  ref-amp h = rw h
+
+  module _ (a : hasAt (bytes "&amp;") s at ≡ false) where
+    pub ref-lt : hasAt (bytes "&lt;") s at ≡ true → refAt s at ≡ Past (at + 4)
+    unfolding refAt whichAt
+    ref-lt h = rw (a, h)
+
+    module _ (b : hasAt (bytes "&lt;") s at ≡ false) where
+      pub ref-gt : hasAt (bytes "&gt;") s at ≡ true → refAt s at ≡ Past (at + 4)
+      unfolding refAt whichAt
+      ref-gt h = rw (a, b, h)
+
+      module _ (c : hasAt (bytes "&gt;") s at ≡ false) where
+        pub ref-quot : hasAt (bytes "&quot;") s at ≡ true → refAt s at ≡ Past (at + 6)
+        unfolding refAt whichAt
+        ref-quot h = rw (a, b, c, h)
+
+        module _ (d : hasAt (bytes "&quot;") s at ≡ false) where
+          pub ref-apos : hasAt (bytes "&apos;") s at ≡ true → refAt s at ≡ Past (at + 6)
+          unfolding refAt whichAt
+          ref-apos h = rw (a, b, c, d, h)
+
+          pub ref-none : hasAt (bytes "&apos;") s at ≡ false → refAt s at ≡ Broken at
+          unfolding refAt whichAt
+          ref-none h = rw (a, b, c, d, h)

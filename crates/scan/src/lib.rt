@@ -1,10 +1,11 @@
-// The bytes of a flow: a byte at a position, classes of bytes, runs, fixed byte strings compared against the flow, parts of the flow, and one
-// UTF-8 character that XML allows. Everything above reads the flow through these.
+// The bytes of a flow: a byte at a position, classes of bytes, runs, fixed byte strings compared against the flow, parts of the flow, one
+// UTF-8 character that XML allows, and one of the five references. Everything above reads the flow through these.
 ghost use mathlib.Core.Path.{_≡_};
 ghost use Prim.Native.Nat.{ℕ, _+_, _-_, _≤_, _<_};
 ghost use lib.ListN.{length, take, drop};
 ghost use Rattle.scan.specs.Bytes.{byteAt, part, isLetter, isDigit, isAlnum, isNameByte, isWhite, runEnd, hasAt, textIs};
 ghost use Rattle.scan.specs.Characters.{isChar, sized, isTail, charSize, charAt};
+ghost use Rattle.scan.specs.References.{refAt};
 
 // Where a reader stands when it is done, or the place at which what it reads breaks.
 pub enum Walk {
@@ -261,4 +262,27 @@ fn after(s: &[u8], at: usize, k: usize) -> u8
     ensures { λ r. ⌜ r ≡ byteAt (now (s .entry)) (at + k) ⌝ }
 {
     if k < s.len() - at { s[at + k] } else { 0 }
+}
+
+// Past the reference at a position.
+pub fn reference(s: &[u8], at: usize) -> Walk
+    requires { ⌜ at ≤ length (now s) ⌝ }
+    ensures { λ r. ⌜ r ≡ refAt (now (s .entry)) at ⌝ }
+{
+    if has(s, at, b"&amp;") {
+        return Walk::Past(at + 5);
+    }
+    if has(s, at, b"&lt;") {
+        return Walk::Past(at + 4);
+    }
+    if has(s, at, b"&gt;") {
+        return Walk::Past(at + 4);
+    }
+    if has(s, at, b"&quot;") {
+        return Walk::Past(at + 6);
+    }
+    if has(s, at, b"&apos;") {
+        return Walk::Past(at + 6);
+    }
+    Walk::Broken(at)
 }

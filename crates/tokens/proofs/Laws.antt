@@ -12,8 +12,9 @@ use Rattle.scan.specs.declared.Walk.{Walk}
 use Rattle.scan.specs.declared.Walk.the-variants.{Past, Broken}
 use Rattle.scan.specs.Bytes.{bytes, byteAt, part, isLetter, isNameByte, runEnd, startsWith, hasAt}
 use Rattle.scan.specs.Characters.{isChar, sized, charAt}
-use Rattle.scan.proofs.Laws.{never, both, cond-past, Advance, inside, stands, run-more, run-from, run-within, has-within, has-past, char-past, char-some, size-one}
-use Rattle.tokens.specs.Tokens.{andThen, repeat, until, nameAt, refAt, pieceAt, textAt, endTagAt, optionalAt, isPlain}
+use Rattle.scan.specs.References.{refAt}
+use Rattle.scan.proofs.Laws.{never, both, not-is, cond-past, Advance, inside, stands, run-more, run-from, run-within, has-within, ref-past, char-past, char-some, size-one}
+use Rattle.tokens.specs.Tokens.{andThen, repeat, until, nameAt, pieceAt, textAt, endTagAt, optionalAt, isPlain}
 
 pub then-past : (w : Walk) (k : ℕ → Walk) {q : ℕ} → andThen w k ≡ Past q → (p : ℕ) × (w ≡ Past p) × (k p ≡ Past q)
 then-past (Past p) k e = (p, refl, e)
@@ -93,51 +94,6 @@ module _ (s : List ℕ) (at : ℕ) where
     unfolding nameAt
     name-long h = rw (← r, l, lt-leb (e - at) 48 h)
 
--- REFERENCES
--- a choice of strings: the first that stands, or the rest
-alt : (b : Bool) {s : List ℕ} {p x q : ℕ} (rest : Walk) → (b ≡ true → Advance s p x) → (rest ≡ Past q → Advance s p q) → cond b (Past x) rest ≡ Past q → Advance s p q
-alt true {s} {p} {x} {q} rest f g e = let z : x ≡ q = cc in rw z at (f refl)
-alt false rest f g e = g e
-
-pub ref-past : (s : List ℕ) (p q : ℕ) → refAt s p ≡ Past q → Advance s p q
-unfolding refAt
-ref-past s p q =
-    alt _ _ (has-past _ s p 4 refl)
-    (alt _ _ (has-past _ s p 3 refl)
-    (alt _ _ (has-past _ s p 3 refl)
-    (alt _ _ (has-past _ s p 5 refl)
-    (alt _ _ (has-past _ s p 5 refl) never))))
-
--- refAt, a way out of the code at a time
-module _ (s : List ℕ) (at : ℕ) where
-  pub ref-amp : hasAt (bytes "&amp;") s at ≡ true → refAt s at ≡ Past (at + 5)
-  unfolding refAt
-  ref-amp h = rw h
-
-  module _ (a : hasAt (bytes "&amp;") s at ≡ false) where
-    pub ref-lt : hasAt (bytes "&lt;") s at ≡ true → refAt s at ≡ Past (at + 4)
-    unfolding refAt
-    ref-lt h = rw (a, h)
-
-    module _ (b : hasAt (bytes "&lt;") s at ≡ false) where
-      pub ref-gt : hasAt (bytes "&gt;") s at ≡ true → refAt s at ≡ Past (at + 4)
-      unfolding refAt
-      ref-gt h = rw (a, b, h)
-
-      module _ (c : hasAt (bytes "&gt;") s at ≡ false) where
-        pub ref-quot : hasAt (bytes "&quot;") s at ≡ true → refAt s at ≡ Past (at + 6)
-        unfolding refAt
-        ref-quot h = rw (a, b, c, h)
-
-        module _ (d : hasAt (bytes "&quot;") s at ≡ false) where
-          pub ref-apos : hasAt (bytes "&apos;") s at ≡ true → refAt s at ≡ Past (at + 6)
-          unfolding refAt
-          ref-apos h = rw (a, b, c, d, h)
-
-          pub ref-none : hasAt (bytes "&apos;") s at ≡ false → refAt s at ≡ Broken at
-          unfolding refAt
-          ref-none h = rw (a, b, c, d, h)
-
 -- PIECES OF A TEXT
 pub piece-past : (s : List ℕ) → Steps s (pieceAt s)
 unfolding pieceAt
@@ -190,10 +146,6 @@ char-plain s at l h = char-some s at 1 (sym (size-one refl refl refl refl h ∙ 
   where
     go : sized 1 0 (byteAt s at) ≡ 1
     go = rw (le-leb 0 (byteAt s at) (omega arith), le-leb 32 (byteAt s at) l, le-leb (byteAt s at) 55295 (omega arith), ne-eqb (byteAt s at) 9 (λ e. omega arith), ne-eqb (byteAt s at) 10 (λ e. omega arith), ne-eqb (byteAt s at) 13 (λ e. omega arith))
-
-not-is : (b : Bool) → not b ≡ true → b ≡ false
-not-is true e = let z : _≡_ {A = ℕ} 0 1 = cc in absurd (omega arith)
-not-is false e = refl
 
 -- a plain byte is passed over
 pub plain-piece : (s : List ℕ) (i : ℕ) → i < length s → isPlain (byteAt s i) ≡ true → pieceAt s i ≡ Past (i + 1)

@@ -7,6 +7,7 @@ use lib.ListN.{length}
 use lib.Dec.{leb, eqb}
 use Rattle.scan.specs.Bytes.{bytes, byte, byteAt, part, between, isLetter, isNameByte, isWhite, runEnd, hasAt}
 use Rattle.scan.specs.Characters.{charAt}
+use Rattle.scan.specs.References.{refAt}
 use Rattle.scan.specs.declared.Walk.{Walk}
 use Rattle.scan.specs.declared.Walk.the-variants.{Past, Broken}
 
@@ -32,15 +33,6 @@ nameAt s at =
 -- past the white space
 abbrev pub whiteAt : List ℕ → ℕ → ℕ
 whiteAt s at = runEnd isWhite s at
-
--- & only as &amp; &lt; &gt; &quot; &apos;
-unfoldable pub refAt : List ℕ → ℕ → Walk
-refAt s at =
-    cond (hasAt (bytes "&amp;") s at) (Past (at + 5))
-    (cond (hasAt (bytes "&lt;") s at) (Past (at + 4))
-    (cond (hasAt (bytes "&gt;") s at) (Past (at + 4))
-    (cond (hasAt (bytes "&quot;") s at) (Past (at + 6))
-    (cond (hasAt (bytes "&apos;") s at) (Past (at + 6)) (Broken at)))))
 
 -- one piece of a text: a reference where an & stands, no ]]>, else a character that XML 1.0 allows
 unfoldable pub pieceAt : List ℕ → ℕ → Walk

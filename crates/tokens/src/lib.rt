@@ -1,10 +1,10 @@
-// The markup's smallest parts: a name, the five references, text, an end tag, bytes that may stand or not.
+// The markup's smallest parts: a name, text, an end tag, bytes that may stand or not.
 use scan::Walk;
 ghost use mathlib.Core.Path.{_≡_};
 ghost use Prim.Native.Nat.{ℕ, _+_, _-_, _≤_, _<_};
 ghost use lib.ListN.{length};
 ghost use Rattle.scan.specs.Bytes.{bytes, hasAt};
-ghost use Rattle.tokens.specs.Tokens.{nameAt, refAt, pieceAt, isPlain, textAt, endTagAt, optionalAt};
+ghost use Rattle.tokens.specs.Tokens.{nameAt, pieceAt, isPlain, textAt, endTagAt, optionalAt};
 
 // A name at a position.
 pub fn name_end(s: &[u8], at: usize) -> Walk
@@ -30,36 +30,13 @@ pub fn closes(s: &[u8], at: usize) -> bool
     scan::has(s, at, b"</")
 }
 
-// One of the five references.
-fn reference(s: &[u8], at: usize) -> Walk
-    requires { ⌜ at ≤ length (now s) ⌝ }
-    ensures { λ r. ⌜ r ≡ refAt (now (s .entry)) at ⌝ }
-{
-    if scan::has(s, at, b"&amp;") {
-        return Walk::Past(at + 5);
-    }
-    if scan::has(s, at, b"&lt;") {
-        return Walk::Past(at + 4);
-    }
-    if scan::has(s, at, b"&gt;") {
-        return Walk::Past(at + 4);
-    }
-    if scan::has(s, at, b"&quot;") {
-        return Walk::Past(at + 6);
-    }
-    if scan::has(s, at, b"&apos;") {
-        return Walk::Past(at + 6);
-    }
-    Walk::Broken(at)
-}
-
 // One piece of a text: a reference or a character.
 fn piece(s: &[u8], at: usize) -> Walk
     requires { ⌜ at ≤ length (now s) ⌝ }
     ensures { λ r. ⌜ r ≡ pieceAt (now (s .entry)) at ⌝ }
 {
     if scan::byte(s, at) == b'&' {
-        return reference(s, at);
+        return scan::reference(s, at);
     }
     if scan::has(s, at, b"]]>") {
         return Walk::Broken(at);

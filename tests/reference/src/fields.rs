@@ -161,9 +161,10 @@ pub fn progressivo(text: &[u8]) -> Option<u16> {
     digits(text, 1, 3).map(|value| value as u16)
 }
 
-/// `anagrafica_...`: 1 to 140 bytes, counted after the five references are replaced.
+/// `anagrafica_...`: 1 to 140 characters, each of the five references counting as one.
 pub fn party_name(text: &[u8]) -> Option<()> {
-    (1..=140).contains(&replaced(text).len()).then_some(())
+    let name = String::from_utf8(replaced(text)).ok()?;
+    (1..=140).contains(&name.chars().count()).then_some(())
 }
 
 #[cfg(test)]
@@ -295,8 +296,12 @@ mod tests {
         assert!(party_name(b" ").is_some());
         assert!(party_name("&quot;".repeat(140).as_bytes()).is_some());
         assert!(party_name("&quot;".repeat(141).as_bytes()).is_none());
-        assert!(party_name("\u{e0}".repeat(70).as_bytes()).is_some());
-        assert!(party_name("\u{e0}".repeat(71).as_bytes()).is_none());
+        for letter in ["\u{e0}", "\u{20ac}", "\u{1f600}"] {
+            assert!(party_name(letter.repeat(140).as_bytes()).is_some(), "{letter}");
+            assert!(party_name(letter.repeat(141).as_bytes()).is_none(), "{letter}");
+        }
+        assert!(party_name("e\u{301}".repeat(70).as_bytes()).is_some());
+        assert!(party_name("e\u{301}".repeat(71).as_bytes()).is_none());
         assert!(party_name("\r\n".repeat(71).as_bytes()).is_none());
         assert!(party_name(b"").is_none());
     }

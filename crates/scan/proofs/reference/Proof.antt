@@ -1,8 +1,8 @@
 use mathlib.Core.Path.{sym, _∙_}
-use Rattle.tokens.proofs.Laws.{ref-amp, ref-lt, ref-gt, ref-quot, ref-apos, ref-none}
+use Rattle.scan.proofs.Laws.{ref-amp, ref-lt, ref-gt, ref-quot, ref-apos, ref-none}
 use borrow.Author.Needs.{needs}
-use Rattle.tokens.proofs.reference.Statement.{statement}
-use Rattle.tokens.proofs.reference.Tie as tie
+use Rattle.scan.proofs.reference.Statement.{statement}
+use Rattle.scan.proofs.reference.Tie as tie
 
 slice-aggregate-has : tie.Need-slice-aggregate-has
 slice-aggregate-has c = search needs
