@@ -9,14 +9,10 @@ use lib.ListN.{getD}
 use Rattle.calendar.specs.Calendar.{leap, monthLength}
 use Rattle.days.specs.Days.{lengthAt, startOf, monthOf, numberOf, weekday, dateOf}
 use Rattle.days.proofs.Table.{T-both, allStarts, each-start}
-use Rattle.target_days.specs.Easter.{paschal, fullMoon, sundayAfter, easter, moonOfEpact, moonByEpact, butcherEnd, butcherMid, butcher}
+use Rattle.target_days.specs.Easter.{paschal, fullMoon, sundayAfter, easter}
+use Rattle.target_days.specs.Published.{moonOfEpact, moonByEpact, butcherEnd, butcherMid, butcher, FirstSunday, Agreed}
 
--- THE FIRST SUNDAY AFTER the full moon, where 1 March has the day number s
-pub record FirstSunday (s moon e : ℕ) : Type 0 where
-  pub sunday : weekday (s + (e - 1)) ≡ 0
-  pub after : moon < e
-  pub before : (n : ℕ) → moon < n → n < e → weekday (s + (n - 1)) ≡ 0 → ⊥
-
+-- THE FIRST SUNDAY AFTER the full moon
 pub first-sunday : (s moon : ℕ) → 1 ≤ moon → FirstSunday s moon (sundayAfter s moon)
 unfolding sundayAfter weekday
 first-sunday s moon h = record { sunday = omega arith; after = omega arith; before = λ n a b z. omega arith }
@@ -78,10 +74,17 @@ moon-range y h k =
     let u = T-both (leb 21 (fullMoon y)) (leb (fullMoon y) 49) t in
     (leb→le 21 (fullMoon y) (u .0), leb→le (fullMoon y) 49 (u .1))
 
--- EASTER is the first Sunday after the full moon, by the epact, from 22 March to 25 April
-pub easter-day : (y : ℕ) → 2000 ≤ y → y ≤ 2099 → FirstSunday (numberOf (dateOf y 3 1)) (moonByEpact y) (easter y)
+-- EASTER is the first Sunday after the full moon, from 22 March to 25 April
+pub agreed : (y : ℕ) → 2000 ≤ y → y ≤ 2099 → Agreed y
 unfolding easter
-easter-day y h k = let r = moon-range y h k in rw (by-epact y h k) (first-sunday (numberOf (dateOf y 3 1)) (fullMoon y) (omega arith))
+agreed y h k =
+    let r = moon-range y h k in
+    record {
+      moon = by-epact y h k;
+      equinox = r .0;
+      sunday = first-sunday (numberOf (dateOf y 3 1)) (fullMoon y) (omega arith);
+      rule = by-butcher y h k;
+    }
 
 pub easter-most : (y : ℕ) → 2000 ≤ y → y ≤ 2099 → (22 ≤ easter y) × (easter y ≤ 56)
 unfolding easter sundayAfter weekday

@@ -10,16 +10,12 @@ use Rattle.calendar.specs.Calendar.{leap, monthLength, isDate}
 use Rattle.days.specs.Days.{lengthAt, startOf, monthOf, numberOf, weekday, dateOf, nextDay, served}
 use Rattle.days.proofs.Table.{T-both}
 use Rattle.days.proofs.Laws.{one-date, next-number, number-first, number-most}
-use Rattle.target_days.specs.Easter.{easter, butcher, butcherMid, butcherEnd}
-use Rattle.target_days.specs.Target.{weekend, fixedClosing, marchDay, closesOn, closing, targetCode, firstFrom}
+use Rattle.target_days.specs.Easter.{easter}
+use Rattle.target_days.specs.Published.{butcher, butcherMid, butcherEnd}
+use Rattle.target_days.specs.Target.{weekend, fixedClosing, marchDay, closesOn, closing, targetCode, firstFrom, firstTargetDay}
+use Rattle.target_days.specs.First.{First, FirstTold}
 use Rattle.target_days.proofs.Easter.{by-butcher}
 use Rattle.target_days.proofs.Laws.{Served, served-real, code-28, code-0, first-stop}
-
--- what a first TARGET day is: r is a TARGET day of the served years, on or after d, and each date between is a closing day
-pub record First (d r : Date) : Type 0 where
-  pub open-day : targetCode r ≡ 0
-  pub after : numberOf d ≤ numberOf r
-  pub before : (e : Date) → isDate e ≡ true → numberOf d ≤ numberOf e → numberOf e < numberOf r → closing e ≡ true
 
 -- THE TEST: from the date d of day number n, at most f days on, a day that is no closing day, and only served dates on the way
 soon : ℕ → Date → ℕ → Bool
@@ -205,3 +201,20 @@ first-one d a b f g =
     let r = served-real a (open-served a (f .open-day)) .real in
     let q = served-real b (open-served b (g .open-day)) .real in
     one-date a b r q (omega arith)
+
+-- THE ANSWER of the call
+told-served : (d : Date) → served d ≡ true → firstTargetDay d ≡ record { code = 0; date = firstFrom 4 d }
+unfolding firstTargetDay
+told-served d s = rw s refl
+
+pub first-told : (d : Date) → served d ≡ true → FirstTold d
+first-told d s =
+    let q = told-served d s in
+    let e : firstTargetDay d .date ≡ firstFrom 4 d = ap (λ r. r .date) q in
+    record {
+      code = ap (λ r. r .code) q;
+      first = subst (First d) (sym e) (first-is d s);
+      alone = λ r f. first-one d r (firstFrom 4 d) f (first-is d s) ∙ sym e;
+      near = subst (λ r. numberOf r ≤ numberOf d + 4) (sym e) (first-near d s);
+      inside = ap served e ∙ first-served d s;
+    }

@@ -1,7 +1,7 @@
 use Prim.Native.Nat.{ℕ, _+_, _-_, _≤_, _<_}
 use native.Mathlib.Omega.{arith}
 use native.Mathlib.Nat.{mod-lt}
-use Rattle.target_days.specs.Easter.{butcherEnd, butcherMid, butcher}
+use Rattle.target_days.specs.Published.{butcherEnd, butcherMid, butcher}
 use Rattle.target_days.proofs.Easter.{by-butcher}
 use borrow.Author.Needs.{needs}
 use Rattle.target_days.proofs.easter_of.Statement.{statement}
