@@ -89,7 +89,8 @@ fn closes(d: Date) -> bool
     m == e + 1
 }
 
-fn code_of(d: Date) -> u64
+// 0 for a TARGET day, 27 for what is no date or outside the years, 28 for a closing day.
+pub fn code_of(d: Date) -> u64
     ensures { λ r. ⌜ r ≡ targetCode d ⌝ }
 {
     if !days::is_served(d) {
@@ -144,13 +145,7 @@ fn first_from(d: Date) -> Date
     e
 }
 
-// 0 for a TARGET day, 27 for what is no date or outside the years, 28 for a closing day.
-pub fn target_day(year: u64, month: u64, day: u64) -> u64
-    ensures { λ r. ⌜ r ≡ targetCode (dateOf year month day) ⌝ }
-{
-    code_of(Date { year, month, day })
-}
-
+// The first TARGET day on or after a date; 27 with zeros where that is no date or outside the years.
 pub fn first_target_day(year: u64, month: u64, day: u64) -> FirstDay
     ensures { λ r. ⌜ r ≡ firstTargetDay (dateOf year month day) ⌝ }
 {
