@@ -1,5 +1,6 @@
 -- TARGET days (document 02, Req 08): "no Saturday, Sunday, 1 January, Good Friday, Easter Monday, 1 May, 25 or 26 December. Years 2002 to 2099 are served."
 use Prim.Native.Nat.{ℕ, zero, suc, _+_}
+use mathlib.Core.Path.{_≡_}
 use mathlib.Core.Bool.{Bool, cond, _&&_, _||_}
 use lib.Dec.{eqb}
 use Rattle.calendar.specs.declared.Date.{Date}
@@ -39,5 +40,12 @@ firstFrom zero d = d
 firstFrom (suc n) d = cond (eqb (targetCode d) 28) (firstFrom n (nextDay d)) d
 
 -- "the first TARGET day on or after a date", 27 with zeros: four steps are enough, and it is a TARGET day of the served years, the first (proofs/First.antt)
+abbrev pub firstTold : ℕ → Date → FirstDay
+firstTold c d = record { code = c; date = d }
+
 unfoldable pub firstTargetDay : Date → FirstDay
-firstTargetDay d = cond (served d) (record { code = 0; date = firstFrom 4 d }) (record { code = 27; date = dateOf 0 0 0 })
+firstTargetDay d = cond (served d) (firstTold 0 (firstFrom 4 d)) (firstTold 27 (dateOf 0 0 0))
+
+-- THE PROMISE of the call, which has no table and no buffer
+abbrev pub FirstPromise : Date → FirstDay → Type 0
+FirstPromise d r = r ≡ firstTargetDay d

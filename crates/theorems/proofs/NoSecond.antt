@@ -30,6 +30,8 @@ no-second = record {
   field = λ s place a b m n. one m n;
   name = λ s place a b m n. one m n;
   text = λ s place a b m n. one m n;
+  days = λ a b x y m n. one m n;
+  first-day = λ d x y m n. one m n;
   open-replies = λ q t m n u v x y. let e = one-open q t (x .0) (y .0) u v (x .1) (y .1) in (same openCode (e .0) (x .2) (y .2), e .1);
   flow-replies = λ t f out m n u v x y p q.
       let e = ap flowReply (one (p .1 .0) (q .1 .0)) in

@@ -8,6 +8,10 @@ use mathlib.Core.List.{List}
 use Rattle.children.specs.declared.FieldSpans.{FieldSpans}
 use Rattle.children.specs.Child.{FieldPromise, ownName, ownText}
 use Rattle.calendar.specs.declared.Date.{Date}
+use Rattle.days.specs.declared.Between.{Between}
+use Rattle.days.specs.Days.{DaysPromise}
+use Rattle.target_days.specs.declared.FirstDay.{FirstDay}
+use Rattle.target_days.specs.Target.{FirstPromise}
 use Rattle.record.specs.declared.Key.{Key}
 use Rattle.opening.specs.declared.Opened.{Opened}
 use Rattle.opening.specs.Opening.{OpenPromise, OpenReplies}
@@ -30,6 +34,9 @@ pub record NoSecond : Type 0 where
   pub field : (s : List ℕ) (place : ℕ) (a b : FieldSpans) → FieldPromise s place a → FieldPromise s place b → a ≡ b
   pub name : (s : List ℕ) (place : ℕ) (a b : List ℕ) → a ≡ ownName s place → b ≡ ownName s place → a ≡ b
   pub text : (s : List ℕ) (place : ℕ) (a b : List ℕ) → a ≡ ownText s place → b ≡ ownText s place → a ≡ b
+  -- dates (Req 08), the exported functions' promises too
+  pub days : (a b : Date) (x y : Between) → DaysPromise a b x → DaysPromise a b y → x ≡ y
+  pub first-day : (d : Date) (x y : FirstDay) → FirstPromise d x → FirstPromise d y → x ≡ y
   -- the other exported functions, in document 01's numbers
   pub open-replies : (q t : List ℕ) (m n : ℕ) (u v : List ℕ) → OpenReplies q t m u → OpenReplies q t n v → (m ≡ n) × (u ≡ v)
   pub flow-replies : (t f out : List ℕ) (m n : FlowReply) (u v x y : List ℕ) → FlowReplies t f out m u x → FlowReplies t f out n v y
