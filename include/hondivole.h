@@ -61,7 +61,9 @@ enum hondivole_code {
     HONDIVOLE_RECORD_DIFFERS = 19,      /* ANNULLO: the total or the lines differ from the record */
     HONDIVOLE_NO_SUCH_LINE = 20,        /* the order has no such line */
     HONDIVOLE_ALREADY_EXECUTED = 21,    /* execution: the line is already executed */
-    HONDIVOLE_NOT_EXECUTED = 22         /* reversal: the line isn't executed */
+    HONDIVOLE_NOT_EXECUTED = 22,        /* reversal: the line isn't executed */
+    HONDIVOLE_NO_DATE_SERVED = 27,      /* no date, or outside the years 2002 to 2099 */
+    HONDIVOLE_CLOSING_DAY = 28          /* the date is no TARGET day */
 };
 
 enum {
@@ -114,20 +116,36 @@ uint64_t hondivole_flow(uint8_t *table, size_t table_len, const uint8_t *flow, s
 
 /*
  * Takes the bank's notice that a line is executed. It names the body by its code, the order by kind (1 mandato, 2 reversale), esercizio
- * and number, and the line, counted from 1. It answers 0 and sets the line executed, *cents being the line's amount; or the first of
- * 1 (table not valid), 7 (no such body), 16 (no such order), 17 (annulled), 20 (no such line) and 21 (already executed) that applies,
- * *cents being 0. It never changes more than one byte of the table, and none on a refusal.
+ * and number, and the line, counted from 1; year, month and day are its date, which has to be a TARGET day. It answers 0 and sets the line
+ * executed, *cents being the line's amount; or the first of 1 (table not valid), 27 (no date, or outside 2002 to 2099), 28 (closing day),
+ * 7 (no such body), 16 (no such order), 17 (annulled), 20 (no such line) and 21 (already executed) that applies, *cents being 0. It never
+ * changes more than one byte of the table, and none on a refusal.
  */
 uint64_t hondivole_execute(uint8_t *table, size_t table_len, const uint8_t *body, size_t body_len, uint64_t kind, uint64_t esercizio,
-                           uint64_t number, uint64_t line, uint64_t *cents);
+                           uint64_t number, uint64_t line, uint64_t year, uint64_t month, uint64_t day, uint64_t *cents);
 
 /*
- * Takes the bank's notice that an executed line is reversed (storno). It names a line as hondivole_execute does. It answers 0 and sets
- * the line waiting again, so that it may be executed again, *cents being the line's amount; or the first of 1, 7, 16, 17, 20 and 22 (not
- * executed) that applies, *cents being 0. It never changes more than one byte of the table, and none on a refusal.
+ * Takes the bank's notice that an executed line is reversed (storno). It names a line and has a date as hondivole_execute does. It answers
+ * 0 and sets the line waiting again, so that it may be executed again, *cents being the line's amount; or the first of 1, 27, 28, 7, 16,
+ * 17, 20 and 22 (not executed) that applies, *cents being 0. It never changes more than one byte of the table, and none on a refusal.
  */
 uint64_t hondivole_reverse(uint8_t *table, size_t table_len, const uint8_t *body, size_t body_len, uint64_t kind, uint64_t esercizio,
-                           uint64_t number, uint64_t line, uint64_t *cents);
+                           uint64_t number, uint64_t line, uint64_t year, uint64_t month, uint64_t day, uint64_t *cents);
+
+/*
+ * The first TARGET day on or after a date of the years 2002 to 2099: no Saturday, Sunday, 1 January, Good Friday, Easter Monday, 1 May, 25 or
+ * 26 December. It answers 0 with that day, at most four days later and never outside these years; or 27 (no date, or outside the years),
+ * the three results being 0.
+ */
+uint64_t hondivole_first_target_day(uint64_t year, uint64_t month, uint64_t day, uint64_t *first_year, uint64_t *first_month,
+                                    uint64_t *first_day);
+
+/*
+ * The number of days from the first date to the second, below zero when the second is earlier. It answers 0; or 27 where one of them is no
+ * date or outside the years 2002 to 2099, *days being 0.
+ */
+uint64_t hondivole_days_between(uint64_t year, uint64_t month, uint64_t day, uint64_t to_year, uint64_t to_month, uint64_t to_day,
+                                int64_t *days);
 
 /*
  * Reports a body's totals. It answers 0 with *used, the body's used slots (an annulled order keeps its slot), *paid and *collected, the
@@ -178,6 +196,8 @@ static inline const char *hondivole_code_text(uint64_t code)
     case HONDIVOLE_NO_SUCH_LINE: return "the order has no such line";
     case HONDIVOLE_ALREADY_EXECUTED: return "the line is already executed";
     case HONDIVOLE_NOT_EXECUTED: return "the line isn't executed";
+    case HONDIVOLE_NO_DATE_SERVED: return "no date of the years 2002 to 2099";
+    case HONDIVOLE_CLOSING_DAY: return "the date is no TARGET day";
     default: return "no code of the order desk";
     }
 }

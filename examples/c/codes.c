@@ -46,13 +46,13 @@ static void order(const char *operation, unsigned number, size_t room, const cha
 static void execute(const char *body, uint64_t kind, uint64_t number, uint64_t line, const char *what)
 {
     uint64_t cents;
-    print(hondivole_execute(table, sizeof table, (const uint8_t *)body, strlen(body), kind, 2021, number, line, &cents), what);
+    print(hondivole_execute(table, sizeof table, (const uint8_t *)body, strlen(body), kind, 2021, number, line, 2021, 3, 3, &cents), what);
 }
 
 static void reverse(uint64_t number, uint64_t line, const char *what)
 {
     uint64_t cents;
-    print(hondivole_reverse(table, sizeof table, (const uint8_t *)"000471", 6, HONDIVOLE_MANDATO, 2021, number, line, &cents), what);
+    print(hondivole_reverse(table, sizeof table, (const uint8_t *)"000471", 6, HONDIVOLE_MANDATO, 2021, number, line, 2021, 3, 3, &cents), what);
 }
 
 static void totals(const char *body, const char *what)

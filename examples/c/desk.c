@@ -96,11 +96,11 @@ int main(void)
                number_at(outcome + 4, 4), outcome[3], number_at(outcome + 8, 8), outcome[2]);
     }
 
-    code = hondivole_execute(table, sizeof table, body, sizeof body, HONDIVOLE_MANDATO, 2021, 12, 1, &cents);
+    code = hondivole_execute(table, sizeof table, body, sizeof body, HONDIVOLE_MANDATO, 2021, 12, 1, 2021, 3, 3, &cents);
     printf("execute line 1: code %" PRIu64 ", cents %" PRIu64 "\n", code, cents);
-    code = hondivole_reverse(table, sizeof table, body, sizeof body, HONDIVOLE_MANDATO, 2021, 12, 1, &cents);
+    code = hondivole_reverse(table, sizeof table, body, sizeof body, HONDIVOLE_MANDATO, 2021, 12, 1, 2021, 3, 3, &cents);
     printf("reverse line 1: code %" PRIu64 ", cents %" PRIu64 "\n", code, cents);
-    code = hondivole_execute(table, sizeof table, body, sizeof body, HONDIVOLE_MANDATO, 2021, 12, 2, &cents);
+    code = hondivole_execute(table, sizeof table, body, sizeof body, HONDIVOLE_MANDATO, 2021, 12, 2, 2021, 3, 3, &cents);
     printf("execute line 2: code %" PRIu64 ", cents %" PRIu64 "\n", code, cents);
 
     print_totals("000471");

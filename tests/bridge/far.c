@@ -129,18 +129,22 @@ uint64_t hondivole_flow(uint8_t *table, size_t table_len, const uint8_t *flow, s
 }
 
 uint64_t hondivole_execute(uint8_t *table, size_t table_len, const uint8_t *body, size_t body_len, uint64_t kind, uint64_t esercizio,
-                           uint64_t number, uint64_t line, uint64_t *cents)
+                           uint64_t number, uint64_t line, uint64_t year, uint64_t month, uint64_t day, uint64_t *cents)
 {
-    struct call call = {.function = EXECUTE, .lengths = {table_len, body_len, 0}, .numbers = {kind, esercizio, number, line}};
+    struct call call = {.function = EXECUTE,
+                        .lengths = {table_len, body_len, 0},
+                        .numbers = {kind, esercizio, number, line, year, month, day}};
     struct answer answer = forward(&call, table, body, table, table_len, none);
     *cents = answer.results[0];
     return answer.code;
 }
 
 uint64_t hondivole_reverse(uint8_t *table, size_t table_len, const uint8_t *body, size_t body_len, uint64_t kind, uint64_t esercizio,
-                           uint64_t number, uint64_t line, uint64_t *cents)
+                           uint64_t number, uint64_t line, uint64_t year, uint64_t month, uint64_t day, uint64_t *cents)
 {
-    struct call call = {.function = REVERSE, .lengths = {table_len, body_len, 0}, .numbers = {kind, esercizio, number, line}};
+    struct call call = {.function = REVERSE,
+                        .lengths = {table_len, body_len, 0},
+                        .numbers = {kind, esercizio, number, line, year, month, day}};
     struct answer answer = forward(&call, table, body, table, table_len, none);
     *cents = answer.results[0];
     return answer.code;
@@ -167,4 +171,24 @@ void hondivole_field_at(const uint8_t *flow, size_t flow_len, uint64_t place, ui
     *name_len = answer.results[1];
     *text = answer.results[2];
     *text_len = answer.results[3];
+}
+
+uint64_t hondivole_first_target_day(uint64_t year, uint64_t month, uint64_t day, uint64_t *first_year, uint64_t *first_month,
+                                    uint64_t *first_day)
+{
+    struct call call = {.function = FIRST_TARGET_DAY, .numbers = {year, month, day}};
+    struct answer answer = forward(&call, none, none, none, 0, none);
+    *first_year = answer.results[0];
+    *first_month = answer.results[1];
+    *first_day = answer.results[2];
+    return answer.code;
+}
+
+uint64_t hondivole_days_between(uint64_t year, uint64_t month, uint64_t day, uint64_t to_year, uint64_t to_month, uint64_t to_day,
+                                int64_t *days)
+{
+    struct call call = {.function = DAYS_BETWEEN, .numbers = {year, month, day, to_year, to_month, to_day}};
+    struct answer answer = forward(&call, none, none, none, 0, none);
+    *days = (int64_t)answer.results[0];
+    return answer.code;
 }

@@ -152,14 +152,20 @@ static uint64_t make(const struct call *call)
     case FLOW:
         return hondivole_flow(table, table_len, input, input_len, outcomes, outcomes_len, results[0], results[1], results[2]);
     case EXECUTE:
-        return hondivole_execute(table, table_len, input, input_len, n[0], n[1], n[2], n[3], results[0]);
+        return hondivole_execute(table, table_len, input, input_len, n[0], n[1], n[2], n[3], n[4], n[5], n[6],
+                                 results[0]);
     case REVERSE:
-        return hondivole_reverse(table, table_len, input, input_len, n[0], n[1], n[2], n[3], results[0]);
+        return hondivole_reverse(table, table_len, input, input_len, n[0], n[1], n[2], n[3], n[4], n[5], n[6],
+                                 results[0]);
     case TOTALS:
         return hondivole_totals(table, table_len, input, input_len, results[0], results[1], results[2], (int64_t *)results[3]);
     case FIELD_AT:
         hondivole_field_at(input, input_len, n[0], results[0], results[1], results[2], results[3]);
         return 0;
+    case FIRST_TARGET_DAY:
+        return hondivole_first_target_day(n[0], n[1], n[2], results[0], results[1], results[2]);
+    case DAYS_BETWEEN:
+        return hondivole_days_between(n[0], n[1], n[2], n[3], n[4], n[5], (int64_t *)results[0]);
     default:
         stop("a call came of no known function", "", "");
     }

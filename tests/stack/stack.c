@@ -131,11 +131,11 @@ static void call_flow(void)
 }
 static void call_execute(void)
 {
-    code = hondivole_execute(table, table_len, body, sizeof body, HONDIVOLE_MANDATO, 2021, 10, 1, &results[0]);
+    code = hondivole_execute(table, table_len, body, sizeof body, HONDIVOLE_MANDATO, 2021, 10, 1, 2021, 3, 3, &results[0]);
 }
 static void call_reverse(void)
 {
-    code = hondivole_reverse(table, table_len, body, sizeof body, HONDIVOLE_MANDATO, 2021, 10, 1, &results[0]);
+    code = hondivole_reverse(table, table_len, body, sizeof body, HONDIVOLE_MANDATO, 2021, 10, 1, 2021, 3, 3, &results[0]);
 }
 static void call_totals(void)
 {

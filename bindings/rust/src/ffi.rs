@@ -1,6 +1,6 @@
-//! The six C functions as `include/hondivole.h` declares them.
+//! The eight C functions as `include/hondivole.h` declares them.
 //!
-//! All but the last answer with a code (0, or the number of a [`Refusal`](crate::Refusal)); each writes all its results on every path.
+//! All but [`hondivole_field_at`] answer with a code (0, or the number of a [`Refusal`](crate::Refusal)); each writes all its results on every path.
 //!
 //! ```
 //! use hondivole::ffi::hondivole_open;
@@ -53,6 +53,9 @@ unsafe extern "C" {
         esercizio: u64,
         number: u64,
         line: u64,
+        year: u64,
+        month: u64,
+        day: u64,
         cents: *mut u64,
     ) -> u64;
 
@@ -70,6 +73,9 @@ unsafe extern "C" {
         esercizio: u64,
         number: u64,
         line: u64,
+        year: u64,
+        month: u64,
+        day: u64,
         cents: *mut u64,
     ) -> u64;
 
@@ -105,4 +111,26 @@ unsafe extern "C" {
         text: *mut u64,
         text_len: *mut u64,
     );
+
+    /// The first TARGET day on or after a date: see [`Date::first_target_day`](crate::Date::first_target_day).
+    ///
+    /// # Safety
+    ///
+    /// The three pointers are good for one number each, which can be written, and no two of them overlap.
+    pub fn hondivole_first_target_day(
+        year: u64,
+        month: u64,
+        day: u64,
+        first_year: *mut u64,
+        first_month: *mut u64,
+        first_day: *mut u64,
+    ) -> u64;
+
+    /// The number of days between two dates: see [`Date::days_to`](crate::Date::days_to).
+    ///
+    /// # Safety
+    ///
+    /// `days` is good for one number, which can be written.
+    pub fn hondivole_days_between(year: u64, month: u64, day: u64, to_year: u64, to_month: u64, to_day: u64, days: *mut i64)
+    -> u64;
 }

@@ -6,7 +6,7 @@
 //! [`Refusal`].
 //!
 //! ```
-//! use hondivole::{Kind, Notice, Refusal, Table};
+//! use hondivole::{Date, Kind, Notice, Refusal, Table};
 //!
 //! let mut table = Table::open("01234", &[("000471", 4), ("471", 4)])?;
 //!
@@ -27,19 +27,22 @@
 //! let answer = table.flow(flow.as_bytes(), &mut outcomes)?;
 //! assert_eq!(answer.accepted(), 1);
 //!
-//! let line = Notice { body: "471", kind: Kind::Mandato, esercizio: 2021, number: 12, line: 1 };
+//! let day = Date { year: 2021, month: 3, day: 3 };
+//! let line = Notice { body: "471", kind: Kind::Mandato, esercizio: 2021, number: 12, line: 1, day };
 //! assert_eq!(table.execute(&line)?, 15_000);
 //! assert_eq!(table.totals("471")?.balance, -15_000);
 //! assert_eq!(table.totals("000471")?.used, 0);
 //! # Ok::<(), Refusal>(())
 //! ```
 
+mod date;
 pub mod ffi;
 mod field;
 mod flow;
 mod refusal;
 mod table;
 
+pub use date::Date;
 pub use field::{Field, field_at};
 pub use flow::{FlowAnswer, Kind, Operation, OrderOutcome};
 pub use refusal::Refusal;

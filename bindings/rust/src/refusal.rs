@@ -3,7 +3,7 @@
 use std::error::Error;
 use std::fmt;
 
-/// Why something is refused: document 01's codes 1 to 22.
+/// Why something is refused: document 01's codes 1 to 22, and those of later requests.
 ///
 /// ```
 /// use hondivole::{Refusal, Table};
@@ -64,6 +64,10 @@ pub enum Refusal {
     AlreadyExecuted,
     /// 22: a reversal of a line that isn't executed.
     NotExecuted,
+    /// 27: no date, or outside the years 2002 to 2099.
+    NoDateServed,
+    /// 28: the date is no TARGET day.
+    ClosingDay,
 }
 
 impl Refusal {
@@ -99,6 +103,8 @@ impl Refusal {
             Refusal::NoSuchLine => 20,
             Refusal::AlreadyExecuted => 21,
             Refusal::NotExecuted => 22,
+            Refusal::NoDateServed => 27,
+            Refusal::ClosingDay => 28,
         }
     }
 
@@ -142,6 +148,8 @@ impl Refusal {
             20 => Refusal::NoSuchLine,
             21 => Refusal::AlreadyExecuted,
             22 => Refusal::NotExecuted,
+            27 => Refusal::NoDateServed,
+            28 => Refusal::ClosingDay,
             _ => return None,
         };
         Some(Err(refusal))
@@ -180,6 +188,8 @@ impl fmt::Display for Refusal {
             Refusal::NoSuchLine => "the order has no such line",
             Refusal::AlreadyExecuted => "the line is already executed",
             Refusal::NotExecuted => "the line isn't executed",
+            Refusal::NoDateServed => "no date of the years 2002 to 2099",
+            Refusal::ClosingDay => "the date is no TARGET day",
         })
     }
 }
@@ -195,7 +205,7 @@ mod tests {
         assert_eq!(Refusal::of_code(0, 0), Some(Ok(())));
         assert_eq!(Refusal::of_code(23, 0), None);
         let mut sentences = std::collections::HashSet::new();
-        for code in 1..=22 {
+        for code in (1..=22).chain(27..=28) {
             let refusal = Refusal::of_code(code, 7).unwrap().unwrap_err();
             assert_eq!(u64::from(refusal.code()), code);
             assert!(sentences.insert(refusal.to_string()));
@@ -205,7 +215,7 @@ mod tests {
     #[test]
     fn the_header_says_the_same() {
         let header = include_str!("../../../include/hondivole.h");
-        for code in (1..=22).filter(|code| *code != 5) {
+        for code in (1..=22).chain(27..=28).filter(|code| *code != 5) {
             let sentence = Refusal::from_code(code, 0).unwrap().to_string();
             assert!(header.contains(&format!("return \"{sentence}\";")), "{sentence}");
         }

@@ -1,13 +1,14 @@
 //! Order tables and the calls on them.
 
-use crate::{FlowAnswer, Kind, Refusal, ffi};
+use crate::{Date, FlowAnswer, Kind, Refusal, ffi};
 
 /// What the bank's notice of an execution or a reversal names: one line of an order.
 ///
 /// ```
-/// use hondivole::{Kind, Notice};
+/// use hondivole::{Date, Kind, Notice};
 ///
-/// let notice = Notice { body: "000471", kind: Kind::Mandato, esercizio: 2021, number: 12, line: 1 };
+/// let day = Date { year: 2021, month: 3, day: 3 };
+/// let notice = Notice { body: "000471", kind: Kind::Mandato, esercizio: 2021, number: 12, line: 1, day };
 /// assert_eq!(notice.body, "000471");
 /// ```
 #[derive(Clone, Copy, Debug, PartialEq, Eq)]
@@ -22,6 +23,8 @@ pub struct Notice<'b> {
     pub number: u32,
     /// The line, counted from 1.
     pub line: u8,
+    /// The date, which has to be a TARGET day.
+    pub day: Date,
 }
 
 /// A body's totals.
@@ -81,14 +84,15 @@ pub fn request(abi: &str, bodies: &[(&str, u16)]) -> Result<Vec<u8>, Refusal> {
 /// taken for one. A refused call changes no byte.
 ///
 /// ```
-/// use hondivole::{Kind, Notice, Refusal, Table};
+/// use hondivole::{Date, Kind, Notice, Refusal, Table};
 ///
 /// # let flow = include_bytes!("run.xml").as_slice();
 /// let mut table = Table::open("01234", &[("000471", 4), ("471", 4)])?;
 /// let mut outcomes = [0; 32];
 /// assert_eq!(table.flow(flow, &mut outcomes)?.accepted(), 1);
 ///
-/// let line = Notice { body: "000471", kind: Kind::Mandato, esercizio: 2021, number: 12, line: 1 };
+/// let day = Date { year: 2021, month: 3, day: 3 };
+/// let line = Notice { body: "000471", kind: Kind::Mandato, esercizio: 2021, number: 12, line: 1, day };
 /// assert_eq!(table.execute(&line), Ok(10_000));
 /// assert_eq!(table.totals("000471")?.balance, -10_000);
 /// assert_eq!(table.totals("471")?.balance, 0);
@@ -245,14 +249,15 @@ impl<B: AsMut<[u8]>> Table<B> {
     ///
     /// # Errors
     ///
-    /// The refusals of codes 1, 7, 16, 17, 20 and 21; no byte changes then.
+    /// The refusals of codes 1, 27, 28, 7, 16, 17, 20 and 21; no byte changes then.
     ///
     /// ```
-    /// # use hondivole::{Kind, Notice, Refusal, Table};
+    /// # use hondivole::{Date, Kind, Notice, Refusal, Table};
     /// # let flow = include_bytes!("run.xml").as_slice();
     /// let mut table = Table::open("01234", &[("000471", 4)])?;
     /// table.flow(flow, &mut [0; 32])?;
-    /// let line = Notice { body: "000471", kind: Kind::Mandato, esercizio: 2021, number: 12, line: 2 };
+    /// let day = Date { year: 2021, month: 3, day: 3 };
+    /// let line = Notice { body: "000471", kind: Kind::Mandato, esercizio: 2021, number: 12, line: 2, day };
     /// assert_eq!(table.execute(&line), Ok(5_000));
     /// assert_eq!(table.execute(&line), Err(Refusal::AlreadyExecuted));
     /// # Ok::<(), Refusal>(())
@@ -265,14 +270,15 @@ impl<B: AsMut<[u8]>> Table<B> {
     ///
     /// # Errors
     ///
-    /// The refusals of codes 1, 7, 16, 17, 20 and 22; no byte changes then.
+    /// The refusals of codes 1, 27, 28, 7, 16, 17, 20 and 22; no byte changes then.
     ///
     /// ```
-    /// # use hondivole::{Kind, Notice, Refusal, Table};
+    /// # use hondivole::{Date, Kind, Notice, Refusal, Table};
     /// # let flow = include_bytes!("run.xml").as_slice();
     /// let mut table = Table::open("01234", &[("000471", 4)])?;
     /// table.flow(flow, &mut [0; 32])?;
-    /// let line = Notice { body: "000471", kind: Kind::Mandato, esercizio: 2021, number: 12, line: 2 };
+    /// let day = Date { year: 2021, month: 3, day: 3 };
+    /// let line = Notice { body: "000471", kind: Kind::Mandato, esercizio: 2021, number: 12, line: 2, day };
     /// assert_eq!(table.reverse(&line), Err(Refusal::NotExecuted));
     /// table.execute(&line)?;
     /// assert_eq!(table.reverse(&line), Ok(5_000));
@@ -296,6 +302,9 @@ impl<B: AsMut<[u8]>> Table<B> {
                 notice.esercizio.into(),
                 notice.number.into(),
                 notice.line.into(),
+                notice.day.year,
+                notice.day.month,
+                notice.day.day,
                 &mut cents,
             )
         };
@@ -305,4 +314,4 @@ impl<B: AsMut<[u8]>> Table<B> {
 }
 
 /// The type of the two notice functions.
-type NoticeFunction = unsafe extern "C" fn(*mut u8, usize, *const u8, usize, u64, u64, u64, u64, *mut u64) -> u64;
+type NoticeFunction = unsafe extern "C" fn(*mut u8, usize, *const u8, usize, u64, u64, u64, u64, u64, u64, u64, *mut u64) -> u64;

@@ -1,6 +1,6 @@
 //! The calls through the safe types: document 01's run, and a refusal of each kind.
 
-use hondivole::{Field, Kind, MOST_OUTCOME_BYTES, Notice, Operation, Refusal, Table, Totals, field_at};
+use hondivole::{Date, Field, Kind, MOST_OUTCOME_BYTES, Notice, Operation, Refusal, Table, Totals, field_at};
 
 const RUN: &[u8] = include_bytes!("../src/run.xml");
 
@@ -12,7 +12,8 @@ fn changed(old: &str, new: &str) -> Vec<u8> {
     String::from_utf8_lossy(RUN).replace(old, new).into_bytes()
 }
 
-const LINE: Notice = Notice { body: "000471", kind: Kind::Mandato, esercizio: 2021, number: 12, line: 1 };
+const DAY: Date = Date { year: 2021, month: 3, day: 3 };
+const LINE: Notice = Notice { body: "000471", kind: Kind::Mandato, esercizio: 2021, number: 12, line: 1, day: DAY };
 
 #[test]
 fn the_run_whole() {
@@ -75,6 +76,9 @@ fn notices() {
     assert_eq!(table.execute(&Notice { body: "0471", ..LINE }), Err(Refusal::NoSuchBody));
     assert_eq!(table.execute(&Notice { body: "", ..LINE }), Err(Refusal::NoSuchBody));
     assert_eq!(table.execute(&Notice { line: 3, ..LINE }), Err(Refusal::NoSuchLine));
+    let saturday = Date { day: 6, ..DAY };
+    assert_eq!(table.execute(&Notice { day: saturday, ..LINE }), Err(Refusal::ClosingDay));
+    assert_eq!(table.execute(&Notice { day: Date { month: 13, ..DAY }, ..LINE }), Err(Refusal::NoDateServed));
     assert_eq!(table.execute(&LINE), Ok(10_000));
     assert_eq!(table.execute(&LINE), Err(Refusal::AlreadyExecuted));
     let again = changed("INSERIMENTO", "ANNULLO");

@@ -1,11 +1,12 @@
 // Cases of the desk, as a script of calls on one table. A line of the input has a call, a name, its arguments and what document 01 says it answers, by hand;
 // a line of the output has what the code answers beside it, and says `touched` where outcome bytes that should stay did not. Calls: open (request, length),
-// flow (flow, room), execute and reverse (body, kind, esercizio, number, line), totals (body), poke (place, byte: damages the table), long (a flow of so
-// many zero bytes).
+// flow (flow, room), execute and reverse (body, kind, esercizio, number, line, year, month, day), totals (body), poke (place, byte: damages the table),
+// long (a flow of so many zero bytes), first (year, month, day).
 use casebook::number;
 use casebook::say;
 use casebook::say_next;
 use casebook::say_number;
+use calendar::Date;
 use desk::FlowAnswer;
 use notices::NoticeAnswer;
 use opening::Opened;
@@ -123,9 +124,29 @@ fn run_long(t: &mut [u8], n: u64) {
     run_front(t, &f, n);
 }
 
+// The date in column k and the two after it.
+fn date_at(s: &[u8], a: usize, e: usize, k: usize) -> Date
+    requires { ⌜ (a ≤ e) × (e ≤ length (now s)) × (k ≤ 7) ⌝ }
+{
+    Date {
+        year: number(s, a, e, k),
+        month: number(s, a, e, k + 1),
+        day: number(s, a, e, k + 2),
+    }
+}
+
+// The first TARGET day on or after the date in columns 2 to 4: code, year, month, day.
+fn run_first(d: Date) {
+    let r = target_days::first_target_day(d.year, d.month, d.day);
+    say_number(r.code);
+    say_next(r.date.year);
+    say_next(r.date.month);
+    say_next(r.date.day);
+}
+
 // The calls that name a body, its code being column 2.
 fn run_body(s: &[u8], a: usize, e: usize, kind: &[u8], t: &mut [u8])
-    requires { ⌜ (a ≤ e) × (e ≤ length (now s)) × (length (now s) ≤ 131072) ⌝ }
+    requires { ⌜ (a ≤ e) × (e ≤ length (now s)) × (length (now s) ≤ 262144) ⌝ }
 {
     let mut code = [0u8; 64];
     let n = casebook::bytes(s, a, e, 2, &mut code);
@@ -138,21 +159,25 @@ fn run_body(s: &[u8], a: usize, e: usize, kind: &[u8], t: &mut [u8])
         number: number(s, a, e, 5),
     };
     let line = number(s, a, e, 6);
+    let day = date_at(s, a, e, 7);
     if scan::same(kind, b"execute") {
-        return say_notice(notices::execute(t, &code[..n], key, line));
+        return say_notice(notices::execute(t, &code[..n], key, line, day));
     }
-    say_notice(notices::reverse(t, &code[..n], key, line))
+    say_notice(notices::reverse(t, &code[..n], key, line, day))
 }
 
 // The calls on the table whose argument is column 2.
 fn run_call(s: &[u8], a: usize, e: usize, kind: &[u8], t: &mut [u8])
-    requires { ⌜ (a ≤ e) × (e ≤ length (now s)) × (length (now s) ≤ 131072) ⌝ }
+    requires { ⌜ (a ≤ e) × (e ≤ length (now s)) × (length (now s) ≤ 262144) ⌝ }
 {
     if scan::same(kind, b"poke") {
         return run_poke(t, number(s, a, e, 2), number(s, a, e, 3));
     }
     if scan::same(kind, b"long") {
         return run_long(t, number(s, a, e, 2));
+    }
+    if scan::same(kind, b"first") {
+        return run_first(date_at(s, a, e, 2));
     }
     if !scan::same(kind, b"flow") {
         return run_body(s, a, e, kind, t);
@@ -164,7 +189,7 @@ fn run_call(s: &[u8], a: usize, e: usize, kind: &[u8], t: &mut [u8])
 
 // One line: the length of the table from there on.
 fn run_line(s: &[u8], a: usize, e: usize, t: &mut [u8], len: usize) -> usize
-    requires { ⌜ (a ≤ e) × (e ≤ length (now s)) × (length (now s) ≤ 131072) × (len ≤ length (now t)) ⌝ }
+    requires { ⌜ (a ≤ e) × (e ≤ length (now s)) × (length (now s) ≤ 262144) × (len ≤ length (now t)) ⌝ }
     ensures { λ r. ⌜ r ≤ length (now (t .exit)) ⌝ }
 {
     let b = casebook::find(s, a, e, b'\t');
@@ -203,7 +228,7 @@ fn say_expected(s: &[u8], a: usize, e: usize)
 }
 
 fn run_lines(s: &[u8], t: &mut [u8])
-    requires { ⌜ length (now s) ≤ 131072 ⌝ }
+    requires { ⌜ length (now s) ≤ 262144 ⌝ }
 {
     let mut at = 0;
     let mut len: usize = 0;
@@ -218,7 +243,7 @@ fn run_lines(s: &[u8], t: &mut [u8])
 }
 
 fn main() {
-    let mut input = [0u8; 131072];
+    let mut input = [0u8; 262144];
     let n = io::read_full(libc::STDIN_FILENO, &mut input);
     let mut table = [0u8; 65536];
     run_lines(&input[..n], &mut table);

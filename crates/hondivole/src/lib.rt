@@ -1,6 +1,9 @@
-// The C interface: six thin functions over the desk, each with its promise. Every result is written on every path.
+// The C interface: eight thin functions over the desk, each with its promise. Every result is written on every path.
+use calendar::Date;
 use record::Key;
 ghost use mathlib.Core.Bool.{true, false};
+ghost use Rattle.days.specs.Days.{dateOf, daysTold, DaysPromise};
+ghost use Rattle.target_days.specs.Target.{firstTold, FirstPromise};
 ghost use Rattle.children.specs.Child.{FieldPromise};
 ghost use Rattle.opening.specs.Opening.{OpenReplies};
 ghost use Rattle.desk.specs.Desk.{FlowReplies};
@@ -43,16 +46,21 @@ pub extern "C" fn hondivole_execute(
     esercizio: u64,
     number: u64,
     line: u64,
+    year: u64,
+    month: u64,
+    day: u64,
     cents: &mut u64,
 ) -> u64
-    ensures { λ r. ⌜ NoticeReplies (now (table .entry)) true (now (body .entry)) (keyed kind esercizio number) line r (now (cents .exit)) (now (table .exit)) ⌝ }
+    ensures { λ r. ⌜ NoticeReplies (now (table .entry)) true (now (body .entry)) (keyed kind esercizio number) line (dateOf year month day)
+        r (now (cents .exit)) (now (table .exit)) ⌝ }
 {
     let key = Key {
         kind,
         esercizio,
         number,
     };
-    let a = notices::reply_of(notices::execute(table, body, key, line));
+    let date = Date { year, month, day };
+    let a = notices::reply_of(notices::execute(table, body, key, line, date));
     *cents = a.cents;
     a.code
 }
@@ -66,16 +74,21 @@ pub extern "C" fn hondivole_reverse(
     esercizio: u64,
     number: u64,
     line: u64,
+    year: u64,
+    month: u64,
+    day: u64,
     cents: &mut u64,
 ) -> u64
-    ensures { λ r. ⌜ NoticeReplies (now (table .entry)) false (now (body .entry)) (keyed kind esercizio number) line r (now (cents .exit)) (now (table .exit)) ⌝ }
+    ensures { λ r. ⌜ NoticeReplies (now (table .entry)) false (now (body .entry)) (keyed kind esercizio number) line (dateOf year month day)
+        r (now (cents .exit)) (now (table .exit)) ⌝ }
 {
     let key = Key {
         kind,
         esercizio,
         number,
     };
-    let a = notices::reply_of(notices::reverse(table, body, key, line));
+    let date = Date { year, month, day };
+    let a = notices::reply_of(notices::reverse(table, body, key, line, date));
     *cents = a.cents;
     a.code
 }
@@ -119,4 +132,43 @@ pub extern "C" fn hondivole_field_at(
     *name_len = f.name_len as u64;
     *text = f.text as u64;
     *text_len = f.text_len as u64;
+}
+
+// The first TARGET day on or after a date.
+#[no_mangle]
+pub extern "C" fn hondivole_first_target_day(
+    year: u64,
+    month: u64,
+    day: u64,
+    first_year: &mut u64,
+    first_month: &mut u64,
+    first_day: &mut u64,
+) -> u64
+    ensures { λ r. ⌜ FirstPromise (dateOf year month day) (firstTold r (dateOf (now («first_year» .exit)) (now («first_month» .exit)) (now («first_day» .exit)))) ⌝ }
+{
+    let a = target_days::first_target_day(year, month, day);
+    let d = a.date;
+    *first_year = d.year;
+    *first_month = d.month;
+    *first_day = d.day;
+    a.code
+}
+
+// The number of days between two dates, below zero when the second is earlier.
+#[no_mangle]
+pub extern "C" fn hondivole_days_between(
+    year: u64,
+    month: u64,
+    day: u64,
+    to_year: u64,
+    to_month: u64,
+    to_day: u64,
+    days: &mut i64,
+) -> u64
+    ensures { λ r. ⌜ DaysPromise (dateOf year month day) (dateOf «to_year» «to_month» «to_day») (daysTold r (now (days .exit))) ⌝ }
+{
+    let a = days::days_between(year, month, day, to_year, to_month, to_day);
+    let signed = a.days;
+    *days = signed;
+    a.code
 }

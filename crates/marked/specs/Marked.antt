@@ -13,6 +13,7 @@ use Rattle.digits.specs.Digits.{importo, numero}
 use Rattle.dates.specs.Dates.{dataOf, isOn}
 use Rattle.ranges.specs.declared.Found.{Found}
 use Rattle.ranges.specs.declared.Found.the-variants.{At, Nothing}
+use Rattle.calendar.specs.declared.Date.{Date}
 use Rattle.record.specs.declared.Key.{Key}
 use Rattle.table.specs.Table.{bodyOf}
 use Rattle.notices.specs.Notices.{noticeAnswer, noticeCodeOf}
@@ -56,6 +57,10 @@ outcomesOf f n = flowOutcomes sampleTable (room n) (readOn f n)
 abbrev leftBy : List ℕ → ℕ → List ℕ
 leftBy f n = flowTable sampleTable (readOn f n)
 
+-- a TARGET day, for a case's notice
+abbrev wednesday : Date
+wednesday = record { year = 2021; month = 6; day = 2 }
+
 -- WHAT THE RULES SAY of a case
 abbrev pub holds : Case → Bool
 holds (amount text v) = sameNumber (importo (bytes text)) v
@@ -63,7 +68,7 @@ holds (number text v) = sameNumber (numero (bytes text)) v
 holds (date text stands) = sameBool (isOn (dataOf (bytes text))) stands
 holds (code a b m n) = isBody (bodyOf sampleTable (bytes a)) m && (isBody (bodyOf sampleTable (bytes b)) n && not (eqb m n))
 holds (again f first second) = let out = outcomesOf f 2 in eqb (getD out 2 99) first && eqb (getD out 18 99) second
-holds (reversal f body k line c) = eqb (noticeCodeOf (noticeAnswer (leftBy f 1) false (bytes body) k line)) c
+holds (reversal f body k line c) = eqb (noticeCodeOf (noticeAnswer (leftBy f 1) false (bytes body) k line wednesday)) c
 
 -- every case of a table holds
 abbrev pub allHold : List Case → Bool

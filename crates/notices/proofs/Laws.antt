@@ -10,6 +10,8 @@ use lib.Dec.{ltb}
 use mir.Syntax.{w64}
 use mir.Val.{SFits, toZ, ofZ}
 use mir.Facts.{toZ-pos, toZ-ofZ}
+use Rattle.calendar.specs.declared.Date.{Date}
+use Rattle.target_days.specs.Target.{targetCode}
 use Rattle.record.specs.declared.Key.{Key}
 use Rattle.slots.specs.Slots.{recordsAt, usedAt}
 use Rattle.body.specs.Body.{centsOf}
@@ -18,26 +20,45 @@ use Rattle.service.specs.Service.{noticeComes, noticeLeaves}
 use Rattle.address.specs.declared.Addressed.{Addressed}
 use Rattle.address.specs.declared.Addressed.the-variants.{Invalid, Unknown, Body}
 use Rattle.notices.specs.declared.NoticeAnswer.{NoticeAnswer}
-use Rattle.notices.specs.declared.NoticeAnswer.the-variants.{InvalidTable, UnknownBody}
+use Rattle.notices.specs.declared.NoticeAnswer.the-variants.{InvalidTable, WrongDay, UnknownBody}
 use Rattle.notices.specs.declared.TotalsAnswer.{TotalsAnswer}
+use Rattle.table.specs.Table.{tableOk}
 use Rattle.address.specs.Address.{addressed}
-use Rattle.notices.specs.Notices.{noticed, noticeBy, noticeTableBy, noticeAnswer, noticeTable, bodyTotals, totalsBy, totalsOf}
+use Rattle.notices.specs.Notices.{noticed, noticeBy, noticeTableBy, onDay, tableOnDay, NoticePromise, bodyTotals, totalsBy, totalsOf}
 
 -- A NOTICE
 module _ (t code : List ℕ) (x : Bool) (k : Key) (line : ℕ) where
-  pub no-table : addressed t code ≡ Invalid → (InvalidTable ≡ noticeAnswer t x code k line) × (t ≡ noticeTable t x code k line)
+  pub no-table : addressed t code ≡ Invalid → (InvalidTable ≡ noticeBy t x k line (addressed t code)) × (t ≡ noticeTableBy t x k line (addressed t code))
   unfolding noticeBy noticeTableBy
   no-table e = (sym (ap (noticeBy t x k line) e), sym (ap (noticeTableBy t x k line) e))
 
-  pub no-body : addressed t code ≡ Unknown → (UnknownBody ≡ noticeAnswer t x code k line) × (t ≡ noticeTable t x code k line)
+  pub no-body : addressed t code ≡ Unknown → (UnknownBody ≡ noticeBy t x k line (addressed t code)) × (t ≡ noticeTableBy t x k line (addressed t code))
   unfolding noticeBy noticeTableBy
   no-body e = (sym (ap (noticeBy t x k line) e), sym (ap (noticeTableBy t x k line) e))
 
   pub served : {e base n : ℕ} {m : Noticed} {r : NoticeAnswer} {u : List ℕ} → addressed t code ≡ Body e base n
       → m ≡ noticeComes t base n x k line → u ≡ noticeLeaves t base n x k line → r ≡ noticed m
-      → (r ≡ noticeAnswer t x code k line) × (u ≡ noticeTable t x code k line)
+      → (r ≡ noticeBy t x k line (addressed t code)) × (u ≡ noticeTableBy t x k line (addressed t code))
   unfolding noticeBy noticeTableBy
   served q f g h = (h ∙ ap noticed f ∙ sym (ap (noticeBy t x k line) q), g ∙ sym (ap (noticeTableBy t x k line) q))
+
+  -- ON A DATE of code 0, or of another
+  pub on-target : {r : NoticeAnswer} {u : List ℕ} (d : Date) → targetCode d ≡ 0
+      → (r ≡ noticeBy t x k line (addressed t code)) × (u ≡ noticeTableBy t x k line (addressed t code)) → NoticePromise t x code k line d r u
+  on-target d e p =
+      (p .0 ∙ ap (λ c. onDay c t (noticeBy t x k line (addressed t code))) (sym e), p .1 ∙ ap (λ c. tableOnDay c t (noticeTableBy t x k line (addressed t code))) (sym e))
+
+  pub only-target : {r : NoticeAnswer} {u : List ℕ} (d : Date) → targetCode d ≡ 0 → NoticePromise t x code k line d r u
+      → (r ≡ noticeBy t x k line (addressed t code)) × (u ≡ noticeTableBy t x k line (addressed t code))
+  only-target d e p =
+      (p .0 ∙ ap (λ c. onDay c t (noticeBy t x k line (addressed t code))) e, p .1 ∙ ap (λ c. tableOnDay c t (noticeTableBy t x k line (addressed t code))) e)
+
+  pub off-target : (d : Date) (c : ℕ) → targetCode d ≡ c → (c ≡ 0 → ⊥) → (b : Bool) → tableOk t ≡ b → NoticePromise t x code k line d (cond b (WrongDay c) InvalidTable) t
+  off-target d zero e h b f = absurd (h refl)
+  off-target d (suc c) e h b f = (
+    sym (ap (λ n. onDay n t (noticeBy t x k line (addressed t code))) e ∙ ap (λ y. cond y (WrongDay (suc c)) InvalidTable) f),
+    sym (ap (λ n. tableOnDay n t (noticeTableBy t x k line (addressed t code))) e),
+  )
 
 -- TOTALS
 module _ (t code : List ℕ) where

@@ -2,23 +2,26 @@
 use Prim.Native.Nat.{ℕ, zero, suc, _+_}
 use lib.IntN.{ℤ, pos, _-ℤ_}
 use mathlib.Core.Path.{_≡_}
-use mathlib.Core.Bool.{Bool, true, false}
+use mathlib.Core.Bool.{Bool, true, false, cond}
 use mathlib.Core.List.{List}
+use Rattle.calendar.specs.declared.Date.{Date}
+use Rattle.target_days.specs.Target.{targetCode}
 use Rattle.record.specs.declared.Key.{Key}
 use Rattle.slots.specs.Slots.{recordsAt, usedAt}
 use Rattle.body.specs.Body.{centsOf}
 use Rattle.address.specs.declared.Addressed.{Addressed}
 use Rattle.address.specs.declared.Addressed.the-variants.{Invalid, Unknown, Body}
+use Rattle.table.specs.Table.{tableOk}
 use Rattle.address.specs.Address.{addressed}
 use Rattle.rules.specs.declared.Noticed.{Noticed}
 use Rattle.rules.specs.declared.Noticed.the-variants.{Moved, Unmoved}
 use Rattle.service.specs.Service.{noticeComes, noticeLeaves}
 use Rattle.notices.specs.declared.NoticeReply.{NoticeReply}
 use Rattle.notices.specs.declared.NoticeAnswer.{NoticeAnswer}
-use Rattle.notices.specs.declared.NoticeAnswer.the-variants.{InvalidTable, UnknownBody, Done, Declined}
+use Rattle.notices.specs.declared.NoticeAnswer.the-variants.{InvalidTable, WrongDay, UnknownBody, Done, Declined}
 use Rattle.notices.specs.declared.TotalsAnswer.{TotalsAnswer}
 
--- A NOTICE: "A notice names body code, kind, esercizio, number, line"
+-- A NOTICE: "A notice names body code, kind, esercizio, number, line" (document 01), and "will carry a date and must fall on a TARGET day" (document 02, Req 08)
 
 -- the key of the order that it names
 abbrev pub keyed : ℕ → ℕ → ℕ → Key
@@ -28,6 +31,7 @@ abbrev pub noticed : Noticed → NoticeAnswer
 noticed (Moved i cents) = Done cents
 noticed (Unmoved c) = Declined c
 
+-- on a TARGET day: what it answers, and the table afterwards
 unfoldable pub noticeBy : List ℕ → Bool → Key → ℕ → Addressed → NoticeAnswer
 noticeBy t executing k line Invalid = InvalidTable
 noticeBy t executing k line Unknown = UnknownBody
@@ -38,16 +42,25 @@ noticeTableBy t executing k line Invalid = t
 noticeTableBy t executing k line Unknown = t
 noticeTableBy t executing k line (Body e base n) = noticeLeaves t base n executing k line
 
--- what a notice of execution (true) or reversal (false) answers, and the table afterwards
-abbrev pub noticeAnswer : List ℕ → Bool → List ℕ → Key → ℕ → NoticeAnswer
-noticeAnswer t executing code k line = noticeBy t executing k line (addressed t code)
+-- of a date's code c: "27 no date or outside the years, 28 closing day, both after 1 and before 7" (document 02, Req 08)
+abbrev pub onDay : ℕ → List ℕ → NoticeAnswer → NoticeAnswer
+onDay zero t a = a
+onDay (suc c) t a = cond (tableOk t) (WrongDay (suc c)) InvalidTable
 
-abbrev pub noticeTable : List ℕ → Bool → List ℕ → Key → ℕ → List ℕ
-noticeTable t executing code k line = noticeTableBy t executing k line (addressed t code)
+abbrev pub tableOnDay : ℕ → List ℕ → List ℕ → List ℕ
+tableOnDay zero t t′ = t′
+tableOnDay (suc c) t t′ = t
 
--- THE PROMISE of a notice's call: of execution (true) or reversal (false), for the body with this code, of a line of the order with this key
-abbrev pub NoticePromise : List ℕ → Bool → List ℕ → Key → ℕ → NoticeAnswer → List ℕ → Type 0
-NoticePromise t executing code k line a t′ = (a ≡ noticeAnswer t executing code k line) × (t′ ≡ noticeTable t executing code k line)
+-- what a notice of execution (true) or reversal (false) on the date d answers, and the table afterwards
+abbrev pub noticeAnswer : List ℕ → Bool → List ℕ → Key → ℕ → Date → NoticeAnswer
+noticeAnswer t executing code k line d = onDay (targetCode d) t (noticeBy t executing k line (addressed t code))
+
+abbrev pub noticeTable : List ℕ → Bool → List ℕ → Key → ℕ → Date → List ℕ
+noticeTable t executing code k line d = tableOnDay (targetCode d) t (noticeTableBy t executing k line (addressed t code))
+
+-- THE PROMISE of a notice's call: of execution (true) or reversal (false), for the body with this code, of a line of the order with this key, on a date
+abbrev pub NoticePromise : List ℕ → Bool → List ℕ → Key → ℕ → Date → NoticeAnswer → List ℕ → Type 0
+NoticePromise t executing code k line d a t′ = (a ≡ noticeAnswer t executing code k line d) × (t′ ≡ noticeTable t executing code k line d)
 
 -- DOCUMENT 01'S NUMBERS of an answer: "cents 0 on refusal"
 abbrev refusal : ℕ → NoticeReply
@@ -55,6 +68,7 @@ refusal c = record { code = c; cents = 0 }
 
 abbrev pub noticeReply : NoticeAnswer → NoticeReply
 noticeReply InvalidTable = refusal 1
+noticeReply (WrongDay c) = refusal c
 noticeReply UnknownBody = refusal 7
 noticeReply (Done cents) = record { code = 0; cents = cents }
 noticeReply (Declined c) = refusal c
@@ -63,9 +77,9 @@ abbrev pub noticeCodeOf : NoticeAnswer → ℕ
 noticeCodeOf a = noticeReply a .code
 
 -- the promise in these numbers
-abbrev pub NoticeReplies : List ℕ → Bool → List ℕ → Key → ℕ → ℕ → ℕ → List ℕ → Type 0
-NoticeReplies t executing code k line n cents t′ =
-    (a : NoticeAnswer) × NoticePromise t executing code k line a t′ × (n ≡ noticeReply a .code) × (cents ≡ noticeReply a .cents)
+abbrev pub NoticeReplies : List ℕ → Bool → List ℕ → Key → ℕ → Date → ℕ → ℕ → List ℕ → Type 0
+NoticeReplies t executing code k line d n cents t′ =
+    (a : NoticeAnswer) × NoticePromise t executing code k line d a t′ × (n ≡ noticeReply a .code) × (cents ≡ noticeReply a .cents)
 
 -- TOTALS: "Totals name a body: code (0, 1, 7), used slots, cents paid (executed mandato lines), cents collected (executed reversale lines), and the
 -- balance, collected less paid, which may be below zero. A refusal gives zeros."

@@ -1,5 +1,6 @@
 // The bank's notices of execution and reversal, and a body's totals, on any bytes at all.
 use address::Addressed;
+use calendar::Date;
 use record::Key;
 use rules::Noticed;
 ghost use mathlib.Core.Path.{_≡_};
@@ -10,11 +11,13 @@ ghost use lib.ListN.{length};
 ghost use Rattle.bounds.specs.Bounds.{maxCents, maxSlots};
 ghost use Rattle.record.specs.Slot.{slotSize};
 ghost use Rattle.body.specs.Body.{bodyOk};
-ghost use Rattle.notices.specs.Notices.{noticed, noticeReply, NoticePromise, zeroTotals, bodyTotals, TotalsPromise};
+ghost use Rattle.address.specs.Address.{addressed};
+ghost use Rattle.notices.specs.Notices.{noticed, noticeBy, noticeTableBy, noticeReply, NoticePromise, zeroTotals, bodyTotals, TotalsPromise};
 
 // What a notice's call answers.
 pub enum NoticeAnswer {
     InvalidTable,
+    WrongDay(u64),
     UnknownBody,
     Done(u64),
     Declined(u8),
@@ -44,8 +47,10 @@ fn answer_of(n: Noticed) -> NoticeAnswer
     }
 }
 
+// A notice of a TARGET day.
 fn notice(t: &mut [u8], code: &[u8], executing: bool, key: Key, line: u64) -> NoticeAnswer
-    ensures { λ r. ⌜ NoticePromise (now (t .entry)) executing (now (code .entry)) key line r (now (t .exit)) ⌝ }
+    ensures { λ r. ⌜ (r ≡ noticeBy (now (t .entry)) executing key line (addressed (now (t .entry)) (now (code .entry))))
+        × (now (t .exit) ≡ noticeTableBy (now (t .entry)) executing key line (addressed (now (t .entry)) (now (code .entry)))) ⌝ }
 {
     match address::addressed_by(t, code) {
         Addressed::Invalid => NoticeAnswer::InvalidTable,
@@ -61,18 +66,32 @@ fn notice(t: &mut [u8], code: &[u8], executing: bool, key: Key, line: u64) -> No
     }
 }
 
-// Takes the bank's notice that a line was executed.
-pub fn execute(t: &mut [u8], code: &[u8], key: Key, line: u64) -> NoticeAnswer
-    ensures { λ r. ⌜ NoticePromise (now (t .entry)) true (now (code .entry)) key line r (now (t .exit)) ⌝ }
+// A notice of any day: what is no TARGET day is refused after an invalid table and before an unknown body.
+fn dated(t: &mut [u8], code: &[u8], executing: bool, key: Key, line: u64, day: Date) -> NoticeAnswer
+    ensures { λ r. ⌜ NoticePromise (now (t .entry)) executing (now (code .entry)) key line day r (now (t .exit)) ⌝ }
 {
-    notice(t, code, true, key, line)
+    let refused = target_days::code_of(day);
+    if refused == 0 {
+        return notice(t, code, executing, key, line);
+    }
+    if table::table_ok(t) {
+        return NoticeAnswer::WrongDay(refused);
+    }
+    NoticeAnswer::InvalidTable
 }
 
-// Takes the bank's notice that a line's execution was reversed (storno).
-pub fn reverse(t: &mut [u8], code: &[u8], key: Key, line: u64) -> NoticeAnswer
-    ensures { λ r. ⌜ NoticePromise (now (t .entry)) false (now (code .entry)) key line r (now (t .exit)) ⌝ }
+// Takes the bank's notice that a line was executed on a date.
+pub fn execute(t: &mut [u8], code: &[u8], key: Key, line: u64, day: Date) -> NoticeAnswer
+    ensures { λ r. ⌜ NoticePromise (now (t .entry)) true (now (code .entry)) key line day r (now (t .exit)) ⌝ }
 {
-    notice(t, code, false, key, line)
+    dated(t, code, true, key, line, day)
+}
+
+// Takes the bank's notice that a line's execution was reversed (storno) on a date.
+pub fn reverse(t: &mut [u8], code: &[u8], key: Key, line: u64, day: Date) -> NoticeAnswer
+    ensures { λ r. ⌜ NoticePromise (now (t .entry)) false (now (code .entry)) key line day r (now (t .exit)) ⌝ }
+{
+    dated(t, code, false, key, line, day)
 }
 
 // The numbers of an answer.
@@ -81,6 +100,7 @@ pub fn reply_of(a: NoticeAnswer) -> NoticeReply
 {
     match a {
         NoticeAnswer::InvalidTable => NoticeReply { code: 1, cents: 0 },
+        NoticeAnswer::WrongDay(c) => NoticeReply { code: c, cents: 0 },
         NoticeAnswer::UnknownBody => NoticeReply { code: 7, cents: 0 },
         NoticeAnswer::Done(cents) => NoticeReply { code: 0, cents },
         NoticeAnswer::Declined(c) => NoticeReply {

@@ -1,6 +1,8 @@
 -- Each call either names no body, and then changes nothing and has one answer, with a code of `strayCodes`, on every good table, or is one body's, and
 -- then keeps all but what that body owns, goes by that alone, and is answered with a code of `bodyCodes`.
-use Prim.Native.Nat.{ℕ, _*_, _<_}
+use Prim.Native.Nat.{ℕ, zero, suc, _*_, _<_}
+use native.Mathlib.Omega.{arith}
+use mathlib.Core.Logic.{inl, inr}
 use mathlib.Core.Path.{_≡_, refl, sym, ap, _∙_}
 use mathlib.Core.Bool.{Bool, true, false}
 use mathlib.Core.Option.{Option, none, some}
@@ -10,19 +12,22 @@ use lib.ListN.{length}
 use Rattle.words.specs.Numbers.{put}
 use Rattle.words.proofs.Laws.{Agree}
 use Rattle.record.specs.Slot.{slotSize}
+use Rattle.calendar.specs.declared.Date.{Date}
+use Rattle.target_days.specs.Target.{targetCode}
 use Rattle.record.specs.declared.Key.{Key}
 use Rattle.body.specs.Body.{centsOf}
 use Rattle.body.proofs.Same.{used-agree, records-agree}
 use Rattle.table.specs.Table.{bodies, tableOk}
+use Rattle.address.specs.Address.{addressed}
 use Rattle.service.proofs.Kept.{Kept, unchanged, all-kept}
 use Rattle.service.proofs.Moved.{notice-kept}
 use Rattle.service.proofs.Own.{all-own, notice-same, notice-own}
-use Rattle.notices.specs.Notices.{noticed, noticeBy, noticeTableBy, noticeAnswer, noticeTable, bodyTotals, totalsOf}
+use Rattle.notices.specs.Notices.{noticed, noticeBy, noticeTableBy, onDay, tableOnDay, bodyTotals, totalsOf}
 use Rattle.desk.specs.declared.FlowAnswer.the-variants.{NoRoom, Taken}
 use Rattle.desk.specs.Desk.{Reading, refused, served, flowReads, flowAnswer, flowTable, flowOutcomes}
-use Rattle.theorems.specs.Engine.{Call, flow, execute, reverse, totals, Answer, ofFlow, ofNotice, ofTotals, answerCode, who}
+use Rattle.theorems.specs.Engine.{Call, flow, execute, reverse, totals, Answer, ofFlow, ofNotice, ofTotals, answerCode, namesOn, position, who}
 use Rattle.theorems.specs.Codes.{oneOf, strayCodes, noticeCodes, bodyCodes}
-use Rattle.theorems.proofs.Codes.{body-notice-codes}
+use Rattle.theorems.proofs.Codes.{Or, date-codes, body-notice-codes}
 use Rattle.theorems.proofs.Steps.{answer, after}
 use Rattle.theorems.proofs.Good.{Good, base, size, Alike, Wrote, kept-wrote, alike-left, ready}
 use Rattle.theorems.proofs.Named.{Names, stray, body, names, Reads, refuses, shuts, serves, reads}
@@ -61,18 +66,18 @@ module _ (t₀ : List ℕ) (r : tableOk t₀ ≡ true) where
 
   -- A NOTICE
   module _ (executing : Bool) (code : List ℕ) (k : Key) (line : ℕ) where
-    abbrev noticeAns : List ℕ → Answer
-    noticeAns t = ofNotice (noticeAnswer t executing code k line)
+    abbrev noticeAns : ℕ → List ℕ → Answer
+    noticeAns c t = ofNotice (onDay c t (noticeBy t executing k line (addressed t code)))
 
-    abbrev noticeAft : List ℕ → List ℕ
-    noticeAft t = noticeTable t executing code k line
+    abbrev noticeAft : ℕ → List ℕ → List ℕ
+    noticeAft c t = tableOnDay c t (noticeTableBy t executing k line (addressed t code))
 
-    notice-serves : {w : Option ℕ} → Names t₀ code w → Serves t₀ (7 ∷ []) (noticeCodes executing) noticeAns noticeAft w
+    notice-serves : {w : Option ℕ} → Names t₀ code w → Serves t₀ (7 ∷ 27 ∷ 28 ∷ []) (noticeCodes executing) (noticeAns 0) (noticeAft 0) w
     unfolding noticeBy noticeTableBy
     notice-serves (stray n) =
         record { still = λ t g. rw (n t g); same = λ s t g h. rw (n s g, n t h); code = λ t g. rw (n t g) }
     notice-serves (body b l n) =
-        in-slots (noticeCodes executing) b l noticeAns noticeAft
+        in-slots (noticeCodes executing) b l (noticeAns 0) (noticeAft 0)
         (λ t g. let y = ready t₀ r t g b l in rw (n t g) (notice-kept t (base t₀ b) (size t₀ b) executing k line (y .0) (y .1)))
         (λ s t g h a.
         let x = ready t₀ r s g b l in
@@ -80,6 +85,17 @@ module _ (t₀ : List ℕ) (r : tableOk t₀ ≡ true) where
         rw (n s g, n t h)
         (ap (λ m. ofNotice (noticed m)) (notice-same (size t₀ b) (a .slots) (x .0) (y .0) executing k line), notice-own (size t₀ b) (a .slots) (x .0) (y .0) executing k line (y .1)))
         (λ t g. rw (n t g) (body-notice-codes t (base t₀ b) (size t₀ b) executing k line))
+
+    -- of a date whose code is c
+    dated-serves : (c : ℕ) → Or (7 ∷ 27 ∷ 28 ∷ []) c
+        → Serves t₀ (7 ∷ 27 ∷ 28 ∷ []) (noticeCodes executing) (noticeAns c) (noticeAft c) (position t₀ (namesOn c code))
+    dated-serves zero h = notice-serves (names t₀ r code)
+    dated-serves (suc c) (inl e) = absurd (omega arith)
+    dated-serves (suc c) (inr e) = record {
+      still = λ t g. refl;
+      same = λ s t g h. rw (g .ok, h .ok) refl;
+      code = λ t g. rw (g .ok) e;
+    }
 
   -- TOTALS
   totals-same : (s t : List ℕ) (b : ℕ) → Alike t₀ b s t → bodyTotals s (base t₀ b) (size t₀ b) ≡ bodyTotals t (base t₀ b) (size t₀ b)
@@ -129,6 +145,6 @@ module _ (t₀ : List ℕ) (r : tableOk t₀ ≡ true) where
   -- EVERY CALL
   pub every : (c : Call) → Serves t₀ (strayCodes c) (bodyCodes c) (answer c) (after c) (who t₀ c)
   every (flow f out) = flow-serves f out (reads t₀ r f out)
-  every (execute code k line) = notice-serves true code k line (names t₀ r code)
-  every (reverse code k line) = notice-serves false code k line (names t₀ r code)
+  every (execute code k line d) = dated-serves true code k line (targetCode d) (date-codes d)
+  every (reverse code k line d) = dated-serves false code k line (targetCode d) (date-codes d)
   every (totals code) = totals-serves code (names t₀ r code)

@@ -2,7 +2,7 @@
 use Prim.Native.Nat.{ℕ, zero, suc, _-_}
 use mathlib.Core.Path.{_≡_, refl, sym, ap, _∙_}
 use mathlib.Core.Bool.{Bool, true, false, cond, _&&_, _||_}
-use mathlib.Core.List.{List, _∷_}
+use mathlib.Core.List.{List, [], _∷_}
 use mathlib.Core.Logic.{_⊎_, inl, inr}
 use native.Mathlib.Omega.{arith}
 use lib.Dec.{eqb, leb, ltb}
@@ -13,6 +13,9 @@ use Rattle.codes.specs.declared.Operation.{Operation}
 use Rattle.codes.specs.declared.Operation.the-variants.{Inserimento, Variazione, Annullo, Sostituzione}
 use Rattle.order.specs.declared.Line.{Line}
 use Rattle.order.specs.Ordinativo.{Ordinativo}
+use Rattle.calendar.specs.declared.Date.{Date}
+use Rattle.days.specs.Days.{served}
+use Rattle.target_days.specs.Target.{closing, targetCode}
 use Rattle.record.specs.declared.Key.{Key}
 use Rattle.record.specs.declared.Record.{Record}
 use Rattle.slots.specs.Slots.{findIn, recordsAt}
@@ -30,9 +33,11 @@ use Rattle.service.specs.Service.{noticeComes}
 use Rattle.address.specs.declared.Addressed.{Addressed}
 use Rattle.address.specs.declared.Addressed.the-variants.{Invalid, Unknown, Body}
 use Rattle.notices.specs.declared.NoticeAnswer.{NoticeAnswer}
+use Rattle.notices.specs.declared.NoticeAnswer.the-variants.{WrongDay, InvalidTable as NoTable}
 use Rattle.notices.specs.declared.TotalsAnswer.{TotalsAnswer}
+use Rattle.table.specs.Table.{tableOk}
 use Rattle.address.specs.Address.{addressed}
-use Rattle.notices.specs.Notices.{noticed, noticeBy, noticeCodeOf, bodyTotals, totalsBy, totalsOf}
+use Rattle.notices.specs.Notices.{noticed, noticeBy, onDay, noticeCodeOf, bodyTotals, totalsBy, totalsOf}
 use Rattle.opening.specs.declared.Opened.{Opened}
 use Rattle.opening.specs.declared.Opened.the-variants.{Open, WrongRequest, WrongLength}
 use Rattle.opening.specs.Opening.{openCode}
@@ -43,7 +48,7 @@ use Rattle.theorems.specs.Engine.{Call, flow, execute, reverse, totals, 
 use Rattle.theorems.specs.Codes.{oneOf, openCodes, noticeCodes, callCodes, orderRefusals, orderCodes}
 
 -- 0, or one of these
-abbrev Or : List ℕ → ℕ → Type 0
+abbrev pub Or : List ℕ → ℕ → Type 0
 Or xs c = (c ≡ 0) ⊎ (oneOf xs c ≡ true)
 
 -- AN ORDER: accepted, or refused with one of the codes
@@ -188,6 +193,46 @@ notice-codes t executing k line (Body e base n) =
     let c = noticeCodeOf (noticed (noticeComes t base n executing k line)) in
     or-true (eqb c 1) (or-true (eqb c 7) (body-notice-codes t base n executing k line))
 
+-- a date's code: 0, 27 or 28
+pub date-codes : (d : Date) → Or (7 ∷ 27 ∷ 28 ∷ []) (targetCode d)
+unfolding targetCode
+date-codes d = go (served d) (closing d)
+  where
+    go : (a b : Bool) → Or (7 ∷ 27 ∷ 28 ∷ []) (cond a (cond b 28 0) 27)
+    go true true = inr refl
+    go true false = inl refl
+    go false b = inr refl
+
+strays-more : (executing : Bool) (c : ℕ) → oneOf (1 ∷ 7 ∷ noticeCodes executing) c ≡ true → oneOf (1 ∷ 7 ∷ 27 ∷ 28 ∷ noticeCodes executing) c ≡ true
+strays-more executing c = go (eqb c 1) (eqb c 7) (eqb c 27) (eqb c 28) (oneOf (noticeCodes executing) c)
+  where
+    go : (a b x y z : Bool) → a || (b || z) ≡ true → a || (b || (x || (y || z))) ≡ true
+    go true b x y z e = refl
+    go false true x y z e = refl
+    go false false true y z e = refl
+    go false false false true z e = refl
+    go false false false false z e = e
+
+dated-codes : (t : List ℕ) (executing : Bool) (k : Key) (line : ℕ) (b : Addressed) (c : ℕ) → Or (7 ∷ 27 ∷ 28 ∷ []) c
+    → oneOf (1 ∷ 7 ∷ 27 ∷ 28 ∷ noticeCodes executing) (noticeCodeOf (onDay c t (noticeBy t executing k line b))) ≡ true
+dated-codes t executing k line b zero h = strays-more executing (noticeCodeOf (noticeBy t executing k line b)) (notice-codes t executing k line b)
+dated-codes t executing k line b (suc c) (inl e) = absurd (omega arith)
+dated-codes t executing k line b (suc c) (inr e) = go (tableOk t)
+  where
+    more : (a b x y : Bool) → a || (b || (x || false)) ≡ true → y || (a || (b || (x || oneOf (noticeCodes executing) (suc c)))) ≡ true
+    more a b x true q = refl
+    more true b x false q = refl
+    more false true x false q = refl
+    more false false true false q = refl
+    more false false false false q = absurd (no q)
+      where
+        no : _≡_ {A = Bool} false true → ⊥
+        no z = let y : _≡_ {A = ℕ} 0 1 = cc in omega arith
+
+    go : (v : Bool) → oneOf (1 ∷ 7 ∷ 27 ∷ 28 ∷ noticeCodes executing) (noticeCodeOf (cond v (WrongDay (suc c)) NoTable)) ≡ true
+    go true = more (eqb (suc c) 7) (eqb (suc c) 27) (eqb (suc c) 28) (eqb (suc c) 1) e
+    go false = refl
+
 flow-codes : (f out : List ℕ) (a : FlowAnswer) → oneOf (callCodes (flow f out)) (flowReply a .code) ≡ true
 flow-codes f out InvalidTable = refl
 flow-codes f out TooLong = refl
@@ -208,14 +253,14 @@ totals-codes t code (Body e base n) = refl
 pub call-codes : (c : Call) (t : List ℕ) (a : Answer) (t′ : List ℕ) → Step c t a t′ → oneOf (callCodes c) (answerCode a) ≡ true
 unfolding totalsOf
 call-codes (flow f out) t a t′ s = ap (λ (x : Answer). oneOf (callCodes (flow f out)) (answerCode x)) (s .3) ∙ flow-codes f out (s .0)
-call-codes (execute code k line) t a t′ s =
-    ap (λ (x : Answer). oneOf (callCodes (execute code k line)) (answerCode x)) (s .2)
-    ∙ ap (λ (x : NoticeAnswer). oneOf (callCodes (execute code k line)) (noticeCodeOf x)) (s .1 .0)
-    ∙ notice-codes t true k line (addressed t code)
-call-codes (reverse code k line) t a t′ s =
-    ap (λ (x : Answer). oneOf (callCodes (reverse code k line)) (answerCode x)) (s .2)
-    ∙ ap (λ (x : NoticeAnswer). oneOf (callCodes (reverse code k line)) (noticeCodeOf x)) (s .1 .0)
-    ∙ notice-codes t false k line (addressed t code)
+call-codes (execute code k line d) t a t′ s =
+    ap (λ (x : Answer). oneOf (callCodes (execute code k line d)) (answerCode x)) (s .2)
+    ∙ ap (λ (x : NoticeAnswer). oneOf (callCodes (execute code k line d)) (noticeCodeOf x)) (s .1 .0)
+    ∙ dated-codes t true k line (addressed t code) (targetCode d) (date-codes d)
+call-codes (reverse code k line d) t a t′ s =
+    ap (λ (x : Answer). oneOf (callCodes (reverse code k line d)) (answerCode x)) (s .2)
+    ∙ ap (λ (x : NoticeAnswer). oneOf (callCodes (reverse code k line d)) (noticeCodeOf x)) (s .1 .0)
+    ∙ dated-codes t false k line (addressed t code) (targetCode d) (date-codes d)
 call-codes (totals code) t a t′ s =
     ap (λ (x : Answer). oneOf (callCodes (totals code)) (answerCode x)) (s .2)
     ∙ ap (λ (x : TotalsAnswer). oneOf (callCodes (totals code)) (x .code)) (s .1)

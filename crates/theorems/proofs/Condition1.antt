@@ -1,9 +1,10 @@
 -- CONDITION 1, proved. (Its codes: Codes and Accepted; a refused flow: crates/desk/proofs/Refusals.antt.)
-use Prim.Native.Nat.{ℕ}
+use Prim.Native.Nat.{ℕ, suc, zero}
 use mathlib.Core.Path.{_≡_, refl, ap, _∙_}
 use mathlib.Core.Bool.{Bool}
 use mathlib.Core.List.{List}
 use Rattle.order.specs.Ordinativo.{Ordinativo}
+use Rattle.target_days.specs.Target.{targetCode}
 use Rattle.record.specs.declared.Key.{Key}
 use Rattle.rules.specs.declared.Ruling.{Ruling}
 use Rattle.rules.specs.declared.Ruling.the-variants.{Accepted, Refused}
@@ -14,7 +15,7 @@ use Rattle.service.specs.Service.{orderComes, orderStored, noticeComes, noticeS
 use Rattle.address.specs.declared.Addressed.{Addressed}
 use Rattle.address.specs.declared.Addressed.the-variants.{Invalid, Unknown, Body}
 use Rattle.address.specs.Address.{addressed}
-use Rattle.notices.specs.Notices.{noticed, noticeBy, noticeTableBy, noticeCodeOf}
+use Rattle.notices.specs.Notices.{noticed, noticeBy, noticeTableBy, onDay, tableOnDay, noticeCodeOf}
 use Rattle.opening.specs.declared.Opened.{Opened}
 use Rattle.opening.specs.declared.Opened.the-variants.{Open, WrongRequest, WrongLength}
 use Rattle.opening.specs.Opening.{openCode, openTable}
@@ -41,6 +42,11 @@ addressed-keeps t executing k line Invalid f = refl
 addressed-keeps t executing k line Unknown f = refl
 addressed-keeps t executing k line (Body e base n) f = moved t base executing line (noticeComes t base n executing k line) f
 
+dated-keeps : (t : List ℕ) (executing : Bool) (k : Key) (line : ℕ) (a : Addressed) (c : ℕ)
+    → (noticeCodeOf (onDay c t (noticeBy t executing k line a)) ≡ 0 → ⊥) → tableOnDay c t (noticeTableBy t executing k line a) ≡ t
+dated-keeps t executing k line a zero f = addressed-keeps t executing k line a f
+dated-keeps t executing k line a (suc c) f = refl
+
 opening-keeps : (q t : List ℕ) (a : Opened) → (openCode a ≡ 0 → ⊥) → openTable a q t ≡ t
 opening-keeps q t Open f = absurd (f refl)
 opening-keeps q t WrongRequest f = refl
@@ -54,7 +60,7 @@ condition1 = record {
   answered = λ c t. (answer c t, after c t, steps c t);
   refused-flow = λ t f out a t′ out′ p h. code-keeps t f out h p;
   refused-order = λ t base n year o. stored t base year o (orderComes t base n year o);
-  refused-notice = λ t executing code k line a t′ p f.
-      p .1 ∙ addressed-keeps t executing k line (addressed t code) (λ e. f (ap noticeCodeOf (p .0) ∙ e));
+  refused-notice = λ t executing code k line d a t′ p f.
+      p .1 ∙ dated-keeps t executing k line (addressed t code) (targetCode d) (λ e. f (ap noticeCodeOf (p .0) ∙ e));
   refused-opening = λ q t a t′ p f. p .1 ∙ opening-keeps q t a f;
 }

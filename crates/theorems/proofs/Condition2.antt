@@ -1,5 +1,5 @@
 -- CONDITION 2, proved.
-use Prim.Native.Nat.{ℕ}
+use Prim.Native.Nat.{ℕ, suc, zero}
 use lib.IntN.{pos, _-ℤ_}
 use mathlib.Core.Path.{_≡_, refl, sym, ap, _∙_}
 use mathlib.Core.Bool.{Bool, true, false, cond}
@@ -7,6 +7,8 @@ use mathlib.Core.List.{List}
 use lib.ListN.{length}
 use lib.Dec.{eqb}
 use Rattle.ranges.specs.declared.Found.the-variants.{At, Nothing}
+use Rattle.calendar.specs.declared.Date.{Date}
+use Rattle.target_days.specs.Target.{targetCode}
 use Rattle.record.specs.declared.Key.{Key}
 use Rattle.slots.proofs.Index.{length-records}
 use Rattle.entries.specs.Entry.{slotsOf, placeOf}
@@ -18,11 +20,12 @@ use Rattle.rules.specs.Effects.{recordsMoved}
 use Rattle.service.specs.Service.{noticeComes}
 use Rattle.service.proofs.Moved.{notice-records}
 use Rattle.notices.specs.declared.NoticeAnswer.{NoticeAnswer}
-use Rattle.notices.specs.declared.NoticeAnswer.the-variants.{InvalidTable, UnknownBody}
+use Rattle.notices.specs.declared.NoticeAnswer.the-variants.{InvalidTable, WrongDay, UnknownBody}
 use Rattle.address.specs.declared.Addressed.the-variants.{Invalid, Unknown, Body}
 use Rattle.notices.specs.declared.TotalsAnswer.{TotalsAnswer}
 use Rattle.address.specs.Address.{addressed}
-use Rattle.notices.specs.Notices.{noticed, noticeBy, noticeTableBy, NoticePromise, zeroTotals, bodyTotals, totalsOf, TotalsPromise}
+use Rattle.notices.specs.Notices.{noticed, noticeBy, noticeTableBy, onDay, NoticePromise, zeroTotals, bodyTotals, totalsOf, TotalsPromise}
+use Rattle.notices.proofs.Laws.{only-target}
 use Rattle.request.specs.Request.{needed, requestOk}
 use Rattle.opening.specs.declared.Opened.{Opened}
 use Rattle.opening.specs.declared.Opened.the-variants.{Open, WrongRequest, WrongLength}
@@ -47,17 +50,17 @@ module _ (t : List ℕ) (ok : tableOk t ≡ true) (code : List ℕ) (b : ℕ) (e
   unfolding addressed
   is-body = rw (ok, e)
 
-  noticed-is : (executing : Bool) (k : Key) (line : ℕ) (a : NoticeAnswer) (t′ : List ℕ) → NoticePromise t executing code k line a t′
+  noticed-is : (executing : Bool) (k : Key) (line : ℕ) (d : Date) → targetCode d ≡ 0 → (a : NoticeAnswer) (t′ : List ℕ) → NoticePromise t executing code k line d a t′
       → a ≡ noticed (judgeNotice executing k line (recordsOf b t))
   unfolding noticeBy noticeComes
-  noticed-is executing k line a t′ p = p .0 ∙ ap (noticeBy t executing k line) is-body
+  noticed-is executing k line d o a t′ p = only-target t code executing k line d o p .0 ∙ ap (noticeBy t executing k line) is-body
 
-  moved-is : (executing : Bool) (k : Key) (line : ℕ) (a : NoticeAnswer) (t′ : List ℕ) → NoticePromise t executing code k line a t′
+  moved-is : (executing : Bool) (k : Key) (line : ℕ) (d : Date) → targetCode d ≡ 0 → (a : NoticeAnswer) (t′ : List ℕ) → NoticePromise t executing code k line d a t′
       → recordsAt t′ base size ≡ recordsMoved executing line (recordsOf b t) (judgeNotice executing k line (recordsOf b t))
   unfolding noticeTableBy
-  moved-is executing k line a t′ p =
+  moved-is executing k line d o a t′ p =
       let v = body-at t ok b (found-body t ok code b e) in
-      ap (λ (u : List ℕ). recordsAt u base size) (p .1 ∙ ap (noticeTableBy t executing k line) is-body) ∙ notice-records t base size executing k line (v .inside) (v .valid)
+      ap (λ (u : List ℕ). recordsAt u base size) (only-target t code executing k line d o p .1 ∙ ap (noticeTableBy t executing k line) is-body) ∙ notice-records t base size executing k line (v .inside) (v .valid)
 
   totals-are : (a : TotalsAnswer) → TotalsPromise t code a → a ≡ bodyTotals t base size
   unfolding totalsOf
@@ -73,10 +76,24 @@ module _ (t : List ℕ) (code : List ℕ) where
   unfolding addressed
   no-body ok e = rw (ok, e)
 
-  notice-refused : (executing : Bool) (k : Key) (line : ℕ) (a : NoticeAnswer) (t′ : List ℕ) → NoticePromise t executing code k line a t′
-      → (tableOk t ≡ false → a ≡ InvalidTable) × (tableOk t ≡ true → bodyOf t code ≡ Nothing → a ≡ UnknownBody)
+  notice-refused : (executing : Bool) (k : Key) (line : ℕ) (d : Date) (a : NoticeAnswer) (t′ : List ℕ) → NoticePromise t executing code k line d a t′
+      → (tableOk t ≡ false → a ≡ InvalidTable)
+      × (tableOk t ≡ true → targetCode d ≡ 0 → bodyOf t code ≡ Nothing → a ≡ UnknownBody)
+      × (tableOk t ≡ true → (targetCode d ≡ 0 → ⊥) → a ≡ WrongDay (targetCode d))
   unfolding noticeBy
-  notice-refused executing k line a t′ p = (λ e. p .0 ∙ ap (noticeBy t executing k line) (no-table e), λ ok e. p .0 ∙ ap (noticeBy t executing k line) (no-body ok e))
+  notice-refused executing k line d a t′ p = (
+    λ e. p .0 ∙ invalid (targetCode d) e,
+    λ ok o e. only-target t code executing k line d o p .0 ∙ ap (noticeBy t executing k line) (no-body ok e),
+    λ ok h. p .0 ∙ wrong (targetCode d) ok h,
+  )
+    where
+      invalid : (c : ℕ) → tableOk t ≡ false → onDay c t (noticeBy t executing k line (addressed t code)) ≡ InvalidTable
+      invalid zero e = ap (noticeBy t executing k line) (no-table e)
+      invalid (suc c) e = rw e refl
+
+      wrong : (c : ℕ) → tableOk t ≡ true → (c ≡ 0 → ⊥) → onDay c t (noticeBy t executing k line (addressed t code)) ≡ WrongDay c
+      wrong zero ok h = absurd (h refl)
+      wrong (suc c) ok h = rw ok refl
 
   totals-refused : (a : TotalsAnswer) → TotalsPromise t code a → (tableOk t ≡ false → a ≡ zeroTotals 1) × (tableOk t ≡ true → bodyOf t code ≡ Nothing → a ≡ zeroTotals 7)
   unfolding totalsOf
@@ -102,15 +119,15 @@ condition2 = record {
   moved = moved-is;
   exactly = λ t ok b l year o. order-exactly t (placeOf t (entryOf b)) (slotsOf t (entryOf b)) (body-at t ok b l .valid) year o;
   answer = λ t ok b l year o. order-answer t (placeOf t (entryOf b)) (slotsOf t (entryOf b)) (body-at t ok b l .valid) year o;
-  notice-exactly = λ t ok code b e executing k line a t′ p.
-      notice-exactly t executing code k line a t′ p (entryOf b) (placeOf t (entryOf b)) (slotsOf t (entryOf b)) (is-body t ok code b e);
-  notice-answer = λ t ok code b e executing k line a t′ p.
-      notice-answer t executing code k line a t′ p (entryOf b) (placeOf t (entryOf b)) (slotsOf t (entryOf b)) (is-body t ok code b e);
+  notice-exactly = λ t ok code b e executing k line d o a t′ p.
+      notice-exactly t executing code k line d o a t′ p (entryOf b) (placeOf t (entryOf b)) (slotsOf t (entryOf b)) (is-body t ok code b e);
+  notice-answer = λ t ok code b e executing k line d o a t′ p.
+      notice-answer t executing code k line d o a t′ p (entryOf b) (placeOf t (entryOf b)) (slotsOf t (entryOf b)) (is-body t ok code b e);
   notice-refused = λ t executing code. notice-refused t code executing;
   totals-refused = totals-refused;
   opening = opening-is;
-  no-such-order = λ t ok code b e executing k line a t′ p.
-      no-such-key t executing code k line a t′ p (entryOf b) (placeOf t (entryOf b)) (slotsOf t (entryOf b)) (is-body t ok code b e);
+  no-such-order = λ t ok code b e executing k line d o a t′ p.
+      no-such-key t executing code k line d o a t′ p (entryOf b) (placeOf t (entryOf b)) (slotsOf t (entryOf b)) (is-body t ok code b e);
   totals = λ t ok code b e a p.
       let s = totals-are t ok code b e a p in (
         ap (λ (x : TotalsAnswer). x .code) s,

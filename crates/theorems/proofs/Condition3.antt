@@ -35,8 +35,8 @@ use Rattle.theorems.proofs.Calls.{Owned, Serves, every}
 -- 1 is no code of a call on a valid table
 no-one : (c : Call) → (oneOf (strayCodes c) 1 ≡ false) × (oneOf (bodyCodes c) 1 ≡ false)
 no-one (flow f out) = (refl, refl)
-no-one (execute code k line) = (refl, refl)
-no-one (reverse code k line) = (refl, refl)
+no-one (execute code k line d) = (refl, refl)
+no-one (reverse code k line d) = (refl, refl)
 no-one (totals code) = (refl, refl)
 
 module _ (E : Engine) (t₀ : List ℕ) (r : tableOk t₀ ≡ true) where
@@ -102,8 +102,8 @@ module _ (E : Engine) (t₀ : List ℕ) (r : tableOk t₀ ≡ true) where
 
     named : (c : Call) → names now c ≡ names t₀ c
     named (flow f out) = ap (λ (x : Option (List ℕ)). cond (leb (length f) maxFlow) x none) (by-verdict f (verdictOf f))
-    named (execute code k line) = refl
-    named (reverse code k line) = refl
+    named (execute code k line d) = refl
+    named (reverse code k line d) = refl
     named (totals code) = refl
 
     placed : (x : Option (List ℕ)) → position now x ≡ position t₀ x

@@ -33,7 +33,10 @@ use Rattle.address.specs.Address.{addressed}
 use Rattle.address.proofs.Laws.{slots}
 use Rattle.notices.specs.declared.NoticeAnswer.{NoticeAnswer}
 use Rattle.notices.specs.declared.NoticeAnswer.the-variants.{Declined}
+use Rattle.calendar.specs.declared.Date.{Date}
+use Rattle.target_days.specs.Target.{targetCode}
 use Rattle.notices.specs.Notices.{noticed, noticeBy, noticeTableBy, NoticePromise, noticeCodeOf}
+use Rattle.notices.proofs.Laws.{only-target}
 use Rattle.theorems.proofs.Codes.{order-coded, never-zero, noticed-code}
 use Rattle.theorems.specs.Condition2.{Exactly, None, InTurn, Strange, kind, number}
 
@@ -113,11 +116,12 @@ module _ (t : List ℕ) (base n : ℕ) (ok : bodyOk t base n ≡ true) where
     )
 
 -- A NOTICE'S CALL that keeps its promise, for a code that names a body
-module _ (t : List ℕ) (executing : Bool) (code : List ℕ) (k : Key) (line : ℕ) (a : NoticeAnswer) (t′ : List ℕ) (p : NoticePromise t executing code k line a t′)
+module _ (t : List ℕ) (executing : Bool) (code : List ℕ) (k : Key) (line : ℕ) (d : Date) (o : targetCode d ≡ 0) (a : NoticeAnswer) (t′ : List ℕ)
+    (p : NoticePromise t executing code k line d a t′)
     (at base n : ℕ) (e : addressed t code ≡ Body at base n) where
   comes : a ≡ noticed (noticeComes t base n executing k line)
   unfolding noticeBy
-  comes = p .0 ∙ ap (noticeBy t executing k line) e
+  comes = only-target t code executing k line d o p .0 ∙ ap (noticeBy t executing k line) e
 
   code-is : noticeCodeOf a ≡ noticeCode (noticeComes t base n executing k line)
   code-is = ap noticeCodeOf comes ∙ noticed-code (noticeComes t base n executing k line)
@@ -155,6 +159,6 @@ module _ (t : List ℕ) (executing : Bool) (code : List ℕ) (k : Key) (line : �
       go : (f : Found) → findIn (recordsAt t base n) 0 k ≡ f → (a ≡ Declined 16) × (t′ ≡ t)
       go Nothing f = (
         comes ∙ ap (λ (x : Found). noticed (noticeAt executing line (recordsAt t base n) x)) f,
-        p .1 ∙ ap (noticeTableBy t executing k line) e ∙ ap (λ (x : Found). noticeStored t base executing line (noticeAt executing line (recordsAt t base n) x)) f,
+        only-target t code executing k line d o p .1 ∙ ap (noticeTableBy t executing k line) e ∙ ap (λ (x : Found). noticeStored t base executing line (noticeAt executing line (recordsAt t base n) x)) f,
       )
       go (At i) f = absurd (never-found i f s)

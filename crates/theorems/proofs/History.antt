@@ -7,6 +7,8 @@ use mathlib.Core.Option.{Option, none, some}
 use mathlib.Core.List.{List, []}
 use native.Mathlib.Omega.{arith}
 use Rattle.ranges.proofs.Laws.{get-zeros}
+use Rattle.calendar.specs.declared.Date.{Date}
+use Rattle.target_days.specs.Target.{targetCode}
 use Rattle.record.specs.declared.Key.{Key}
 use Rattle.record.specs.declared.Record.{Record}
 use Rattle.record.specs.Slot.{slotSize}
@@ -31,7 +33,7 @@ use Rattle.opening.specs.Opening.{opened}
 use Rattle.opening.proofs.Valid.{opened-valid, opened-bodies, past}
 use Rattle.isolation.proofs.Runs.{good-run}
 use Rattle.isolation.proofs.History.{balance}
-use Rattle.theorems.specs.Engine.{Call, flow, execute, reverse, totals, Answer, Engine, who, machine, recordsOf, tableAfter}
+use Rattle.theorems.specs.Engine.{Call, flow, execute, reverse, totals, Answer, Engine, who, machine, recordsOf, tableAfter, namesOn, position}
 use Rattle.theorems.specs.History.{Weight, ofExecution, ofReversal, executions, reversals, Which, Value, weight, worth, ofKind, itsCents, cash, withKey, onLine, perTime, logOf, History, HistoryValid, HistoryOpened}
 use Rattle.theorems.proofs.Steps.{answer, after, one-step}
 use Rattle.theorems.proofs.Good.{Good, fresh, base, size, inside, find-is, place-is, slots-is, ready, owned-alike}
@@ -78,34 +80,40 @@ module _ (t₀ : List ℕ) (r : tableOk t₀ ≡ true) (w : Weight) (h : List Re
         rw (e t g)
         (ap (λ (x : ℕ). x + 0) (ap h (all-records t (base t₀ a) (size t₀ a) year os (z .0) (z .1) ws y) ∙ W .orders (size t₀ a) year os (recordsAt t (base t₀ a) (size t₀ a))))
 
-    execute-moves : (code : List ℕ) (k : Key) (line : ℕ) {o : Option ℕ} → Names t₀ code o → Moves (execute code k line) t o
+    execute-moves : (code : List ℕ) (k : Key) (line : ℕ) (d : Date) → targetCode d ≡ 0 → {o : Option ℕ} → Names t₀ code o → Moves (execute code k line d) t o
     unfolding noticeBy noticeTableBy noticeComes
-    execute-moves code k line (stray n) = tt
-    execute-moves code k line (body a l n) =
+    execute-moves code k line d q (stray n) = tt
+    execute-moves code k line d q (body a l n) =
         let z = ready t₀ r t g a l in
         let m = judgeNotice true k line (recordsAt t (base t₀ a) (size t₀ a)) in
         let x = ap h (notice-records t (base t₀ a) (size t₀ a) true k line (z .0) (z .1)) in
         let y = W .executes t (base t₀ a) (size t₀ a) (z .1) k line m refl in
-        rw (n t g) (omega arith)
+        rw (q, n t g) (omega arith)
 
-    reverse-moves : (code : List ℕ) (k : Key) (line : ℕ) {o : Option ℕ} → Names t₀ code o → Moves (reverse code k line) t o
+    reverse-moves : (code : List ℕ) (k : Key) (line : ℕ) (d : Date) → targetCode d ≡ 0 → {o : Option ℕ} → Names t₀ code o → Moves (reverse code k line d) t o
     unfolding noticeBy noticeTableBy noticeComes
-    reverse-moves code k line (stray n) = tt
-    reverse-moves code k line (body a l n) =
+    reverse-moves code k line d q (stray n) = tt
+    reverse-moves code k line d q (body a l n) =
         let z = ready t₀ r t g a l in
         let m = judgeNotice false k line (recordsAt t (base t₀ a) (size t₀ a)) in
         let x = ap h (notice-records t (base t₀ a) (size t₀ a) false k line (z .0) (z .1)) in
         let y = W .reverses t (base t₀ a) (size t₀ a) (z .1) k line m refl in
-        rw (n t g) (omega arith)
+        rw (q, n t g) (omega arith)
 
     totals-moves : (code : List ℕ) {o : Option ℕ} → Names t₀ code o → Moves (totals code) t o
     totals-moves code (stray n) = tt
     totals-moves code (body a l n) = refl
 
+    -- a call with a date that has the code n: on no TARGET day it is no body's
+    on-date : (c : Call) (code : List ℕ) (d : Date) (n : ℕ) → targetCode d ≡ n → (targetCode d ≡ 0 → Moves c t (position t₀ (some code)))
+        → Moves c t (position t₀ (namesOn n code))
+    on-date c code d zero q f = f q
+    on-date c code d (suc n) q f = tt
+
     moves : (c : Call) → Moves c t (who t₀ c)
     moves (flow f out) = flow-moves f out (reads t₀ r f out)
-    moves (execute code k line) = execute-moves code k line (names t₀ r code)
-    moves (reverse code k line) = reverse-moves code k line (names t₀ r code)
+    moves (execute code k line d) = on-date (execute code k line d) code d (targetCode d) refl (λ q. execute-moves code k line d q (names t₀ r code))
+    moves (reverse code k line d) = on-date (reverse code k line d) code d (targetCode d) refl (λ q. reverse-moves code k line d q (names t₀ r code))
     moves (totals code) = totals-moves code (names t₀ r code)
 
   module _ (E : Engine) (b : ℕ) (l : b < bodies t₀) (cs : List Call) where

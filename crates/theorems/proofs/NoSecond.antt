@@ -25,11 +25,13 @@ pub no-second : NoSecond
 no-second = record {
   opening = one-open;
   flow = λ t f out a b u v x y m n. (one (m .0) (n .0), one (m .1) (n .1), one (m .2) (n .2));
-  notice = λ t executing code k line a b u v m n. (one (m .0) (n .0), one (m .1) (n .1));
+  notice = λ t executing code k line d a b u v m n. (one (m .0) (n .0), one (m .1) (n .1));
   totals = λ t code a b m n. one m n;
   field = λ s place a b m n. one m n;
   name = λ s place a b m n. one m n;
   text = λ s place a b m n. one m n;
+  days = λ a b x y m n. one m n;
+  first-day = λ d x y m n. one m n;
   open-replies = λ q t m n u v x y. let e = one-open q t (x .0) (y .0) u v (x .1) (y .1) in (same openCode (e .0) (x .2) (y .2), e .1);
   flow-replies = λ t f out m n u v x y p q.
       let e = ap flowReply (one (p .1 .0) (q .1 .0)) in
@@ -38,7 +40,7 @@ no-second = record {
       let orders = same (λ (r : FlowReply). r .orders) e (p .2 .2) (q .2 .2) in
       let accepted = same (λ (r : FlowReply). r .accepted) e (p .2 .3) (q .2 .3) in
       (λ i. record { code = code i; place = place i; orders = orders i; accepted = accepted i }, one (p .1 .1) (q .1 .1), one (p .1 .2) (q .1 .2));
-  notice-replies = λ t executing code k line m n cents dents u v x y.
+  notice-replies = λ t executing code k line d m n cents dents u v x y.
       let e = one (x .1 .0) (y .1 .0) in
       (same noticeCodeOf e (x .2) (y .2), same (λ (a : NoticeAnswer). noticeReply a .cents) e (x .3) (y .3), one (x .1 .1) (y .1 .1));
 }

@@ -20,11 +20,11 @@ abbrev pub openCodes : List ℕ
 openCodes = 0 ∷ 9 ∷ 10 ∷ []
 
 -- A CALL THAT NAMES NO BODY of a valid table. A flow: "2 the flow is longer than 32,768 bytes; 3 the markup breaks; 4 the structure breaks; 5 a field
--- breaks; 6 codice_ABI_BT isn't the table's; 7 no body has this code". The others: 7
+-- breaks; 6 codice_ABI_BT isn't the table's; 7 no body has this code". A notice: 7, or "27 no date or outside the years, 28 closing day" (Req 08). Totals: 7
 abbrev pub strayCodes : Call → List ℕ
 strayCodes (flow f out) = 2 ∷ 3 ∷ 4 ∷ 5 ∷ 6 ∷ 7 ∷ []
-strayCodes (execute code k line) = 7 ∷ []
-strayCodes (reverse code k line) = 7 ∷ []
+strayCodes (execute code k line d) = 7 ∷ 27 ∷ 28 ∷ []
+strayCodes (reverse code k line d) = 7 ∷ 27 ∷ 28 ∷ []
 strayCodes (totals code) = 7 ∷ []
 
 -- a notice for a body: "16 (no such order), 17, 20 (no such line), then for execution 21 (already executed), for reversal 22 (not executed)"
@@ -35,8 +35,8 @@ noticeCodes false = 0 ∷ 16 ∷ 17 ∷ 20 ∷ 22 ∷ []
 -- A CALL THAT NAMES A BODY. A flow: "8 the outcome buffer has under 16 bytes per order .. Otherwise the code is 0"
 abbrev pub bodyCodes : Call → List ℕ
 bodyCodes (flow f out) = 0 ∷ 8 ∷ []
-bodyCodes (execute code k line) = noticeCodes true
-bodyCodes (reverse code k line) = noticeCodes false
+bodyCodes (execute code k line d) = noticeCodes true
+bodyCodes (reverse code k line d) = noticeCodes false
 bodyCodes (totals code) = 0 ∷ []
 
 -- ANY CALL: "1 the table isn't valid", or one of those

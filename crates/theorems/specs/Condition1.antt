@@ -3,6 +3,7 @@ use Prim.Native.Nat.{ℕ}
 use mathlib.Core.Path.{_≡_}
 use mathlib.Core.Bool.{Bool, true}
 use mathlib.Core.List.{List}
+use Rattle.calendar.specs.declared.Date.{Date}
 use Rattle.record.specs.declared.Key.{Key}
 use Rattle.order.specs.Ordinativo.{Ordinativo}
 use Rattle.rules.specs.Rules.{orderCode}
@@ -29,7 +30,7 @@ pub record Condition1 : Type 0 where
   pub refused-flow : (t f out : List ℕ) (a : FlowAnswer) (t′ out′ : List ℕ) → FlowPromise t f out a t′ out′ → (flowCode a ≡ 0 → ⊥) → (t′ ≡ t) × (out′ ≡ out)
   -- "a refused order or notice changes no record." No byte of the table
   pub refused-order : (t : List ℕ) (base n year : ℕ) (o : Ordinativo) → (orderCode (orderComes t base n year o) ≡ 0 → ⊥) → orderLeaves t base n year o ≡ t
-  pub refused-notice : (t : List ℕ) (executing : Bool) (code : List ℕ) (k : Key) (line : ℕ) (a : NoticeAnswer) (t′ : List ℕ)
-      → NoticePromise t executing code k line a t′ → (noticeCodeOf a ≡ 0 → ⊥) → t′ ≡ t
+  pub refused-notice : (t : List ℕ) (executing : Bool) (code : List ℕ) (k : Key) (line : ℕ) (d : Date) (a : NoticeAnswer) (t′ : List ℕ)
+      → NoticePromise t executing code k line d a t′ → (noticeCodeOf a ≡ 0 → ⊥) → t′ ≡ t
   -- and of opening, in document 01's words: "Codes 1 to 10 change no buffer"
   pub refused-opening : (q t : List ℕ) (a : Opened) (t′ : List ℕ) → OpenPromise q t a t′ → (openCode a ≡ 0 → ⊥) → t′ ≡ t

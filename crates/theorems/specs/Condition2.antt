@@ -7,6 +7,8 @@ use mathlib.Core.List.{List, [], _∷_, _++_}
 use lib.ListN.{length}
 use lib.Dec.{eqb}
 use Rattle.ranges.specs.declared.Found.the-variants.{At, Nothing}
+use Rattle.calendar.specs.declared.Date.{Date}
+use Rattle.target_days.specs.Target.{targetCode}
 use Rattle.record.specs.declared.Key.{Key}
 use Rattle.slots.specs.Slots.{recordsAt}
 use Rattle.body.specs.Body.{centsOf}
@@ -24,7 +26,7 @@ use Rattle.rules.specs.Effects.{recordsBy, allRecords, recordsMoved}
 use Rattle.rules.specs.Listed.{Applies, turn, NoticeApplies, noticeTurn}
 use Rattle.service.specs.Service.{orderComes}
 use Rattle.notices.specs.declared.NoticeAnswer.{NoticeAnswer}
-use Rattle.notices.specs.declared.NoticeAnswer.the-variants.{InvalidTable, UnknownBody, Declined}
+use Rattle.notices.specs.declared.NoticeAnswer.the-variants.{InvalidTable, WrongDay, UnknownBody, Declined}
 use Rattle.notices.specs.declared.TotalsAnswer.{TotalsAnswer}
 use Rattle.notices.specs.Notices.{noticed, NoticePromise, noticeCodeOf, zeroTotals, TotalsPromise}
 use Rattle.request.specs.Request.{needed, requestOk}
@@ -61,13 +63,14 @@ None applies = (c : ℕ) → applies c → ⊥
 abbrev pub InTurn : (ℕ → ℕ) → (ℕ → Type 0) → ℕ → Type 0
 InTurn turn applies code = applies code × ((c : ℕ) → applies c → turn code ≤ turn c)
 
--- of every order for a body of a valid table, and of every notice for one that keeps its promise, with its answer and the table afterwards
+-- of every order for a body of a valid table, and of every notice for one on a TARGET day that keeps its promise, with its answer and the table afterwards
 abbrev pub EachOrder : (List ℕ → ℕ → ℕ → Ordinativo → Type 0) → Type 0
 EachOrder P = (t : List ℕ) → tableOk t ≡ true → (b : ℕ) → b < bodies t → (year : ℕ) (o : Ordinativo) → P t b year o
 
 abbrev pub EachNotice : (List ℕ → ℕ → Bool → Key → ℕ → NoticeAnswer → List ℕ → Type 0) → Type 0
 EachNotice P = (t : List ℕ) → tableOk t ≡ true → (code : List ℕ) (b : ℕ) → bodyOf t code ≡ At b
-    → (executing : Bool) (k : Key) (line : ℕ) (a : NoticeAnswer) (t′ : List ℕ) → NoticePromise t executing code k line a t′
+    → (executing : Bool) (k : Key) (line : ℕ) (d : Date) → targetCode d ≡ 0
+    → (a : NoticeAnswer) (t′ : List ℕ) → NoticePromise t executing code k line d a t′
     → P t b executing k line a t′
 
 -- A FLOW THAT IS TAKEN, on a table t with the outcome buffer out′ and the table t′ afterwards
@@ -115,9 +118,12 @@ pub record Condition2 : Type 0 where
   pub notice-answer : EachNotice (λ t b executing k line a t′. (c : ℕ) → (c ≡ 0 → ⊥)
       → Exactly (noticeCodeOf a ≡ c) (InTurn noticeTurn (NoticeApplies executing k line (recordsOf b t)) c))
   -- "1 the table isn't valid; .. 7 no body has this code", of a notice and of totals: "A refusal gives zeros"
-  pub notice-refused : (t : List ℕ) (executing : Bool) (code : List ℕ) (k : Key) (line : ℕ) (a : NoticeAnswer) (t′ : List ℕ)
-      → NoticePromise t executing code k line a t′
-      → (tableOk t ≡ false → a ≡ InvalidTable) × (tableOk t ≡ true → bodyOf t code ≡ Nothing → a ≡ UnknownBody)
+  pub notice-refused : (t : List ℕ) (executing : Bool) (code : List ℕ) (k : Key) (line : ℕ) (d : Date) (a : NoticeAnswer) (t′ : List ℕ)
+      → NoticePromise t executing code k line d a t′
+      → (tableOk t ≡ false → a ≡ InvalidTable)
+      × (tableOk t ≡ true → targetCode d ≡ 0 → bodyOf t code ≡ Nothing → a ≡ UnknownBody)
+      -- "27 no date or outside the years, 28 closing day, both after 1 and before 7"
+      × (tableOk t ≡ true → (targetCode d ≡ 0 → ⊥) → a ≡ WrongDay (targetCode d))
   pub totals-refused : (t code : List ℕ) (a : TotalsAnswer) → TotalsPromise t code a
       → (tableOk t ≡ false → a ≡ zeroTotals 1) × (tableOk t ≡ true → bodyOf t code ≡ Nothing → a ≡ zeroTotals 7)
   -- "9 opening: ABI digits, length, count, .. is wrong; 10 opening: the buffer hasn't the needed length"

@@ -10,6 +10,8 @@ use lib.Dec.{leb}
 use Rattle.scan.specs.Bytes.{part, textIs}
 use Rattle.ranges.specs.declared.Found.{Found}
 use Rattle.ranges.specs.declared.Found.the-variants.{At, Nothing}
+use Rattle.calendar.specs.declared.Date.{Date}
+use Rattle.target_days.specs.Target.{targetCode}
 use Rattle.record.specs.Slot.{slotSize}
 use Rattle.record.specs.declared.Key.{Key}
 use Rattle.record.specs.declared.Record.{Record}
@@ -30,9 +32,9 @@ use Rattle.isolation.specs.Machine.{Machine, stateAfter}
 pub data Call : Type 0 where
   -- a flow's bytes, and those of the outcome buffer that it lends
   flow : List ℕ → List ℕ → Call
-  -- a notice of execution or reversal: body code; kind, esercizio and number; line
-  execute : List ℕ → Key → ℕ → Call
-  reverse : List ℕ → Key → ℕ → Call
+  -- a notice of execution or reversal: body code; kind, esercizio and number; line; date
+  execute : List ℕ → Key → ℕ → Date → Call
+  reverse : List ℕ → Key → ℕ → Date → Call
   -- body code
   totals : List ℕ → Call
 
@@ -45,8 +47,8 @@ pub data Answer : Type 0 where
 -- what each call promises: on the table t, the answer a and the table t′ afterwards
 abbrev pub Step : Call → List ℕ → Answer → List ℕ → Type 0
 Step (flow f out) t a t′ = (r : FlowAnswer) × (out′ : List ℕ) × FlowPromise t f out r t′ out′ × (a ≡ ofFlow r out′)
-Step (execute code k line) t a t′ = (r : NoticeAnswer) × NoticePromise t true code k line r t′ × (a ≡ ofNotice r)
-Step (reverse code k line) t a t′ = (r : NoticeAnswer) × NoticePromise t false code k line r t′ × (a ≡ ofNotice r)
+Step (execute code k line d) t a t′ = (r : NoticeAnswer) × NoticePromise t true code k line d r t′ × (a ≡ ofNotice r)
+Step (reverse code k line d) t a t′ = (r : NoticeAnswer) × NoticePromise t false code k line d r t′ × (a ≡ ofNotice r)
 Step (totals code) t a t′ = (r : TotalsAnswer) × TotalsPromise t code r × (a ≡ ofTotals r) × (t′ ≡ t)
 
 -- an engine that keeps the promises on every table
@@ -75,10 +77,15 @@ namesIn t₀ f StructureBreaks = none
 namesIn t₀ f (FieldBreaks p) = none
 namesIn t₀ f (Stands at) = cond (textIs (abiOf t₀) (headerOf f at .abi)) (some (headerOf f at .ente)) none
 
+-- a notice names a body when its date is a TARGET day: by its code
+abbrev pub namesOn : ℕ → List ℕ → Option (List ℕ)
+namesOn zero code = some code
+namesOn (suc c) code = none
+
 abbrev pub names : List ℕ → Call → Option (List ℕ)
 names t₀ (flow f out) = cond (leb (length f) maxFlow) (namesIn t₀ f (verdictOf f)) none
-names t₀ (execute code k line) = some code
-names t₀ (reverse code k line) = some code
+names t₀ (execute code k line d) = namesOn (targetCode d) code
+names t₀ (reverse code k line d) = namesOn (targetCode d) code
 names t₀ (totals code) = some code
 
 abbrev pub whichBody : Found → Option ℕ

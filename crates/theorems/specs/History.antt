@@ -12,7 +12,7 @@ use Rattle.record.specs.Slot.{keyOf}
 use Rattle.body.specs.Body.{centsOf}
 use Rattle.table.specs.Table.{bodies, tableOk}
 use Rattle.notices.specs.declared.NoticeAnswer.{NoticeAnswer}
-use Rattle.notices.specs.declared.NoticeAnswer.the-variants.{InvalidTable, UnknownBody, Done, Declined}
+use Rattle.notices.specs.declared.NoticeAnswer.the-variants.{InvalidTable, WrongDay, UnknownBody, Done, Declined}
 use Rattle.notices.specs.declared.TotalsAnswer.{TotalsAnswer}
 use Rattle.notices.specs.Notices.{TotalsPromise}
 use Rattle.opening.specs.Opening.{OpenReplies}
@@ -32,14 +32,14 @@ weighed w k n (ofTotals a) = 0
 
 -- of a line of the log: the weight of an execution, or of a reversal; other calls weigh nothing
 abbrev pub ofExecution : Weight → Call → Answer → ℕ
-ofExecution w (execute code k n) a = weighed w k n a
-ofExecution w (reverse code k n) a = 0
+ofExecution w (execute code k n d) a = weighed w k n a
+ofExecution w (reverse code k n d) a = 0
 ofExecution w (flow f out) a = 0
 ofExecution w (totals code) a = 0
 
 abbrev pub ofReversal : Weight → Call → Answer → ℕ
-ofReversal w (reverse code k n) a = weighed w k n a
-ofReversal w (execute code k n) a = 0
+ofReversal w (reverse code k n d) a = weighed w k n a
+ofReversal w (execute code k n d) a = 0
 ofReversal w (flow f out) a = 0
 ofReversal w (totals code) a = 0
 
@@ -62,6 +62,7 @@ abbrev pub weight : Which → Value → Weight
 weight p v k n (Done cents) = cond (p k) (v n cents) 0
 weight p v k n (Declined c) = 0
 weight p v k n InvalidTable = 0
+weight p v k n (WrongDay c) = 0
 weight p v k n UnknownBody = 0
 
 -- what the executed lines of such orders among the records are worth

@@ -7,6 +7,11 @@ use mathlib.Core.Bool.{Bool}
 use mathlib.Core.List.{List}
 use Rattle.children.specs.declared.FieldSpans.{FieldSpans}
 use Rattle.children.specs.Child.{FieldPromise, ownName, ownText}
+use Rattle.calendar.specs.declared.Date.{Date}
+use Rattle.days.specs.declared.Between.{Between}
+use Rattle.days.specs.Days.{DaysPromise}
+use Rattle.target_days.specs.declared.FirstDay.{FirstDay}
+use Rattle.target_days.specs.Target.{FirstPromise}
 use Rattle.record.specs.declared.Key.{Key}
 use Rattle.opening.specs.declared.Opened.{Opened}
 use Rattle.opening.specs.Opening.{OpenPromise, OpenReplies}
@@ -21,17 +26,20 @@ pub record NoSecond : Type 0 where
   pub opening : (q t : List ℕ) (a b : Opened) (u v : List ℕ) → OpenPromise q t a u → OpenPromise q t b v → (a ≡ b) × (u ≡ v)
   pub flow : (t f out : List ℕ) (a b : FlowAnswer) (u v x y : List ℕ) → FlowPromise t f out a u x → FlowPromise t f out b v y → (a ≡ b) × (u ≡ v) × (x ≡ y)
   -- execution (true) and reversal (false)
-  pub notice : (t : List ℕ) (executing : Bool) (code : List ℕ) (k : Key) (line : ℕ) (a b : NoticeAnswer) (u v : List ℕ)
-      → NoticePromise t executing code k line a u → NoticePromise t executing code k line b v → (a ≡ b) × (u ≡ v)
+  pub notice : (t : List ℕ) (executing : Bool) (code : List ℕ) (k : Key) (line : ℕ) (d : Date) (a b : NoticeAnswer) (u v : List ℕ)
+      → NoticePromise t executing code k line d a u → NoticePromise t executing code k line d b v → (a ≡ b) × (u ≡ v)
   -- the exported function's promise too, of the record of the five numbers that it writes
   pub totals : (t code : List ℕ) (a b : TotalsAnswer) → TotalsPromise t code a → TotalsPromise t code b → a ≡ b
   -- a field's own words: where they stand in the flow, and so which they are
   pub field : (s : List ℕ) (place : ℕ) (a b : FieldSpans) → FieldPromise s place a → FieldPromise s place b → a ≡ b
   pub name : (s : List ℕ) (place : ℕ) (a b : List ℕ) → a ≡ ownName s place → b ≡ ownName s place → a ≡ b
   pub text : (s : List ℕ) (place : ℕ) (a b : List ℕ) → a ≡ ownText s place → b ≡ ownText s place → a ≡ b
+  -- dates (Req 08), the exported functions' promises too
+  pub days : (a b : Date) (x y : Between) → DaysPromise a b x → DaysPromise a b y → x ≡ y
+  pub first-day : (d : Date) (x y : FirstDay) → FirstPromise d x → FirstPromise d y → x ≡ y
   -- the other exported functions, in document 01's numbers
   pub open-replies : (q t : List ℕ) (m n : ℕ) (u v : List ℕ) → OpenReplies q t m u → OpenReplies q t n v → (m ≡ n) × (u ≡ v)
   pub flow-replies : (t f out : List ℕ) (m n : FlowReply) (u v x y : List ℕ) → FlowReplies t f out m u x → FlowReplies t f out n v y
       → (m ≡ n) × (u ≡ v) × (x ≡ y)
-  pub notice-replies : (t : List ℕ) (executing : Bool) (code : List ℕ) (k : Key) (line m n cents dents : ℕ) (u v : List ℕ)
-      → NoticeReplies t executing code k line m cents u → NoticeReplies t executing code k line n dents v → (m ≡ n) × (cents ≡ dents) × (u ≡ v)
+  pub notice-replies : (t : List ℕ) (executing : Bool) (code : List ℕ) (k : Key) (line : ℕ) (d : Date) (m n cents dents : ℕ) (u v : List ℕ)
+      → NoticeReplies t executing code k line d m cents u → NoticeReplies t executing code k line d n dents v → (m ≡ n) × (cents ≡ dents) × (u ≡ v)

@@ -15,6 +15,10 @@ use Rattle.rules.specs.declared.Situation.the-variants.{Waiting}
 use Rattle.service.specs.Service.{orderComes, orderStored, orderLeaves, outcomeBytes, allLeave, allOutcomes, allAccepted, noticeComes}
 use Rattle.notices.specs.declared.NoticeAnswer.the-variants.{Done, Declined}
 use Rattle.address.specs.Address.{addressed}
+use Rattle.calendar.specs.declared.Date.{Date}
+use Rattle.days.specs.Days.{lengthAt, startOf, monthOf, numberOf, weekday, served as daysServed}
+use Rattle.target_days.specs.Easter.{paschal, fullMoon, sundayAfter, easter}
+use Rattle.target_days.specs.Target.{weekend, fixedClosing, marchDay, closesOn, closing, targetCode}
 use Rattle.notices.specs.Notices.{noticeBy, noticeAnswer, bodyTotals, totalsOf}
 use Rattle.record.specs.declared.Key.{Key}
 use Rattle.desk.specs.declared.FlowAnswer.the-variants.{Taken, BrokenField}
@@ -53,6 +57,10 @@ annul = orderTo Annullo 1
 -- mandato 1 of 2021
 abbrev pub key : Key
 key = record { kind = 1; esercizio = 2021; number = 1 }
+
+-- a TARGET day
+abbrev pub wednesday : Date
+wednesday = record { year = 2021; month = 6; day = 2 }
 
 pub record Facts : Type 0 where
   -- the tables are valid
@@ -96,8 +104,8 @@ pub record Facts : Type 0 where
   -- 000471 has filled its slots, 471 has not
   -- two bodies whose codes have one value, and what each is told of 000471's mandato 1
   pub mixed : Mixed first (bytes "000471") (bytes "471")
-  pub notice-other : noticeAnswer first true (bytes "000471") key 1 ≡ Done 100
-  pub notice-own : noticeAnswer first true (bytes "471") key 1 ≡ Declined 16
+  pub notice-other : noticeAnswer first true (bytes "000471") key 1 wednesday ≡ Done 100
+  pub notice-own : noticeAnswer first true (bytes "471") key 1 wednesday ≡ Declined 16
   pub used-other : totalsOf first (bytes "000471") .used ≡ 1
   pub used-own : totalsOf first (bytes "471") .used ≡ 0
   pub used-before : totalsOf sampleTable (bytes "000471") .used ≡ 0
@@ -107,7 +115,7 @@ pub record Facts : Type 0 where
   pub opens : openOf (requestOf 4) 848 ≡ Open
 
 pub facts : Facts
-unfolding isLetter isDigit isAlnum all startsWith hasAt textIs be2 be4 be8 put leap monthLength isDate zeros digitsAfter digits recordAt restZero flat8 recordBytes keyIs lineThere lineAbsent lineOk allFrom sum rangesOk recordOk usedAt slotsAt findIn distinct slotOk slotsOk bodyOk codeAt slotsOf placeOf formOk formsOk codesFrom findCode distinctCodes headOk entryOk layoutOk bodiesOk tableOk asked slotsAsked needed bodiesAskedOk requestOk headBytes entryBytes entriesBytes opened openOf numberedFrom sumOf lineCode amountsOf anyExecuted situationIn situationOf sameList sameOrder placed stepped judgeOrder written lineMoves noticeIn noticeAt judgeNotice orderComes orderStored outcomeBytes allLeave allOutcomes allAccepted noticeComes addressed noticeBy bodyTotals totalsOf
+unfolding isLetter isDigit isAlnum all startsWith hasAt textIs be2 be4 be8 put leap monthLength isDate zeros digitsAfter digits recordAt restZero flat8 recordBytes keyIs lineThere lineAbsent lineOk allFrom sum rangesOk recordOk usedAt slotsAt findIn distinct slotOk slotsOk bodyOk codeAt slotsOf placeOf formOk formsOk codesFrom findCode distinctCodes headOk entryOk layoutOk bodiesOk tableOk asked slotsAsked needed bodiesAskedOk requestOk headBytes entryBytes entriesBytes opened openOf numberedFrom sumOf lineCode amountsOf anyExecuted situationIn situationOf sameList sameOrder placed stepped judgeOrder written lineMoves noticeIn noticeAt judgeNotice orderComes orderStored outcomeBytes allLeave allOutcomes allAccepted noticeComes addressed noticeBy targetCode daysServed closing closesOn weekend fixedClosing marchDay easter sundayAfter fullMoon paschal weekday numberOf monthOf startOf lengthAt bodyTotals totalsOf
 facts = record {
   valid = refl;
   valid-first = refl;

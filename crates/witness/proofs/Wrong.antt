@@ -31,7 +31,7 @@ use Rattle.marked.specs.Flows.{requestOf, sampleTable, single, room}
 use Rattle.witness.specs.Flows.{two, changing, annulling, order, first, second, twoLined}
 use Rattle.witness.specs.Takers.{Taker, Keeps, RefusesAll, OneOutcome, StoresNothing, FirstOnly, InventsAccepted, CountsOrders, KeepsAmounts, AnnulsByNumber, NoSlotForOthers, HalfApplied, ServesElsewhere, Notifier, KeepsNotice, Teller, KeepsTotals, Opener, KeepsOpen, InventsUsed, UsedUnseen, Mixed, ByNumber, NoticeByNumber, TotalsByNumber, OpenByNumber}
 use Rattle.witness.proofs.Computed.{flows}
-use Rattle.witness.proofs.Facts.{key, change, annul, facts, own-reads, again-reads, more-reads, other-first-reads, own-first-reads, changed-reads, annulled-reads}
+use Rattle.witness.proofs.Facts.{key, change, annul, facts, own-reads, again-reads, more-reads, other-first-reads, own-first-reads, changed-reads, annulled-reads, wednesday}
 
 -- a result that keeps the promise is that of the reading
 by-reading : (t f out : List ℕ) {t′ out′ : List ℕ} {a : FlowAnswer} {g : Reading} → flowReads t f (length out) ≡ g → FlowPromise t f out a t′ out′ → Gives t out g a t′ out′
@@ -203,9 +203,9 @@ module _ (T : Taker) (keeps : Keeps T) where
 -- on the same table: 000471's mandato 1 is executed for 000471, and unknown (16) for 471
 pub notice-by-number : (N : Notifier) → KeepsNotice N → NoticeByNumber N → ⊥
 notice-by-number N keeps r =
-    let d = keeps first true (bytes "000471") key 1 .0 ∙ facts .notice-other in
-    let e = keeps first true (bytes "471") key 1 .0 ∙ facts .notice-own in
-    let z : _≡_ {A = ℕ} 0 16 = ap noticeCodeOf (sym d ∙ r first (bytes "000471") (bytes "471") (facts .mixed) true key 1 ∙ e) in
+    let d = keeps first true (bytes "000471") key 1 wednesday .0 ∙ facts .notice-other in
+    let e = keeps first true (bytes "471") key 1 wednesday .0 ∙ facts .notice-own in
+    let z : _≡_ {A = ℕ} 0 16 = ap noticeCodeOf (sym d ∙ r first (bytes "000471") (bytes "471") (facts .mixed) true key 1 wednesday ∙ e) in
     omega arith
 
 module _ (S : Teller) (keeps : KeepsTotals S) where

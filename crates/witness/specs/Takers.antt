@@ -11,6 +11,7 @@ use Rattle.digits.specs.declared.Number.the-variants.{Value}
 use Rattle.digits.specs.Digits.{digits}
 use Rattle.ranges.specs.declared.Found.the-variants.{At}
 use Rattle.codes.specs.declared.Operation.the-variants.{Variazione, Annullo}
+use Rattle.calendar.specs.declared.Date.{Date}
 use Rattle.record.specs.declared.Key.{Key}
 use Rattle.record.specs.Slot.{slotSize, recordAt}
 use Rattle.slots.specs.Slots.{usedAt, recordsAt, findIn}
@@ -128,12 +129,12 @@ module _ (T : Taker) where
 
 -- NOTICES, TOTALS AND OPENING
 pub record Notifier : Type 0 where
-  pub answer : List ℕ → Bool → List ℕ → Key → ℕ → NoticeAnswer
-  pub table : List ℕ → Bool → List ℕ → Key → ℕ → List ℕ
+  pub answer : List ℕ → Bool → List ℕ → Key → ℕ → Date → NoticeAnswer
+  pub table : List ℕ → Bool → List ℕ → Key → ℕ → Date → List ℕ
 
 abbrev pub KeepsNotice : Notifier → Type 0
-KeepsNotice N = (t : List ℕ) (executing : Bool) (code : List ℕ) (k : Key) (line : ℕ)
-    → NoticePromise t executing code k line (N .answer t executing code k line) (N .table t executing code k line)
+KeepsNotice N = (t : List ℕ) (executing : Bool) (code : List ℕ) (k : Key) (line : ℕ) (d : Date)
+    → NoticePromise t executing code k line d (N .answer t executing code k line d) (N .table t executing code k line d)
 
 abbrev pub Teller : Type 0
 Teller = List ℕ → List ℕ → TotalsAnswer
@@ -183,7 +184,8 @@ ByNumber T = (t f g out : List ℕ) (i j : ℕ) → verdictOf f ≡ Stands i →
     → Mixed t (headerOf f i .ente) (headerOf g j .ente) → T .answer t f out ≡ T .answer t g out
 
 abbrev pub NoticeByNumber : Notifier → Type 0
-NoticeByNumber N = (t a b : List ℕ) → Mixed t a b → (executing : Bool) (k : Key) (line : ℕ) → N .answer t executing a k line ≡ N .answer t executing b k line
+NoticeByNumber N = (t a b : List ℕ) → Mixed t a b → (executing : Bool) (k : Key) (line : ℕ) (d : Date)
+    → N .answer t executing a k line d ≡ N .answer t executing b k line d
 
 abbrev pub TotalsByNumber : Teller → Type 0
 TotalsByNumber S = (t a b : List ℕ) → Mixed t a b → S t a ≡ S t b

@@ -84,7 +84,8 @@ impl Case {
             Call::Open { request, room } => 16 + request.len() + digits(*room as u64),
             Call::Flow { flow, room } => 16 + flow.len() + digits(*room as u64),
             Call::Execute { body, notice } | Call::Reverse { body, notice } => {
-                let numbers = [notice.kind, notice.esercizio, notice.number, notice.line];
+                let (year, month, day) = notice.date;
+                let numbers = [notice.kind, notice.esercizio, notice.number, notice.line, year, month, day];
                 16 + body.len() + numbers.map(digits).iter().sum::<usize>()
             }
             Call::Totals { body } => 16 + body.len(),
@@ -165,8 +166,8 @@ impl fmt::Display for Case {
 impl fmt::Display for Call {
     fn fmt(&self, to: &mut fmt::Formatter) -> fmt::Result {
         let notice = |to: &mut fmt::Formatter, what: &str, body: &[u8], notice: &Notice| {
-            let Notice { kind, esercizio, number, line } = notice;
-            write!(to, "{what} body {} kind {kind} esercizio {esercizio} number {number} line {line}", quoted(body))
+            let Notice { kind, esercizio, number, line, date } = notice;
+            write!(to, "{what} body {} kind {kind} esercizio {esercizio} number {number} line {line} date {date:?}", quoted(body))
         };
         match self {
             Call::Open { request, room } => {

@@ -140,6 +140,32 @@ fn totals(random: &mut Random, table: &Table) -> Call {
     Call::Totals { body: body_code(random, table) }
 }
 
+/// The date of a notice: mostly a TARGET day, else around a closing day, an edge of the served years, or no date.
+fn date(random: &mut Random) -> (u64, u64, u64) {
+    if random.percent(85) {
+        return *random.pick(&[(2021, 3, 3), (2002, 1, 2), (2099, 12, 31), (2024, 2, 29), (2021, 4, 6), (2020, 12, 24)]);
+    }
+    let near =
+        [(2021, 4, 2), (2021, 4, 5), (2023, 5, 1), (2023, 12, 25), (2023, 12, 26), (2024, 1, 1), (2001, 12, 31), (2100, 1, 4)];
+    let (mut year, mut month, mut day) = match random.below(3) {
+        0 => *random.pick(&near),
+        _ => (random.between(2000, 2101), random.between(1, 12), random.between(1, 31)),
+    };
+    if random.percent(20) {
+        let number = match random.below(3) {
+            0 => &mut year,
+            1 => &mut month,
+            _ => &mut day,
+        };
+        *number = match random.below(3) {
+            0 => *number + *random.pick(&[1 << 8, 1 << 16, 1 << 32, 1 << 63]),
+            1 => *random.pick(&[0, 13, 29, 30, 31, 32, u64::MAX]),
+            _ => random.next(),
+        };
+    }
+    (year, month, day)
+}
+
 fn notice(random: &mut Random, table: &Table) -> Call {
     let body = body_code(random, table);
     let known = table.bodies.iter().find(|known| known.code == body);
@@ -151,6 +177,7 @@ fn notice(random: &mut Random, table: &Table) -> Call {
                 esercizio: u64::from(order.esercizio),
                 number: u64::from(order.number),
                 line: random.between(1, order.lines.len() as u64),
+                date: date(random),
             }
         }
         _ => Notice {
@@ -158,6 +185,7 @@ fn notice(random: &mut Random, table: &Table) -> Call {
             esercizio: 2021,
             number: random.between(1, 30),
             line: 1,
+            date: date(random),
         },
     };
     if random.percent(20) {
@@ -187,7 +215,13 @@ fn fuzz(random: &mut Random) -> Case {
             (0..length).map(|_| random.byte()).collect()
         };
         let (table, flow, body, request) = (bytes(1000), bytes(2000), bytes(20), bytes(100));
-        let notice = Notice { kind: random.next(), esercizio: random.next(), number: random.next(), line: random.next() };
+        let notice = Notice {
+            kind: random.next(),
+            esercizio: random.next(),
+            number: random.next(),
+            line: random.next(),
+            date: (random.next(), random.next(), random.next()),
+        };
         let room = random.below(70);
         let calls = vec![
             Call::Flow { flow, room },

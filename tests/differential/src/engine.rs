@@ -129,6 +129,9 @@ impl Engine for Library {
                 notice.esercizio,
                 notice.number,
                 notice.line,
+                notice.date.0,
+                notice.date.1,
+                notice.date.2,
                 cents,
             )
         }
@@ -146,6 +149,9 @@ impl Engine for Library {
                 notice.esercizio,
                 notice.number,
                 notice.line,
+                notice.date.0,
+                notice.date.1,
+                notice.date.2,
                 cents,
             )
         }

@@ -1,7 +1,7 @@
 //! Condition 3, tried: whatever other bodies call in between, each body is served as if it were alone.
 
 use reference::table::{ENTRY, HEAD, SLOT, number_at};
-use reference::{Table, fields, markup, structure};
+use reference::{Table, fields, markup, structure, target};
 
 use crate::case::{Call, Case};
 use crate::compare::{Difference, Served, Yard};
@@ -12,7 +12,14 @@ pub fn owner(table: &Table, call: &Call) -> Option<usize> {
     let place = |code: &[u8]| table.bodies.iter().position(|body| body.code == code);
     match call {
         Call::Open { .. } => None,
-        Call::Execute { body, .. } | Call::Reverse { body, .. } | Call::Totals { body } => place(body),
+        Call::Execute { body, notice } | Call::Reverse { body, notice } => {
+            if target::day(notice.date) == target::Day::Open {
+                place(body)
+            } else {
+                None
+            }
+        }
+        Call::Totals { body } => place(body),
         Call::Flow { flow, .. } => {
             if flow.len() > reference::LONGEST_FLOW {
                 return None;

@@ -43,7 +43,8 @@ fn weight(case: &Case) -> (usize, usize, u128) {
         Call::Open { request, room } => (plain(request), *room as u128),
         Call::Flow { flow, room } => (plain(flow), *room as u128),
         Call::Execute { body, notice } | Call::Reverse { body, notice } => {
-            let numbers = [notice.kind, notice.esercizio, notice.number, notice.line];
+            let (year, month, day) = notice.date;
+            let numbers = [notice.kind, notice.esercizio, notice.number, notice.line, year, month, day];
             (plain(body), numbers.map(u128::from).iter().sum())
         }
         Call::Totals { body } => (plain(body), 0),
@@ -294,11 +295,13 @@ impl<F: FnMut(&Case) -> bool> Search<F> {
     }
 
     fn shorten_notice(&mut self, index: usize) {
-        for number in 0..4 {
+        for number in 0..7 {
             for smaller in [|_| 0, |_| 1, |number: u64| number & 0xFFFF, |number| number / 2] {
                 self.change(|case| {
                     if let Call::Execute { notice, .. } | Call::Reverse { notice, .. } = &mut case.calls[index] {
-                        let named = [&mut notice.kind, &mut notice.esercizio, &mut notice.number, &mut notice.line];
+                        let (year, month, day) = &mut notice.date;
+                        let named =
+                            [&mut notice.kind, &mut notice.esercizio, &mut notice.number, &mut notice.line, year, month, day];
                         for (_, value) in named.into_iter().enumerate().filter(|(place, _)| *place == number) {
                             *value = smaller(*value);
                         }

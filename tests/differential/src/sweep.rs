@@ -71,7 +71,7 @@ fn replaced(bytes: Vec<u8>) -> impl Iterator<Item = Vec<u8>> {
 }
 
 fn bytes_of_a_table() -> impl Iterator<Item = Case> {
-    let notice = Notice { kind: 2, esercizio: 2021, number: 12, line: 2 };
+    let notice = Notice { kind: 2, esercizio: 2021, number: 12, line: 2, date: (2021, 3, 3) };
     let calls = [
         Call::Totals { body: b"000471".to_vec() },
         Call::Execute { body: b"000471".to_vec(), notice },

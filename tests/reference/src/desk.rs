@@ -2,7 +2,7 @@
 
 use crate::fields::{self, FlowOrder, Operation};
 use crate::table::{Body, Kind, Line, Order, State, Table, number_at};
-use crate::{LONGEST_FLOW, MOST_ORDERS, OUTCOME, markup, structure};
+use crate::{LONGEST_FLOW, MOST_ORDERS, OUTCOME, markup, structure, target};
 
 /// The answer to a flow.
 #[derive(Clone, Copy, Debug, Default, PartialEq, Eq)]
@@ -28,6 +28,8 @@ pub struct Notice {
     pub number: u64,
     /// The line, counted from 1.
     pub line: u64,
+    /// Its date: year, month, day.
+    pub date: (u64, u64, u64),
 }
 
 /// The answer to a notice.
@@ -221,6 +223,11 @@ fn notified(bytes: &mut [u8], body: &[u8], notice: &Notice, executed: bool) -> N
     let Some(mut table) = Table::decode(bytes) else {
         return refused(1);
     };
+    match target::day(notice.date) {
+        target::Day::Open => {}
+        target::Day::Closing => return refused(28),
+        target::Day::None => return refused(27),
+    }
     let Some(body) = table.body_mut(body) else {
         return refused(7);
     };

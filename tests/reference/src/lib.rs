@@ -1,7 +1,7 @@
 //! Document 01 written a second time.
 //!
-//! This crate answers the order desk's five calls from the words of document 01 and the readings of its open points, and from
-//! nothing else: it shares no line, no structure and no order of work with the library it is compared with. A flow is read into a
+//! This crate answers the order desk's calls from the words of document 01, of document 02 as far as its requests are in, and the
+//! readings of their open points, and from nothing else: it shares no line, no structure and no order of work with the library it is compared with. A flow is read into a
 //! tree with a stack of open elements, a table is decoded into plain structs (bodies with a list of orders), and a changed table is
 //! encoded afresh. Where clear and fast part ways, this crate is clear.
 //!
@@ -19,6 +19,7 @@ pub mod fields;
 pub mod markup;
 pub mod structure;
 pub mod table;
+pub mod target;
 
 pub use desk::{FlowAnswer, Notice, NoticeAnswer, Totals, execute, flow, open, request, reverse, totals};
 pub use table::{Body, Date, Kind, Line, Order, State, Table};

@@ -72,7 +72,7 @@ fn refusal(table: &[u8], text: &[u8], room: usize) -> (u64, u64) {
 }
 
 fn notice(kind: u64, number: u64, line: u64) -> Notice {
-    Notice { kind, esercizio: 2021, number, line }
+    Notice { kind, esercizio: 2021, number, line, date: (2021, 3, 3) }
 }
 
 const ONE: &[Line] = &[("1", "1.00", "Rossi")];

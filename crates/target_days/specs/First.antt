@@ -1,0 +1,22 @@
+-- "the first TARGET day on or after a date", and "a first TARGET day never falls outside the served years" (document 02, Req 08): what the call's answer is.
+use Prim.Native.Nat.{ℕ, _+_, _≤_, _<_}
+use mathlib.Core.Path.{_≡_}
+use mathlib.Core.Bool.{true}
+use Rattle.calendar.specs.declared.Date.{Date}
+use Rattle.calendar.specs.Calendar.{isDate}
+use Rattle.days.specs.Days.{numberOf, served}
+use Rattle.target_days.specs.Target.{closing, targetCode, firstTargetDay}
+
+-- r is a TARGET day, on or after d, and each date between is a closing day
+pub record First (d r : Date) : Type 0 where
+  pub open-day : targetCode r ≡ 0
+  pub after : numberOf d ≤ numberOf r
+  pub before : (e : Date) → isDate e ≡ true → numberOf d ≤ numberOf e → numberOf e < numberOf r → closing e ≡ true
+
+-- proved in proofs/First.antt of every date of the served years: the answer is the first one, no other date is, it comes within four days, and is served
+pub record FirstTold (d : Date) : Type 0 where
+  pub code : firstTargetDay d .code ≡ 0
+  pub first : First d (firstTargetDay d .date)
+  pub alone : (r : Date) → First d r → r ≡ firstTargetDay d .date
+  pub near : numberOf (firstTargetDay d .date) ≤ numberOf d + 4
+  pub inside : served (firstTargetDay d .date) ≡ true
