@@ -39,7 +39,7 @@ unfoldable pub firstFrom : ℕ → Date → Date
 firstFrom zero d = d
 firstFrom (suc n) d = cond (eqb (targetCode d) 28) (firstFrom n (nextDay d)) d
 
--- "the first TARGET day on or after a date", 27 with zeros: four steps are enough, and it is a TARGET day of the served years, the first (proofs/First.antt)
+-- "the first TARGET day on or after a date", 27 with zeros: four steps are enough, and it is a TARGET day of the served years, the first (crate first_target)
 abbrev pub firstTold : ℕ → Date → FirstDay
 firstTold c d = record { code = c; date = d }
 

@@ -10,12 +10,12 @@ use Rattle.calendar.specs.Calendar.{leap, monthLength, isDate}
 use Rattle.days.specs.Days.{lengthAt, startOf, monthOf, numberOf, weekday, dateOf, nextDay, served}
 use Rattle.days.proofs.Table.{T-both}
 use Rattle.days.proofs.Laws.{one-date, next-number, number-first, number-most}
 use Rattle.target_days.specs.Easter.{easter}
 use Rattle.target_days.specs.Published.{butcher, butcherMid, butcherEnd}
 use Rattle.target_days.specs.Target.{weekend, fixedClosing, marchDay, closesOn, closing, targetCode, firstFrom, firstTargetDay}
-use Rattle.target_days.specs.First.{First, FirstTold}
+use Rattle.first_target.specs.First.{First, FirstTold}
 use Rattle.target_days.proofs.Easter.{by-butcher}
 use Rattle.target_days.proofs.Laws.{Served, served-real, code-28, code-0, first-stop}
 
 -- THE TEST: from the date d of day number n, at most f days on, a day that is no closing day, and only served dates on the way
 soon : ℕ → Date → ℕ → Bool
