@@ -49,6 +49,12 @@ static void execute(const char *body, uint64_t kind, uint64_t number, uint64_t l
     print(hondivole_execute(table, sizeof table, (const uint8_t *)body, strlen(body), kind, 2021, number, line, 2021, 3, 3, &cents), what);
 }
 
+static void execute_on(uint64_t month, uint64_t day, const char *what)
+{
+    uint64_t cents;
+    print(hondivole_execute(table, sizeof table, (const uint8_t *)"000471", 6, HONDIVOLE_MANDATO, 2021, 1, 1, 2021, month, day, &cents), what);
+}
+
 static void reverse(uint64_t number, uint64_t line, const char *what)
 {
     uint64_t cents;
@@ -78,6 +84,8 @@ int main(void)
     execute("471", HONDIVOLE_MANDATO, 1, 1, "execute a line of body 471");
     execute("000471", HONDIVOLE_REVERSALE, 1, 1, "execute a line of reversale 1");
     execute("000471", HONDIVOLE_MANDATO, 1, 2, "execute line 2 of mandato 1");
+    execute_on(2, 30, "execute line 1 on 30 February");
+    execute_on(4, 2, "execute line 1 on Good Friday");
     execute("000471", HONDIVOLE_MANDATO, 1, 1, "execute line 1 of mandato 1");
     execute("000471", HONDIVOLE_MANDATO, 1, 1, "execute it again");
     order("ANNULLO", 1, 16, "ANNULLO of mandato 1, whose line is executed");
