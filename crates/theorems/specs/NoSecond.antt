@@ -6,7 +6,7 @@ use mathlib.Core.Path.{_≡_}
 use mathlib.Core.Bool.{Bool}
 use mathlib.Core.List.{List}
 use Rattle.children.specs.declared.FieldSpans.{FieldSpans}
-use Rattle.children.specs.Child.{FieldPromise, ownName, ownText}
+use Rattle.children.specs.Child.{FieldPromise, NamePromise, TextPromise}
 use Rattle.record.specs.declared.Key.{Key}
 use Rattle.opening.specs.declared.Opened.{Opened}
 use Rattle.opening.specs.Opening.{OpenPromise, OpenReplies}
@@ -27,8 +27,8 @@ pub record NoSecond : Type 0 where
   pub totals : (t code : List ℕ) (a b : TotalsAnswer) → TotalsPromise t code a → TotalsPromise t code b → a ≡ b
   -- a field's own words: where they stand in the flow, and so which they are
   pub field : (s : List ℕ) (place : ℕ) (a b : FieldSpans) → FieldPromise s place a → FieldPromise s place b → a ≡ b
-  pub name : (s : List ℕ) (place : ℕ) (a b : List ℕ) → a ≡ ownName s place → b ≡ ownName s place → a ≡ b
-  pub text : (s : List ℕ) (place : ℕ) (a b : List ℕ) → a ≡ ownText s place → b ≡ ownText s place → a ≡ b
+  pub name : (s : List ℕ) (place : ℕ) (a b : List ℕ) → NamePromise s place a → NamePromise s place b → a ≡ b
+  pub text : (s : List ℕ) (place : ℕ) (a b : List ℕ) → TextPromise s place a → TextPromise s place b → a ≡ b
   -- the other exported functions, in document 01's numbers
   pub open-replies : (q t : List ℕ) (m n : ℕ) (u v : List ℕ) → OpenReplies q t m u → OpenReplies q t n v → (m ≡ n) × (u ≡ v)
   pub flow-replies : (t f out : List ℕ) (m n : FlowReply) (u v x y : List ℕ) → FlowReplies t f out m u x → FlowReplies t f out n v y
