@@ -3,7 +3,7 @@ use Prim.Native.Nat.{ℕ, zero, suc, _+_, _*_}
 use mathlib.Core.Bool.{Bool, true, _&&_, cond}
 use mathlib.Core.List.{List, [], _∷_}
 use lib.Dec.{eqb}
-use Rattle.record.specs.Slot.{slotSize, recordAt, restZero}
+use Rattle.record.specs.Slot.{slotSize, executedLine, recordAt, restZero}
 use Rattle.record.specs.declared.Record.{Record}
 use Rattle.ranges.specs.Ranges.{zeros}
 use Rattle.valid.specs.Valid.{recordOk}
@@ -33,12 +33,12 @@ bodyOk t at n =
 unfoldable pub executedIn : List ℕ → List ℕ → ℕ
 executedIn [] amounts = 0
 executedIn (s ∷ states) [] = 0
-executedIn (s ∷ states) (a ∷ amounts) = cond (eqb s 2) a 0 + executedIn states amounts
+executedIn (s ∷ states) (a ∷ amounts) = cond (eqb s executedLine) a 0 + executedIn states amounts
 
 abbrev pub executed : Record → ℕ
 executed r = executedIn (r .states) (r .amounts)
 
--- the cents of the executed lines of all records of a kind: paid for 1, collected for 2
+-- the cents of the executed lines of all records of a kind: paid for a mandato's, collected for a reversale's
 unfoldable pub centsOf : ℕ → List Record → ℕ
 centsOf k [] = 0
 centsOf k (r ∷ rs) = cond (eqb (r .kind) k) (executed r) 0 + centsOf k rs

@@ -69,7 +69,7 @@ fn executed_cents(r: Record) -> u64
     let mut c: u64 = 0;
     let mut k: usize = 0;
     while k < 8 {
-        c += line_cents(states[k] == 2, amounts[k]);
+        c += line_cents(states[k] == record::EXECUTED, amounts[k]);
         k += 1;
     }
     c
@@ -86,7 +86,7 @@ fn cents_at(t: &[u8], at: usize, kind: u8) -> u64
     executed_cents(record::record_at(t, at))
 }
 
-// The cents of the executed lines of a body's records of a kind: paid for 1, collected for 2.
+// The cents of the executed lines of a body's records of a kind: paid for a mandato's, collected for a reversale's.
 pub fn cents_of(t: &[u8], base: usize, n: usize, kind: u8) -> u64
     requires { ⌜ (base + slotSize * n ≤ length (now t)) × (n ≤ maxSlots) × (bodyOk (now t) base n ≡ true) ⌝ }
     ensures { λ r. ⌜ (r ≡ centsOf kind (recordsAt (now (t .entry)) base n)) × (r ≤ maxCents * maxSlots) ⌝ }

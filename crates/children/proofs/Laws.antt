@@ -6,7 +6,7 @@ use Prim.Native.Nat.{ℕ, zero, suc, _+_, _-_, _≤_, _<_}
 use native.Mathlib.Omega.{arith}
 use lib.ListN.{length, List·getD-eq-default}
 use lib.Dec.{eqb}
-use borrow.Author.Tests.{eq-eqb, ne-eqb}
+use borrow.Author.Tests.{eqb-true, eq-eqb, ne-eqb}
 use Rattle.scan.specs.declared.Walk.{Walk}
 use Rattle.scan.specs.declared.Walk.the-variants.{Past, Broken}
 use Rattle.scan.specs.Bytes.{byteAt, isWhite}
@@ -49,26 +49,40 @@ filled s i e p = onward (endTagAt s (i + 1) e p) (closed s i e p)
 abbrev opened : List ℕ → ℕ → ℕ → Step
 opened s i e = cond (eqb (byteAt s e) 62) (onward (contentAt 12 s (e + 1)) (filled s i e)) End
 
-pub child-lies : (s : List ℕ) (i : ℕ) (c : Child) → childAt s i ≡ One c → (c .lt ≡ i) × Lies s i c
+-- what was read of a child that is there: the end of its name, of its content and of itself
+pub record ReadTo (s : List ℕ) (i : ℕ) (c : Child) : Type 0 where
+  pub gt : ℕ
+  pub to : ℕ
+  pub end : ℕ
+  pub opens : byteAt s i ≡ 60
+  pub named : nameAt s (i + 1) ≡ Past gt
+  pub tagged : byteAt s gt ≡ 62
+  pub holds : contentAt 12 s (gt + 1) ≡ Past to
+  pub ends : endTagAt s (i + 1) gt to ≡ Past end
+  pub is : c ≡ record { lt = i; gt = gt; to = to; after = whiteAt s end }
+
+pub child-read : (s : List ℕ) (i : ℕ) (c : Child) → childAt s i ≡ One c → ReadTo s i c
 unfolding childAt
-child-lies s i c h =
+child-read s i c h =
     let a = cond-one (eqb (byteAt s i) 60) (onward (nameAt s (i + 1)) (opened s i)) h in
     let n = onward-one (nameAt s (i + 1)) (opened s i) (a .1) in
     let e = n .0 in
     let b = cond-one (eqb (byteAt s e) 62) (onward (contentAt 12 s (e + 1)) (filled s i e)) (n .2) in
     let k = onward-one (contentAt 12 s (e + 1)) (filled s i e) (b .1) in
     let l = onward-one (endTagAt s (i + 1) e (k .0)) (closed s i e (k .0)) (k .2) in
-    last e (k .0) (l .0) (n .1) (k .1) (l .1) (l .2)
-  where
-    last : (n p q : ℕ) → nameAt s (i + 1) ≡ Past n → contentAt 12 s (n + 1) ≡ Past p → endTagAt s (i + 1) n p ≡ Past q → closed s i n p q ≡ One c → (c .lt ≡ i) × Lies s i c
-    last n p q en ec ee h =
-        let g = name-past s (i + 1) n en in
-        let k = content-at-past 12 s (n + 1) p ec in
-        let l = end-past s (i + 1) n p q ee in
-        let w = run-from isWhite s q in
-        let v = run-within isWhite s q (l .within) in
-        let z : record { lt = i; gt = n; to = p; after = whiteAt s q } ≡ c = cc in
-        rw (← z) (refl, record { from = omega arith; name = g .on; inner = k .0; ends = omega arith; within = v })
+    let y = l .2 in
+    let z : c ≡ record { lt = i; gt = e; to = k .0; after = whiteAt s (l .0) } = cc in
+    record { gt = e; to = k .0; end = l .0; opens = eqb-true _ _ (a .0); named = n .1; tagged = eqb-true _ _ (b .0); holds = k .1; ends = l .1; is = z }
+
+pub child-lies : (s : List ℕ) (i : ℕ) (c : Child) → childAt s i ≡ One c → (c .lt ≡ i) × Lies s i c
+child-lies s i c h =
+    let r = child-read s i c h in
+    let g = name-past s (i + 1) (r .gt) (r .named) in
+    let k = content-at-past 12 s (r .gt + 1) (r .to) (r .holds) in
+    let l = end-past s (i + 1) (r .gt) (r .to) (r .end) (r .ends) in
+    let w = run-from isWhite s (r .end) in
+    let v = run-within isWhite s (r .end) (l .within) in
+    rw (r .is) (refl, record { from = omega arith; name = g .on; inner = k .0; ends = omega arith; within = v })
 
 -- the ways out of child_at
 module _ (s : List ℕ) (i : ℕ) where

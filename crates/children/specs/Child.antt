@@ -63,9 +63,15 @@ fieldAt s place = spansOf (childAt s place)
 abbrev pub FieldPromise : List ℕ → ℕ → FieldSpans → Type 0
 FieldPromise s place r = r ≡ fieldAt s place
 
--- the parts of the flow that stand there
+-- the parts of the flow that stand there, and the promises of `name_at` and `text_at`
 abbrev pub ownName : List ℕ → ℕ → List ℕ
 ownName s place = let w = fieldAt s place in part s (w .name) (w .name + w .«name_len»)
 
 abbrev pub ownText : List ℕ → ℕ → List ℕ
 ownText s place = let w = fieldAt s place in part s (w .text) (w .text + w .«text_len»)
+
+abbrev pub NamePromise : List ℕ → ℕ → List ℕ → Type 0
+NamePromise s place r = r ≡ ownName s place
+
+abbrev pub TextPromise : List ℕ → ℕ → List ℕ → Type 0
+TextPromise s place r = r ≡ ownText s place

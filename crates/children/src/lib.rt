@@ -5,7 +5,7 @@ ghost use mathlib.Core.Path.{_≡_};
 ghost use Prim.Native.Nat.{_+_, _-_, _≤_, _<_};
 ghost use lib.ListN.{length};
 ghost use Rattle.markup.specs.Noted.{Noted};
-ghost use Rattle.children.specs.Child.{childAt, childTo, FieldPromise, ownName, ownText};
+ghost use Rattle.children.specs.Child.{childAt, childTo, FieldPromise, NamePromise, TextPromise};
 
 // An element: its `<`, the end of its name, the `<` of its end tag, and the place past it and the white space after it.
 pub struct Child {
@@ -116,7 +116,7 @@ pub fn field_at(s: &[u8], place: usize) -> FieldSpans
 
 // The name of the element whose `<` stands at a place, as the part of the flow itself; empty where none does.
 pub fn name_at(s: &[u8], place: usize) -> &[u8]
-    ensures { λ r. ⌜ now r ≡ ownName (now (s .entry)) place ⌝ }
+    ensures { λ r. ⌜ NamePromise (now (s .entry)) place (now r) ⌝ }
 {
     let w = field_at(s, place);
     let a = w.name;
@@ -126,7 +126,7 @@ pub fn name_at(s: &[u8], place: usize) -> &[u8]
 
 // The text of the element whose `<` stands at a place, likewise.
 pub fn text_at(s: &[u8], place: usize) -> &[u8]
-    ensures { λ r. ⌜ now r ≡ ownText (now (s .entry)) place ⌝ }
+    ensures { λ r. ⌜ TextPromise (now (s .entry)) place (now r) ⌝ }
 {
     let w = field_at(s, place);
     let a = w.text;

@@ -36,7 +36,7 @@ use Rattle.rows.specs.declared.Next.the-variants.{Named, Done}
 use Rattle.rows.specs.Table.{table}
 use Rattle.rows.specs.Kept.{keptFrom, nextOf}
 use Rattle.rows.proofs.Laws.{next-at, next-done}
-use Rattle.structure.specs.Structure.{Range, ranges, all, keptHolds, fitsAt}
+use Rattle.structure.specs.Structure.{Range, ranges, allKept, keptHolds, fitsAt}
 use Rattle.structure.proofs.Laws.{HeldIn, fits-parts, all-next, order-last}
 use Rattle.standing.specs.Readings.{Bad, Place, Nowhere, textOf, fieldsIn, fieldsBy, fieldsAt, badOr, firstBad}
 use Rattle.standing.proofs.Readings.{orBad, bad-append}
@@ -84,12 +84,12 @@ isNowhere Nowhere = true
 abbrev standsIn : ℕ → List ℕ → Kept → Bool
 standsIn d s k = isNowhere (firstBad (fieldsIn (λ q a. fieldsAt d q s a) s k (k .holds)))
 
-each-stands : (d : ℕ) (s : List ℕ) (ks : List Kept) → firstBad (fieldsBy (λ q a. fieldsAt d q s a) s ks) ≡ Nowhere → all (standsIn d s) ks ≡ true
-unfolding fieldsBy all
+each-stands : (d : ℕ) (s : List ℕ) (ks : List Kept) → firstBad (fieldsBy (λ q a. fieldsAt d q s a) s ks) ≡ Nowhere → allKept (standsIn d s) ks ≡ true
+unfolding fieldsBy allKept
 each-stands d s [] e = refl
 each-stands d s (k ∷ ks) e = go (firstBad (fieldsIn (λ q a. fieldsAt d q s a) s k (k .holds))) (sym (bad-append (fieldsIn (λ q a. fieldsAt d q s a) s k (k .holds)) (fieldsBy (λ q a. fieldsAt d q s a) s ks)) ∙ e) (each-stands d s ks)
   where
-    go : (b : Bad) → orBad b (firstBad (fieldsBy (λ q a. fieldsAt d q s a) s ks)) ≡ Nowhere → (firstBad (fieldsBy (λ q a. fieldsAt d q s a) s ks) ≡ Nowhere → all (standsIn d s) ks ≡ true) → (isNowhere b && all (standsIn d s) ks) ≡ true
+    go : (b : Bad) → orBad b (firstBad (fieldsBy (λ q a. fieldsAt d q s a) s ks)) ≡ Nowhere → (firstBad (fieldsBy (λ q a. fieldsAt d q s a) s ks) ≡ Nowhere → allKept (standsIn d s) ks ≡ true) → (isNowhere b && allKept (standsIn d s) ks) ≡ true
     go (Place p) e ih = let z : _≡_ {A = ℕ} 0 1 = cc in absurd (omega arith)
     go Nowhere e ih = ih e
 
@@ -109,7 +109,7 @@ text-stands d s k f h e = go (fieldStands f (textOf s k)) (rw h at e)
 -- ROWS IN ORDER whose fields stand
 record Well (rs : List Range) (d : ℕ) (p : Parent) (s : List ℕ) (n i : ℕ) : Type 0 where
   filled : Filled rs d p s n i
-  fields : all (standsIn d s) (keptFrom p s i) ≡ true
+  fields : allKept (standsIn d s) (keptFrom p s i) ≡ true
 
 -- the field of a row that takes one
 record Field-at (f : Form) (rs : List Range) (d : ℕ) (p : Parent) (s : List ℕ) (n i j : ℕ) : Type 0 where
@@ -183,7 +183,7 @@ reversale = record { rows = refl; first = only; second = only; third = only; fou
 
 -- each line of an order, wherever it is asked for
 lines-ok : (n : ℕ) (p q : Parent) (s : List ℕ) (i : ℕ) → length s - i < n → OrderTable p q
-    → all (ofRow 4) (keptFrom p s i) ≡ true → all (keptHolds (λ r a. fitsAt 2 r s a) s) (keptFrom p s i) ≡ true → all (standsIn 2 s) (keptFrom p s i) ≡ true
+    → allKept (ofRow 4) (keptFrom p s i) ≡ true → allKept (keptHolds (λ r a. fitsAt 2 r s a) s) (keptFrom p s i) ≡ true → allKept (standsIn 2 s) (keptFrom p s i) ≡ true
     → (j : ℕ) → LineOk (getD (linesOf s (keptFrom p s i)) j noLine)
 unfolding linesOf
 lines-ok zero p q s i h t r f e j = absurd (omega arith)
@@ -194,7 +194,7 @@ lines-ok (suc n) p q s i h t r f e j = go (nextOf (keptFrom p s i)) refl (lines-
     pick k ks (suc j) a b = b j
 
     go : (x : Next) → nextOf (keptFrom p s i) ≡ x
-        → ((u : ℕ) → length s - u < n → OrderTable p q → all (ofRow 4) (keptFrom p s u) ≡ true → all (keptHolds (λ r a. fitsAt 2 r s a) s) (keptFrom p s u) ≡ true → all (standsIn 2 s) (keptFrom p s u) ≡ true → (m : ℕ) → LineOk (getD (linesOf s (keptFrom p s u)) m noLine))
+        → ((u : ℕ) → length s - u < n → OrderTable p q → allKept (ofRow 4) (keptFrom p s u) ≡ true → allKept (keptHolds (λ r a. fitsAt 2 r s a) s) (keptFrom p s u) ≡ true → allKept (standsIn 2 s) (keptFrom p s u) ≡ true → (m : ℕ) → LineOk (getD (linesOf s (keptFrom p s u)) m noLine))
         → LineOk (getD (linesOf s (keptFrom p s i)) j noLine)
     go Done x ih = rw (next-done p s i x) (omega arith)
     go (Named k) x ih =
@@ -249,7 +249,7 @@ order-ok s k p q t h v w e =
 -- ORDERS, as the walk goes
 pub record Sound (s : List ℕ) (i : ℕ) : Type 0 where
   pub standing : Standing s i
-  pub fields : all (standsIn 3 s) (keptFrom FlussoOrdinativi s i) ≡ true
+  pub fields : allKept (standsIn 3 s) (keptFrom FlussoOrdinativi s i) ≡ true
 
 pub sound : (s : List ℕ) (at : ℕ) → Stood s at → Sound s (whiteAt s at)
 unfolding fieldsAt

@@ -16,9 +16,9 @@ use Rattle.scan.specs.References.{Reference, refAt}
 use Rattle.scan.proofs.Laws.{never, both, choose, cond-past, Advance, stands, run-more, run-from, has-within, size-within, char-past, ref-is}
 use Rattle.tokens.specs.Tokens.{andThen, repeat, until, nameAt, whiteAt, pieceAt, textAt, endTagAt, optionalAt}
 use Rattle.tokens.proofs.Laws.{then-past, Steps, name-past, piece-past, text-past, end-past, piece-end}
-use Rattle.markup.specs.Markup.{childBy, childrenBy, contentBy, elementAt, mark, declaration, rootAt, markupOf}
+use Rattle.markup.specs.Markup.{childBy, childrenBy, contentBy, elementAt, contentAt, mark, declaration, rootAt, markupOf}
 use Rattle.markup.proofs.Laws.{content-past, parts, element-past}
-use Rattle.grammar.specs.Grammar.{Name, name, White, white, Allowed, Character, one, two, three, four, Piece, char, amp, lt, gt, quot, apos, Pieces, none, more, Text, text, endTag, Element, element, Content, elements, only, Elements, last, next, Optional, absent, present, Mark, Declaration, Flow, flow}
+use Rattle.grammar.specs.Grammar.{Name, name, White, white, Allowed, Character, one, two, three, four, Piece, char, amp, lt, gt, quot, apos, Pieces, none, more, Text, text, startTag, endTag, Element, element, Content, elements, only, Elements, last, next, Optional, absent, present, Mark, Declaration, Flow, flow}
 use Rattle.grammar.proofs.Parts.{no, not-so, part-join, part-none, part-next, part-1, part-2, part-3, part-4, part-length, has-part, has-split, has-byte, part-has}
 use Rattle.grammar.proofs.Pieces.{other, all-at, piece-rest}
 
@@ -206,7 +206,7 @@ module _ (s : List ℕ) where
       no (sym (part-has s p q a (bytes "]]>") b z) ∙ g .2 (p + length a) (omega arith) (omega arith)))
 
   -- NAMES AND TAGS
-  name-sound : (at e : ℕ) → nameAt s at ≡ Past e → Name (part s at e)
+  pub name-sound : (at e : ℕ) → nameAt s at ≡ Past e → Name (part s at e)
   unfolding nameAt isNameByte isLetter
   name-sound at e h =
       let c = cond-past (isLetter (byteAt s at) && leb (runEnd isNameByte s at - at) 48) (Past (runEnd isNameByte s at)) at h in
@@ -221,7 +221,7 @@ module _ (s : List ℕ) where
       rw (part-next s at (at + 1) e refl (omega arith) (omega arith))
       (name {b = byteAt s at} {t = part s (at + 1) e} (b .0) a (omega (arith, part-length s (at + 1) e (g .within))))
 
-  end-sound : (a e p q : ℕ) → a ≤ e → e ≤ length s → endTagAt s a e p ≡ Past q → part s p q ≡ endTag (part s a e)
+  pub end-sound : (a e p q : ℕ) → a ≤ e → e ≤ length s → endTagAt s a e p ≡ Past q → part s p q ≡ endTag (part s a e)
   unfolding endTagAt
   end-sound a e p q h k x =
       let c = cond-past (hasAt (bytes "</") s p && (hasAt (part s a e) s (p + 2) && eqb (byteAt s (p + 2 + (e - a))) 62)) (Past (p + 2 + (e - a) + 1)) p x in
@@ -238,10 +238,13 @@ module _ (s : List ℕ) where
       let b = part-1 s (p + 2 + (e - a)) (p + 2 + (e - a) + 1) (omega arith) refl in
       rw (← z, j₁, j₂, h₁, h₂, b, y)
 
-  whole : (d p t m q : ℕ) → byteAt s p ≡ 60 → byteAt s t ≡ 62 → t < length s → p < t → t + 1 ≤ m → m ≤ q → Name (part s (p + 1) t) → Content d (part s (t + 1) m) → part s m q ≡ endTag (part s (p + 1) t) → Element (suc d) (part s p q)
-  whole d p t m q o y i h k l na co x =
+  -- an element's bytes: a <, its name, a >, its content, its end tag
+  pub element-bytes : (p t m q : ℕ) → byteAt s p ≡ 60 → byteAt s t ≡ 62 → t < length s → p < t → t + 1 ≤ m → m ≤ q → part s m q ≡ endTag (part s (p + 1) t) → part s p q ≡ startTag (part s (p + 1) t) ++ part s (t + 1) m ++ endTag (part s (p + 1) t)
+  element-bytes p t m q o y i h k l x =
       rw (part-join s p m q (omega arith) l, part-join s p (t + 1) m (omega arith) k, part-join s p t (t + 1) (omega arith) (omega arith), part-next s p (p + 1) t refl (omega arith) (omega arith), part-1 s t (t + 1) (omega arith) refl, o, y, x)
-      (element na co)
+
+  whole : (d p t m q : ℕ) → byteAt s p ≡ 60 → byteAt s t ≡ 62 → t < length s → p < t → t + 1 ≤ m → m ≤ q → Name (part s (p + 1) t) → Content d (part s (t + 1) m) → part s m q ≡ endTag (part s (p + 1) t) → Element (suc d) (part s p q)
+  whole d p t m q o y i h k l na co x = rw (element-bytes p t m q o y i h k l x) (element na co)
 
   -- </ has a / behind its <
   closes-slash : (p : ℕ) → hasAt (bytes "</") s p ≡ true → byteAt s (p + 1) ≡ 47
@@ -306,6 +309,11 @@ element-sound (suc d) s p q o e =
     let x = end-sound s (p + 1) t m q (omega arith) (omega arith) (k .2 .end) in
     let co = content-sound s d (elementAt d s) (element-past d s) (element-sound d s) (t + 1) m (k .2 .holds) in
     whole s d p t m q o (eqb-true (byteAt s t) 62 (k .2 .opens)) (omega arith) (omega arith) (f .0) (omega arith) (name-sound s (p + 1) t (k .2 .name)) co x
+
+-- CONTENT whose elements have at most d levels
+pub content-at-sound : (d : ℕ) (s : List ℕ) (p q : ℕ) → contentAt d s p ≡ Past q → Content d (part s p q)
+unfolding contentAt
+content-at-sound d s = content-sound s d (elementAt d s) (element-past d s) (element-sound d s)
 
 -- THE WHOLE FLOW
 optional-sound : (x s : List ℕ) (p : ℕ) → p ≤ length s → (p ≤ optionalAt x s p) × (optionalAt x s p ≤ length s) × Optional x (part s p (optionalAt x s p))

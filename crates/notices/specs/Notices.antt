@@ -7,6 +7,7 @@ use mathlib.Core.List.{List}
 use Rattle.calendar.specs.declared.Date.{Date}
 use Rattle.target_days.specs.Target.{targetCode}
 use Rattle.record.specs.declared.Key.{Key}
+use Rattle.record.specs.Slot.{mandatoKind, reversaleKind}
 use Rattle.slots.specs.Slots.{recordsAt, usedAt}
 use Rattle.body.specs.Body.{centsOf}
 use Rattle.address.specs.declared.Addressed.{Addressed}
@@ -91,13 +92,10 @@ zeroTotals c = totalled c 0 0 0 (pos 0)
 
 -- of a body of n slots from base on
 unfoldable pub bodyTotals : List ℕ → ℕ → ℕ → TotalsAnswer
-bodyTotals t base n = record {
-  code = 0;
-  used = usedAt t base n;
-  paid = centsOf 1 (recordsAt t base n);
-  collected = centsOf 2 (recordsAt t base n);
-  balance = pos (centsOf 2 (recordsAt t base n)) -ℤ pos (centsOf 1 (recordsAt t base n));
-}
+bodyTotals t base n =
+    let paid = centsOf mandatoKind (recordsAt t base n) in
+    let collected = centsOf reversaleKind (recordsAt t base n) in
+    totalled 0 (usedAt t base n) paid collected (pos collected -ℤ pos paid)
 
 abbrev pub totalsBy : List ℕ → Addressed → TotalsAnswer
 totalsBy t Invalid = zeroTotals 1

@@ -136,8 +136,8 @@ fn body_totals(t: &[u8], base: usize, n: usize) -> TotalsAnswer
     ensures { λ r. ⌜ r ≡ bodyTotals (now (t .entry)) base n ⌝ }
 {
     let used = slots::used_slots(t, base, n) as u64;
-    let paid = body::cents_of(t, base, n, 1);
-    let collected = body::cents_of(t, base, n, 2);
+    let paid = body::cents_of(t, base, n, record::MANDATO);
+    let collected = body::cents_of(t, base, n, record::REVERSALE);
     let balance = difference(collected, paid);
     TotalsAnswer {
         code: 0,

@@ -39,7 +39,7 @@ use Rattle.rows.specs.Table.{table}
 use Rattle.rows.specs.Kept.{keptFrom, nextOf}
 use Rattle.children.proofs.Laws.{Lies}
 use Rattle.rows.proofs.Laws.{next-at, next-done}
-use Rattle.structure.specs.Structure.{Range, ranges, all, keptHolds, fitsAt}
+use Rattle.structure.specs.Structure.{Range, ranges, allKept, keptHolds, fitsAt}
 use Rattle.structure.proofs.Laws.{HeldIn, fits-parts, once-done, once-next, all-next, order-last, kept-held}
 use Rattle.order.specs.declared.Line.{Line}
 use Rattle.order.specs.declared.Order.{Order}
@@ -85,7 +85,7 @@ pub record Row-at (n : ℕ) (p : Parent) (s : List ℕ) (i : ℕ) (k : Kept) : T
   pub rest : inRow n (keptFrom p s i) ≡ k ∷ inRow n (keptFrom p s (k .child .after))
   pub lies : Lies s i (k .child)
   pub held : HeldIn (table p) n (k .holds)
-  pub every : (f : Kept → Bool) → all f (keptFrom p s i) ≡ true → (f k ≡ true) × (all f (keptFrom p s (k .child .after)) ≡ true)
+  pub every : (f : Kept → Bool) → allKept f (keptFrom p s i) ≡ true → (f k ≡ true) × (allKept f (keptFrom p s (k .child .after)) ≡ true)
 
 row-by : (m n : ℕ) (p : Parent) (s : List ℕ) (i : ℕ) (k : Kept) → length s - i < m → nextOf (inRow n (keptFrom p s i)) ≡ Named k → Row-at n p s i k
 row-by zero n p s i k h e = absurd (omega arith)
@@ -120,10 +120,10 @@ row-end (k ∷ ks) e = no-next (sym e)
 abbrev pub ofRow : ℕ → Kept → Bool
 ofRow n k = eqb (k .row) n
 
-pub in-row-all : (n : ℕ) (ks : List Kept) → all (ofRow n) ks ≡ true → inRow n ks ≡ ks
-unfolding inRow all
+pub in-row-all : (n : ℕ) (ks : List Kept) → allKept (ofRow n) ks ≡ true → inRow n ks ≡ ks
+unfolding inRow allKept
 in-row-all n [] e = refl
-in-row-all n (k ∷ ks) e = let b = both (ofRow n k) (all (ofRow n) ks) e in rw (b .0) (ap (λ t. k ∷ t) (in-row-all n ks (b .1)))
+in-row-all n (k ∷ ks) e = let b = both (ofRow n k) (allKept (ofRow n) ks) e in rw (b .0) (ap (λ t. k ∷ t) (in-row-all n ks (b .1)))
 
 -- FIELDS ONE AFTER THE OTHER
 abbrev pub one : Range
@@ -183,8 +183,8 @@ shaped-inside rs d s k p e h =
 -- LINES, while they are walked: so many are in place, those from i on are to come
 pub record Lining (p : Parent) (s : List ℕ) (from : ℕ) (each : List Line) (count i : ℕ) : Type 0 where
   pub within : i ≤ length s
-  pub rows : all (ofRow 4) (keptFrom p s i) ≡ true
-  pub holds : all (keptHolds (λ q a. fitsAt 2 q s a) s) (keptFrom p s i) ≡ true
+  pub rows : allKept (ofRow 4) (keptFrom p s i) ≡ true
+  pub holds : allKept (keptHolds (λ q a. fitsAt 2 q s a) s) (keptFrom p s i) ≡ true
   pub number : length (inRow 4 (keptFrom p s from)) ≡ count + length (keptFrom p s i)
   pub most : length (inRow 4 (keptFrom p s from)) ≤ 8
   pub size : length each ≡ 8
@@ -346,7 +346,7 @@ orders-one s i k e = rw (row-at 5 FlussoOrdinativi s i k e .rest)
 
 -- every named child of the root from i on holds what its row says
 abbrev pub Standing : List ℕ → ℕ → Type 0
-Standing s i = all (keptHolds (λ q a. fitsAt 3 q s a) s) (keptFrom FlussoOrdinativi s i) ≡ true
+Standing s i = allKept (keptHolds (λ q a. fitsAt 3 q s a) s) (keptFrom FlussoOrdinativi s i) ≡ true
 
 -- the first order from i on, as the code that reads it asks for it, and what comes after it
 pub record Order-at (s : List ℕ) (i : ℕ) (k : Kept) : Type 0 where

@@ -11,7 +11,7 @@ use Rattle.rows.specs.declared.Holds.the-variants.{Text, Rows}
 use Rattle.rows.specs.declared.Kept.{Kept}
 use Rattle.rows.specs.Table.{table}
 use Rattle.rows.specs.Kept.{keptFrom}
-use Rattle.structure.specs.Structure.{Range, ranges, rowsOf, inOrder, all, keptHolds, fitsAt}
+use Rattle.structure.specs.Structure.{Range, ranges, rowsOf, inOrder, allKept, keptHolds, fitsAt}
 
 -- how many elements each row of a named child's table takes
 abbrev pub rangesOf : Holds → List Range
@@ -35,4 +35,4 @@ pub record Shaped (rs : List Range) (d : ℕ) (s : List ℕ) (k : Kept) : Type 0
 pub record Filled (rs : List Range) (d : ℕ) (p : Parent) (s : List ℕ) (n i : ℕ) : Type 0 where
   pub within : i ≤ length s
   pub rows : inOrder rs n (rowsOf (keptFrom p s i)) ≡ true
-  pub each : all (keptHolds (λ q a. fitsAt d q s a) s) (keptFrom p s i) ≡ true
+  pub each : allKept (keptHolds (λ q a. fitsAt d q s a) s) (keptFrom p s i) ≡ true

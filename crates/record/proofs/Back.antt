@@ -11,7 +11,7 @@ use lib.Dec.{eqb}
 use Rattle.words.specs.Numbers.{put, be2, be4, be8, bytes2, bytes4, bytes8}
 use Rattle.words.proofs.Laws.{Agree, on, at-it, same2, same4, same8, be2-bytes, be4-bytes, be8-bytes, get-before, get-in, get-after}
 use Rattle.calendar.specs.declared.Date.{Date}
-use Rattle.record.specs.Slot.{slotSize, recordAt, recordBytes, restZero, headBytes, flat8, eightAt, be8s, dateAt}
+use Rattle.record.specs.Slot.{slotSize, recordAt, recordBytes, restZero, slotHead, flat8, eightAt, be8s, dateAt}
 use Rattle.record.specs.declared.Record.{Record}
 use Rattle.record.proofs.Laws.{length-flat8, length-head}
 
@@ -163,20 +163,20 @@ module _ (r : Record) (z : Sized r) where
   amount-in : (k : ℕ) → k < 8 → be8 (recordBytes r) (32 + 8 * k) ≡ getD (r .amounts) k 0
   unfolding recordBytes
   amount-in k h =
-      let n : length (headBytes r ++ r .states) ≡ 32 = length-append (headBytes r) (r .states) ∙ omega (arith, z .states, length-head r) in
+      let n : length (slotHead r ++ r .states) ≡ 32 = length-append (slotHead r) (r .states) ∙ omega (arith, z .states, length-head r) in
       let e : be8 (recordBytes r) (32 + 8 * k) ≡ be8 (flat8 (r .amounts)) (8 * k) =
       same8 {m = 8} (record {
         same = λ i b.
-            let q : 32 + 8 * k + i ≡ length (headBytes r ++ r .states) + (8 * k + i) = omega arith in
-            ap (λ (x : ℕ). getD (recordBytes r) x 0) q ∙ getD-append-add (headBytes r ++ r .states) (flat8 (r .amounts)) (8 * k + i) 0;
+            let q : 32 + 8 * k + i ≡ length (slotHead r ++ r .states) + (8 * k + i) = omega arith in
+            ap (λ (x : ℕ). getD (recordBytes r) x 0) q ∙ getD-append-add (slotHead r ++ r .states) (flat8 (r .amounts)) (8 * k + i) 0;
       }) (omega arith) in
       e ∙ flat8-at (r .amounts) k (omega (arith, z .amounts)) ∙ mod-eq-of-lt (z .each k h)
 
   state-in : (k : ℕ) → k < 8 → getD (recordBytes r) (24 + k) 0 ≡ getD (r .states) k 0
   unfolding recordBytes
   state-in k h =
-      List·getD-append (headBytes r ++ r .states) (flat8 (r .amounts)) 0 (24 + k) (simp length-append (omega (arith, z .states, length-head r)))
-      ∙ getD-append-add (headBytes r) (r .states) k 0
+      List·getD-append (slotHead r ++ r .states) (flat8 (r .amounts)) 0 (24 + k) (simp length-append (omega (arith, z .states, length-head r)))
+      ∙ getD-append-add (slotHead r) (r .states) k 0
 
   esercizio-in : be2 (recordBytes r) 4 ≡ r .esercizio
   unfolding recordBytes be2

@@ -11,7 +11,7 @@ use lib.Dec.{eqb}
 use borrow.Author.Tests.{eq-eqb, ne-eqb}
 use Rattle.words.specs.Numbers.{put, bytes2, bytes4, bytes8}
 use Rattle.words.proofs.Laws.{put-put}
-use Rattle.record.specs.Slot.{slotSize, keyIs, flat8, headBytes, recordBytes}
+use Rattle.record.specs.Slot.{slotSize, keyIs, flat8, slotHead, recordBytes}
 use Rattle.record.specs.declared.Record.{Record}
 use Rattle.record.specs.declared.Key.{Key}
 
@@ -61,14 +61,14 @@ whole t₀ t at a i le ge e =
 
 -- A RECORD'S THREE PARTS, PUT ONE AFTER THE OTHER
 
-pub length-head : (r : Record) → length (headBytes r) ≡ 24
+pub length-head : (r : Record) → length (slotHead r) ≡ 24
 length-head r = refl
 
 pub three : (r : Record) (t t₁ t₂ t₃ : List ℕ) (at : ℕ) → at + slotSize ≤ length t → length (r .states) ≡ 8
-    → t₁ ≡ put t at (headBytes r) → t₂ ≡ put t₁ (at + 24) (r .states) → t₃ ≡ put t₂ (at + 32) (flat8 (r .amounts)) → t₃ ≡ put t at (recordBytes r)
+    → t₁ ≡ put t at (slotHead r) → t₂ ≡ put t₁ (at + 24) (r .states) → t₃ ≡ put t₂ (at + 32) (flat8 (r .amounts)) → t₃ ≡ put t at (recordBytes r)
 unfolding recordBytes
 three r t t₁ t₂ t₃ at fits l e₁ e₂ e₃ =
-    let two : t₂ ≡ put t at (headBytes r ++ r .states) =
-    e₂ ∙ ap (λ (s : List ℕ). put s (at + 24) (r .states)) e₁ ∙ put-put t at (headBytes r) (r .states) (at + 24) (omega arith) (omega (arith, length-head r)) in
+    let two : t₂ ≡ put t at (slotHead r ++ r .states) =
+    e₂ ∙ ap (λ (s : List ℕ). put s (at + 24) (r .states)) e₁ ∙ put-put t at (slotHead r) (r .states) (at + 24) (omega arith) (omega (arith, length-head r)) in
     e₃ ∙ ap (λ (s : List ℕ). put s (at + 32) (flat8 (r .amounts))) two
-    ∙ put-put t at (headBytes r ++ r .states) (flat8 (r .amounts)) (at + 32) (omega arith) (omega (arith, length-append (headBytes r) (r .states), length-head r))
+    ∙ put-put t at (slotHead r ++ r .states) (flat8 (r .amounts)) (at + 32) (omega arith) (omega (arith, length-append (slotHead r) (r .states), length-head r))

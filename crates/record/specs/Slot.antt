@@ -13,6 +13,27 @@ use Rattle.record.specs.declared.Key.{Key}
 abbrev pub slotSize : ℕ
 slotSize = 96
 
+-- "0 kind (0 empty, 1 mandato, 2 reversale)"
+abbrev pub mandatoKind : ℕ
+mandatoKind = 1
+
+abbrev pub reversaleKind : ℕ
+reversaleKind = 2
+
+-- "1 state (1 acquired, 2 annulled)"
+abbrev pub acquiredState : ℕ
+acquiredState = 1
+
+abbrev pub annulledState : ℕ
+annulledState = 2
+
+-- "line states (0 no line, 1 waiting, 2 executed)"
+abbrev pub waitingLine : ℕ
+waitingLine = 1
+
+abbrev pub executedLine : ℕ
+executedLine = 2
+
 -- "24-31 eight line states; 32-95 eight amounts"
 abbrev pub statesOffset : ℕ
 statesOffset = 24
@@ -61,14 +82,14 @@ flat8 [] = []
 flat8 (a ∷ rest) = bytes8 a ++ flat8 rest
 
 -- a record's first 24 bytes
-abbrev pub headBytes : Record → List ℕ
-headBytes r =
+abbrev pub slotHead : Record → List ℕ
+slotHead r =
     r .kind ∷ r .state ∷ r .lines ∷ 0
     ∷ (bytes2 (r .esercizio) ++ 0 ∷ 0 ∷ (bytes4 (r .number) ++ bytes2 (r .date .year) ++ r .date .month % 256 ∷ r .date .day % 256 ∷ bytes8 (r .total)))
 
 -- a record's 96 bytes
 unfoldable pub recordBytes : Record → List ℕ
-recordBytes r = headBytes r ++ r .states ++ flat8 (r .amounts)
+recordBytes r = slotHead r ++ r .states ++ flat8 (r .amounts)
 
 -- the record of this kind, esercizio and number
 unfoldable pub keyIs : Record → Key → Bool

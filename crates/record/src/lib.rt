@@ -5,7 +5,7 @@ ghost use mathlib.Core.Bool.{_&&_};
 ghost use Prim.Native.Nat.{_+_, _*_, _≤_, _<_};
 ghost use lib.ListN.{length};
 ghost use Rattle.words.specs.Numbers.{put};
-ghost use Rattle.record.specs.Slot.{slotSize, be8s, eightAt, dateAt, recordAt, restZero, headBytes, flat8, recordBytes, keyIs, keyOf};
+ghost use Rattle.record.specs.Slot.{slotSize, be8s, eightAt, dateAt, recordAt, restZero, slotHead, flat8, recordBytes, keyIs, keyOf};
 
 pub const SLOT: usize = 96;
 
@@ -14,7 +14,20 @@ pub const STATES: usize = 24;
 
 pub const AMOUNTS: usize = 32;
 
-// What a slot holds of an order. Kind: 1 mandato, 2 reversale. State: 1 acquired, 2 annulled. Line states: 0 no line, 1 waiting, 2 executed.
+// Kinds of an order, its states, and those of its lines; a line that isn't there has state 0.
+pub const MANDATO: u8 = 1;
+
+pub const REVERSALE: u8 = 2;
+
+pub const ACQUIRED: u8 = 1;
+
+pub const ANNULLED: u8 = 2;
+
+pub const WAITING: u8 = 1;
+
+pub const EXECUTED: u8 = 2;
+
+// What a slot holds of an order.
 pub struct Record {
     pub kind: u8,
     pub state: u8,
@@ -148,7 +161,7 @@ pub fn hit_at(t: &[u8], at: usize, k: Key) -> bool
 }
 
 fn head_bytes(r: Record) -> [u8; STATES]
-    ensures { λ b. ⌜ b ≡ headBytes r ⌝ }
+    ensures { λ b. ⌜ b ≡ slotHead r ⌝ }
 {
     let esercizio = r.esercizio;
     let number = r.number;

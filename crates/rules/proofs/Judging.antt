@@ -24,7 +24,7 @@ use Rattle.rules.specs.declared.Ruling.{Ruling}
 use Rattle.rules.specs.declared.Ruling.the-variants.{Accepted, Refused}
 use Rattle.rules.specs.declared.Noticed.the-variants.{Moved, Unmoved}
 use Rattle.lines.specs.Lines.{lineCode}
-use Rattle.rules.specs.Rules.{asksOf, anyExecuted, situationIn, situationOf, stepCode, keyFor, nth, noRecord, sameOrder, placed, unless, stepped, judgeAsked, judgeOrder, lineMoves, moveOr, noticeIn, noticeAt, judgeNotice}
+use Rattle.rules.specs.Rules.{asksOf, anyExecuted, situationIn, situationOf, stepCode, keyFor, nth, noRecord, sameOrder, placed, unless, stepped, judgeAsked, judgeOrder, lineMoves, noticeIn, noticeAt, judgeNotice}
 
 -- two constructors are never equal
 abbrev clash : Type 0
@@ -87,7 +87,7 @@ pub data Stands (slots year : ℕ) (o : Ordinativo) (rs : List Record) (c : Chan
   varying : c ≡ Vary → findIn rs 0 (keyFor year o) ≡ At i → Waits (nth rs i) → Stands slots year o rs c i
   annulling : c ≡ Annul → findIn rs 0 (keyFor year o) ≡ At i → Waits (nth rs i) → sameOrder o (nth rs i) ≡ true → Stands slots year o rs c i
 
-unless-zero : (code : ℕ) (next : Ruling) {c : Change} {i : ℕ} → unless code next ≡ Accepted c i → (code ≡ 0) × (next ≡ Accepted c i)
+unless-zero : (code : ℕ) (next : Ruling) {c : Change} {i : ℕ} → unless Refused code next ≡ Accepted c i → (code ≡ 0) × (next ≡ Accepted c i)
 unless-zero zero next e = (refl, e)
 unless-zero (suc code) next e = refused e
 
@@ -170,7 +170,7 @@ pub record Moves (executing : Bool) (line : ℕ) (r : Record) (cents : ℕ) : Ty
   pub moves : lineMoves executing (getD (r .states) (line - 1) 0) ≡ 0
   pub amount : cents ≡ getD (r .amounts) (line - 1) 0
 
-move-zero : (c i m j n : ℕ) → moveOr c (Moved i m) ≡ Moved j n → (c ≡ 0) × (i ≡ j) × (m ≡ n)
+move-zero : (c i m j n : ℕ) → unless Unmoved c (Moved i m) ≡ Moved j n → (c ≡ 0) × (i ≡ j) × (m ≡ n)
 move-zero zero i m j n e = let p : i ≡ j = cc in let q : m ≡ n = cc in (refl, p, q)
 move-zero (suc c) i m j n e = unmoved e
 
@@ -180,7 +180,7 @@ module _ (executing : Bool) (line i : ℕ) (r : Record) {j cents : ℕ} where
   notice-moved e = go (eqb (r .state) 2) (leb 1 line) (leb line (r .lines)) refl refl refl e
     where
       go : (a b c : Bool) → eqb (r .state) 2 ≡ a → leb 1 line ≡ b → leb line (r .lines) ≡ c
-          → cond a (Unmoved 17) (cond (b && c) (moveOr (lineMoves executing (getD (r .states) (line - 1) 0)) (Moved i (getD (r .amounts) (line - 1) 0))) (Unmoved 20)) ≡ Moved j cents
+          → cond a (Unmoved 17) (cond (b && c) (unless Unmoved (lineMoves executing (getD (r .states) (line - 1) 0)) (Moved i (getD (r .amounts) (line - 1) 0))) (Unmoved 20)) ≡ Moved j cents
           → (i ≡ j) × Moves executing line r cents
       go true b c p q s e = unmoved e
       go false false c p q s e = unmoved e

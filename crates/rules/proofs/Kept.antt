@@ -14,7 +14,7 @@ use Rattle.calendar.specs.Calendar.{isDate}
 use Rattle.order.specs.declared.Line.{Line}
 use Rattle.order.specs.Ordinativo.{Ordinativo}
 use Rattle.record.specs.declared.Record.{Record}
-use Rattle.record.specs.Slot.{keyOf}
+use Rattle.record.specs.Slot.{annulledState, keyOf}
 use Rattle.ranges.specs.declared.Found.the-variants.{At}
 use Rattle.valid.specs.Valid.{lineThere, lineAbsent, lineOk, sum, rangesOk}
 use Rattle.slots.specs.Slots.{findIn}
@@ -23,7 +23,7 @@ use Rattle.slots.proofs.Search.{found-below, found-key}
 use Rattle.lines.specs.Lines.{numberedFrom, sumOf, lineCode}
 use Rattle.rules.specs.declared.Change.{Change}
 use Rattle.rules.specs.declared.Ruling.the-variants.{Accepted}
-use Rattle.rules.specs.Rules.{anyExecuted, keyFor, nth, noRecord, eight, amountsOf, judgeOrder, annulled, written}
+use Rattle.rules.specs.Rules.{anyExecuted, keyFor, nth, noRecord, eightPlaces, amountsOf, judgeOrder, recordWith, written}
 use Rattle.rules.specs.Effects.{withState}
 use Rattle.rules.proofs.Laws.{eight-at, length-eight}
 use Rattle.bounds.specs.Bounds.{maxCents}
@@ -102,7 +102,7 @@ waiting-none (suc m) zero zero = refl
 waiting-none (suc m) zero (suc k) = waiting-none m zero k
 waiting-none (suc m) (suc n) k = waiting-none m n k
 
-pub waiting-all : (n : ℕ) → anyExecuted (eight (replicate n 1)) ≡ false
+pub waiting-all : (n : ℕ) → anyExecuted (eightPlaces (replicate n 1)) ≡ false
 waiting-all n = waiting-none 8 n 8
 
 -- places past the lines add nothing
@@ -155,12 +155,12 @@ fresh o kind state esercizio number = record {
   number = number;
   date = o .date;
   total = o .total;
-  states = eight (replicate (length (o .lines)) 1);
-  amounts = eight (amountsOf (o .lines));
+  states = eightPlaces (replicate (length (o .lines)) 1);
+  amounts = eightPlaces (amountsOf (o .lines));
 }
 
 module _ (o : Ordinativo) (w : Writable o) (z : lineCode (o .lines) (o .total) ≡ 0) where
-  fresh-sum : sum (eight (amountsOf (o .lines))) ≡ o .total
+  fresh-sum : sum (eightPlaces (amountsOf (o .lines))) ≡ o .total
   fresh-sum = sum-first 8 8 (amountsOf (o .lines)) (omega (arith, length-amounts (o .lines), w .count)) ∙ sum-amounts (o .lines) ∙ code-zero (o .lines) (o .total) z .1
 
   module _ (kind state esercizio number : ℕ) where
@@ -169,7 +169,7 @@ module _ (o : Ordinativo) (w : Writable o) (z : lineCode (o .lines) (o .total) �
         let n = length (o .lines) in
         split k n
         (λ l. line-waits (fresh o kind state esercizio number) k l (eight-at (replicate n 1) k h ∙ getD-replicate n k 1 0 l)
-        (omega (arith, one-of-sum (eight (amountsOf (o .lines))) k, fresh-sum, w .total)))
+        (omega (arith, one-of-sum (eightPlaces (amountsOf (o .lines))) k, fresh-sum, w .total)))
         (λ l. line-none (fresh o kind state esercizio number) k l
         (eight-at (replicate n 1) k h ∙ List·getD-eq-default (replicate n 1) 0 (omega (arith, length-replicate {A = ℕ} n 1)))
         (eight-at (amountsOf (o .lines)) k h ∙ List·getD-eq-default (amountsOf (o .lines)) 0 (omega (arith, length-amounts (o .lines)))))
@@ -190,6 +190,9 @@ module _ (o : Ordinativo) (w : Writable o) (z : lineCode (o .lines) (o .total) �
 -- an order whose lines all wait stays valid as it is annulled
 between-one : (s : ℕ) → (1 ≤ s) × (s ≤ 2) → (s ≡ 2 → ⊥) → s ≡ 1
 between-one s h n = omega arith
+
+abbrev annulled : Record → Record
+annulled r = recordWith (keyOf r) annulledState (r .lines) (r .date) (r .total) (r .states) (r .amounts)
 
 module _ (r : Record) (v : Valid r) where
   annulled-ranges : rangesOk (annulled r) ≡ true

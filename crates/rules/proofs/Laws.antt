@@ -18,7 +18,7 @@ use Rattle.rules.specs.declared.Situation.the-variants.{Absent, Annulled
 use Rattle.rules.specs.declared.Change.{Change}
 use Rattle.rules.specs.declared.Change.the-variants.{Insert, Vary, Annul}
 use Rattle.rules.specs.declared.Noticed.the-variants.{Moved, Unmoved}
-use Rattle.rules.specs.Rules.{anyExecuted, situationIn, row, stepCode, eight, amountsOf, sameList, sameOrder, lineMoves, moveOr, noticeIn}
+use Rattle.rules.specs.Rules.{anyExecuted, situationIn, row, stepCode, eightPlaces, amountsOf, sameList, sameOrder, lineMoves, noticeIn, unless}
 use Rattle.rules.specs.Inner.{rowOf, columnOf}
 
 -- EIGHT PLACES
@@ -42,23 +42,23 @@ padded (n ∷ ns) m zero = refl
 padded (n ∷ ns) m (suc k) = padded ns m k
 
 module _ (ns : List ℕ) where
-  pub eight-at : (k : ℕ) → k < 8 → getD (eight ns) k 0 ≡ getD ns k 0
+  pub eight-at : (k : ℕ) → k < 8 → getD (eightPlaces ns) k 0 ≡ getD ns k 0
   eight-at k h = getD-take 8 (ns ++ replicate 8 0) k 0 h ∙ padded ns 8 k
 
-  pub length-eight : length (eight ns) ≡ 8
+  pub length-eight : length (eightPlaces ns) ≡ 8
   length-eight = length-take-le 8 (ns ++ replicate 8 0) (omega (arith, length-append ns (replicate 8 0), length-replicate {A = ℕ} 8 0))
 
   -- the eight, one by one
   pub eight-of : {a b c d e f g h : ℕ} → a ≡ getD ns 0 0 → b ≡ getD ns 1 0 → c ≡ getD ns 2 0 → d ≡ getD ns 3 0
       → e ≡ getD ns 4 0 → f ≡ getD ns 5 0 → g ≡ getD ns 6 0 → h ≡ getD ns 7 0
-      → (a ∷ b ∷ c ∷ d ∷ e ∷ f ∷ g ∷ h ∷ []) ≡ eight ns
+      → (a ∷ b ∷ c ∷ d ∷ e ∷ f ∷ g ∷ h ∷ []) ≡ eightPlaces ns
   eight-of a b c d e f g h =
       (λ i.
       is 0 (omega arith) a i ∷ is 1 (omega arith) b i ∷ is 2 (omega arith) c i ∷ is 3 (omega arith) d i
       ∷ is 4 (omega arith) e i ∷ is 5 (omega arith) f i ∷ is 6 (omega arith) g i ∷ is 7 (omega arith) h i ∷ [])
-      ∙ sym (spread (eight ns) 0 length-eight)
+      ∙ sym (spread (eightPlaces ns) 0 length-eight)
     where
-      is : (k : ℕ) {x : ℕ} → k < 8 → x ≡ getD ns k 0 → x ≡ getD (eight ns) k 0
+      is : (k : ℕ) {x : ℕ} → k < 8 → x ≡ getD ns k 0 → x ≡ getD (eightPlaces ns) k 0
       is k l p = p ∙ sym (eight-at k l)
 
 -- a test whether there is a line k, by what holds where there is one and where there is none
@@ -176,7 +176,7 @@ module _ (o : Ordinativo) (r : Record) where
     unfolding sameOrder
     other-count e = rw (eq-eqb _ _ t, ne-eqb (length (o .lines)) (r .lines) (λ q. e (c ∙ q)))
 
-    pub same-amounts : {a : List ℕ} → a ≡ eight (amountsOf (o .lines)) → n ≡ r .lines → sameList a (r .amounts) ≡ sameOrder o r
+    pub same-amounts : {a : List ℕ} → a ≡ eightPlaces (amountsOf (o .lines)) → n ≡ r .lines → sameList a (r .amounts) ≡ sameOrder o r
     unfolding sameOrder
     same-amounts p e = rw (eq-eqb _ _ t, eq-eqb (length (o .lines)) (r .lines) (sym c ∙ e), p)
 
@@ -214,6 +214,6 @@ module _ (executing : Bool) (line i : ℕ) (r : Record) where
         unfolding noticeIn
         notice-refused e = rw (ne-eqb _ _ s, le-leb 1 line h, le-leb line (r .lines) k, ← c) (go code e)
           where
-            go : (x : ℕ) → (x ≡ 0 → ⊥) → moveOr x (Moved i (getD (r .amounts) (line - 1) 0)) ≡ Unmoved x
+            go : (x : ℕ) → (x ≡ 0 → ⊥) → unless Unmoved x (Moved i (getD (r .amounts) (line - 1) 0)) ≡ Unmoved x
             go zero q = absurd (q refl)
             go (suc x) q = refl

@@ -32,7 +32,7 @@ use Rattle.rules.specs.declared.Ruling.{Ruling}
 use Rattle.rules.specs.declared.Ruling.the-variants.{Accepted, Refused}
 use Rattle.rules.specs.declared.Noticed.{Noticed}
 use Rattle.rules.specs.declared.Noticed.the-variants.{Moved, Unmoved}
-use Rattle.rules.specs.Rules.{asksOf, anyExecuted, situationIn, situationOf, row, stepCode, keyFor, nth, noRecord, eight, amountsOf, sameList, sameOrder, placed, unless, stepped, judgeChange, judgeAsked, judgeOrder, lineMoves, moveOr, noticeIn, noticeAt, judgeNotice}
+use Rattle.rules.specs.Rules.{asksOf, anyExecuted, situationIn, situationOf, row, stepCode, keyFor, nth, noRecord, eightPlaces, amountsOf, sameList, sameOrder, placed, unless, stepped, judgeChange, judgeAsked, judgeOrder, lineMoves, noticeIn, noticeAt, judgeNotice}
 use Rattle.rules.specs.Listed.{Has, HasNone, IsAnnulled, IsExecuted, Numbered, Differs, total, count, amounts, OnRecord, variazione, annullo, Applies, sostituzione, misnumbered, missummed, present, full, absent, annulled, executed, differs, NoticeApplies, unknown, closed, zeroth, past, already, notYet, turn, noticeTurn}
 use Rattle.rules.proofs.Laws.{in-annulled, in-executed, moves-executed, moves-waiting}
 use Rattle.rules.proofs.Kept.{none-executed}
@@ -182,7 +182,7 @@ same-true (x ∷ a) (y ∷ b) e =
 
 module _ (o : Ordinativo) (r : Record) where
   abbrev mine : List ℕ
-  mine = eight (amountsOf (o .lines))
+  mine = eightPlaces (amountsOf (o .lines))
 
   other-differs : sameOrder o r ≡ false → Differs o r
   unfolding sameOrder
@@ -220,11 +220,11 @@ module _ (slots year : ℕ) (o : Ordinativo) (rs : List Record) (code : ℕ) whe
       go true false p q e = subst (Applies slots year o rs) e (missummed (eqb-false _ _ q))
       go false b p q e = subst (Applies slots year o rs) e (misnumbered (λ n. false-true (sym p ∙ numbered-true (o .lines) n)))
 
-  at-lines : (c : ℕ) → lineCode (o .lines) (o .total) ≡ c → (next : Ruling) → (next ≡ Refused code → Applies slots year o rs code) → unless c next ≡ Refused code → Applies slots year o rs code
+  at-lines : (c : ℕ) → lineCode (o .lines) (o .total) ≡ c → (next : Ruling) → (next ≡ Refused code → Applies slots year o rs code) → unless Refused c next ≡ Refused code → Applies slots year o rs code
   at-lines zero p next go e = go e
   at-lines (suc c) p next go e = give (lines-apply c p) e
 
-  inserts : o .operation ≡ Inserimento → (f : Found) → findIn rs 0 k ≡ f → unless (stepCode Insert (situationOf rs f)) (placed slots o rs Insert f) ≡ Refused code → Applies slots year o rs code
+  inserts : o .operation ≡ Inserimento → (f : Found) → findIn rs 0 k ≡ f → unless Refused (stepCode Insert (situationOf rs f)) (placed slots o rs Insert f) ≡ Refused code → Applies slots year o rs code
   unfolding situationOf situationIn placed
   inserts p Nothing f e = go (ltb (length rs) slots) refl e
     where
@@ -236,13 +236,13 @@ module _ (slots year : ℕ) (o : Ordinativo) (rs : List Record) (code : ℕ) whe
       there : Applies slots year o rs 14
       there = present p (nth rs i) (found-has rs k i f)
 
-      go : (a b : Bool) → unless (row 0 14 14 14 (cond a Annulled (cond b Executed Waiting))) (placed slots o rs Insert (At i)) ≡ Refused code → Applies slots year o rs code
+      go : (a b : Bool) → unless Refused (row 0 14 14 14 (cond a Annulled (cond b Executed Waiting))) (placed slots o rs Insert (At i)) ≡ Refused code → Applies slots year o rs code
       go true b e = give there e
       go false true e = give there e
       go false false e = give there e
 
   on-record : OnRecord (o .operation) → (f : Found) → findIn rs 0 k ≡ f → (next : Ruling) → ((i : ℕ) → f ≡ At i → next ≡ Refused code → Applies slots year o rs code)
-      → unless (row 16 17 0 18 (situationOf rs f)) next ≡ Refused code → Applies slots year o rs code
+      → unless Refused (row 16 17 0 18 (situationOf rs f)) next ≡ Refused code → Applies slots year o rs code
   unfolding situationOf situationIn
   on-record w Nothing f next later e = give (absent w (nothing-none rs k f)) e
   on-record w (At i) f next later e = go (eqb (nth rs i .state) 2) (anyExecuted (nth rs i .states)) refl refl e
@@ -251,7 +251,7 @@ module _ (slots year : ℕ) (o : Ordinativo) (rs : List Record) (code : ℕ) whe
       has = found-has rs k i f
 
       go : (a b : Bool) → eqb (nth rs i .state) 2 ≡ a → anyExecuted (nth rs i .states) ≡ b
-          → unless (row 16 17 0 18 (cond a Annulled (cond b Executed Waiting))) next ≡ Refused code → Applies slots year o rs code
+          → unless Refused (row 16 17 0 18 (cond a Annulled (cond b Executed Waiting))) next ≡ Refused code → Applies slots year o rs code
       go true b p q e = give (annulled w (nth rs i) has (eqb-true _ _ p)) e
       go false true p q e = let x = some-executed (nth rs i .states) q in give (executed w (nth rs i) has (eqb-false _ _ p) (x .0) (x .1)) e
       go false false p q e = later i refl e
@@ -343,7 +343,7 @@ module _ (slots year : ℕ) (o : Ordinativo) (rs : List Record) where
   unfolding lineCode
   sum-wrong c e = rw e (go (numberedFrom 1 (o .lines)))
     where
-      go : (b : Bool) → By (unless (cond b 13 12) (stepped slots o rs c (findIn rs 0 key))) 3
+      go : (b : Bool) → By (unless Refused (cond b 13 12) (stepped slots o rs c (findIn rs 0 key))) 3
       go true = record { code = 13; is = refl; soon = omega arith }
       go false = record { code = 12; is = refl; soon = omega arith }
 
@@ -351,14 +351,14 @@ module _ (slots year : ℕ) (o : Ordinativo) (rs : List Record) where
   unfolding lineCode
   past-lines c t l b = go (numberedFrom 1 (o .lines)) (eqb (sumOf (o .lines)) (o .total))
     where
-      go : (x y : Bool) → By (unless (cond x (cond y 0 13) 12) (stepped slots o rs c (findIn rs 0 key))) t
+      go : (x y : Bool) → By (unless Refused (cond x (cond y 0 13) 12) (stepped slots o rs c (findIn rs 0 key))) t
       go true true = b
       go true false = record { code = 13; is = refl; soon = l }
       go false y = record { code = 12; is = refl; soon = omega arith }
 
   -- THE STEP TABLE, by what the search found
   abbrev stepBy : Change → Found → (Situation → ℕ) → Ruling
-  stepBy c f codes = unless (codes (situationOf rs f)) (placed slots o rs c f)
+  stepBy c f codes = unless Refused (codes (situationOf rs f)) (placed slots o rs c f)
 
   changing-by : (c : Change) (t : ℕ) → 4 ≤ t → (f : Found) → asksOf (o .operation) ≡ For c → findIn rs 0 key ≡ f → By (stepBy c f (stepCode c)) t → By answer t
   unfolding stepped
@@ -368,13 +368,13 @@ module _ (slots year : ℕ) (o : Ordinativo) (rs : List Record) where
   record-by w f e b =
       let r = row-of w in
       let c = r .change in
-      changing-by c 4 (omega arith) f (r .asks) e (by (ap (λ (m : ℕ). unless m (placed slots o rs c f)) (r .codes (situationOf rs f))) (b c))
+      changing-by c 4 (omega arith) f (r .asks) e (by (ap (λ (m : ℕ). unless Refused m (placed slots o rs c f)) (r .codes (situationOf rs f))) (b c))
 
   there-by : (i : ℕ) → By (stepBy Insert (At i) (row 0 14 14 14)) 4
   unfolding situationOf situationIn
   there-by i = go (eqb (nth rs i .state) 2) (anyExecuted (nth rs i .states))
     where
-      go : (a b : Bool) → By (unless (row 0 14 14 14 (cond a Annulled (cond b Executed Waiting))) (placed slots o rs Insert (At i))) 4
+      go : (a b : Bool) → By (unless Refused (row 0 14 14 14 (cond a Annulled (cond b Executed Waiting))) (placed slots o rs Insert (At i))) 4
       go true b = record { code = 14; is = refl; soon = omega arith }
       go false true = record { code = 14; is = refl; soon = omega arith }
       go false false = record { code = 14; is = refl; soon = omega arith }
@@ -396,7 +396,7 @@ module _ (slots year : ℕ) (o : Ordinativo) (rs : List Record) where
   unfolding situationOf situationIn placed
   differs-by i e = go (eqb (nth rs i .state) 2) (anyExecuted (nth rs i .states))
     where
-      go : (a b : Bool) → By (unless (row 16 17 0 18 (cond a Annulled (cond b Executed Waiting))) (placed slots o rs Annul (At i))) 5
+      go : (a b : Bool) → By (unless Refused (row 16 17 0 18 (cond a Annulled (cond b Executed Waiting))) (placed slots o rs Annul (At i))) 5
       go true b = record { code = 17; is = refl; soon = omega arith }
       go false true = record { code = 18; is = refl; soon = omega arith }
       go false false = record { code = 19; is = rw e; soon = omega arith }
@@ -469,22 +469,22 @@ module _ (executing : Bool) (k : Key) (line : ℕ) (rs : List Record) where
     give-notice : {c : ℕ} → NoticeApplies executing k line rs c → Unmoved c ≡ Unmoved code → NoticeApplies executing k line rs code
     give-notice {c} h e = let q : c ≡ code = cc in subst (NoticeApplies executing k line rs) q h
 
-    moves-apply : (r : Record) → Has rs k r → (i cents : ℕ) → moveOr (lineMoves executing (getD (r .states) (line - 1) 0)) (Moved i cents) ≡ Unmoved code → NoticeApplies executing k line rs code
+    moves-apply : (r : Record) → Has rs k r → (i cents : ℕ) → unless Unmoved (lineMoves executing (getD (r .states) (line - 1) 0)) (Moved i cents) ≡ Unmoved code → NoticeApplies executing k line rs code
     unfolding lineMoves
     moves-apply r h i cents e = go executing (eqb (getD (r .states) (line - 1) 0) 2) refl refl e
       where
-        go : (x b : Bool) → executing ≡ x → eqb (getD (r .states) (line - 1) 0) 2 ≡ b → moveOr (lineMoves x (getD (r .states) (line - 1) 0)) (Moved i cents) ≡ Unmoved code → NoticeApplies executing k line rs code
-        go true true p q e = give-notice (already p r h (eqb-true _ _ q)) (sym (ap (λ (b : Bool). moveOr (cond b 21 0) (Moved i cents)) q) ∙ e)
-        go true false p q e = let z : Moved i cents ≡ Unmoved code = sym (ap (λ (b : Bool). moveOr (cond b 21 0) (Moved i cents)) q) ∙ e in let y : clash = cc in no y
-        go false true p q e = let z : Moved i cents ≡ Unmoved code = sym (ap (λ (b : Bool). moveOr (cond b 0 22) (Moved i cents)) q) ∙ e in let y : clash = cc in no y
-        go false false p q e = give-notice (notYet p r h (eqb-false _ _ q)) (sym (ap (λ (b : Bool). moveOr (cond b 0 22) (Moved i cents)) q) ∙ e)
+        go : (x b : Bool) → executing ≡ x → eqb (getD (r .states) (line - 1) 0) 2 ≡ b → unless Unmoved (lineMoves x (getD (r .states) (line - 1) 0)) (Moved i cents) ≡ Unmoved code → NoticeApplies executing k line rs code
+        go true true p q e = give-notice (already p r h (eqb-true _ _ q)) (sym (ap (λ (b : Bool). unless Unmoved (cond b 21 0) (Moved i cents)) q) ∙ e)
+        go true false p q e = let z : Moved i cents ≡ Unmoved code = sym (ap (λ (b : Bool). unless Unmoved (cond b 21 0) (Moved i cents)) q) ∙ e in let y : clash = cc in no y
+        go false true p q e = let z : Moved i cents ≡ Unmoved code = sym (ap (λ (b : Bool). unless Unmoved (cond b 0 22) (Moved i cents)) q) ∙ e in let y : clash = cc in no y
+        go false false p q e = give-notice (notYet p r h (eqb-false _ _ q)) (sym (ap (λ (b : Bool). unless Unmoved (cond b 0 22) (Moved i cents)) q) ∙ e)
 
     notice-apply : (r : Record) → Has rs k r → (i : ℕ) → noticeIn executing line i r ≡ Unmoved code → NoticeApplies executing k line rs code
     unfolding noticeIn
     notice-apply r h i e = go (eqb (r .state) 2) (leb 1 line) (leb line (r .lines)) refl refl refl e
       where
         go : (a b c : Bool) → eqb (r .state) 2 ≡ a → leb 1 line ≡ b → leb line (r .lines) ≡ c
-            → cond a (Unmoved 17) (cond (b && c) (moveOr (lineMoves executing (getD (r .states) (line - 1) 0)) (Moved i (getD (r .amounts) (line - 1) 0))) (Unmoved 20)) ≡ Unmoved code
+            → cond a (Unmoved 17) (cond (b && c) (unless Unmoved (lineMoves executing (getD (r .states) (line - 1) 0)) (Moved i (getD (r .amounts) (line - 1) 0))) (Unmoved 20)) ≡ Unmoved code
             → NoticeApplies executing k line rs code
         go true b c p q s e = give-notice (closed r h (eqb-true _ _ p)) e
         go false false c p q s e = give-notice (zeroth (omega (arith, leb-false 1 line q))) e
@@ -516,11 +516,11 @@ module _ (executing : Bool) (k : Key) (line : ℕ) (rs : List Record) where
     abbrev state : ℕ
     state = getD (it .states) (line - 1) 0
 
-    in-range : (t : ℕ) → 3 ≤ t → NoticeBy (moveOr (lineMoves executing state) (Moved i (getD (it .amounts) (line - 1) 0))) t → NoticeBy (noticeAt executing line rs (At i)) t
+    in-range : (t : ℕ) → 3 ≤ t → NoticeBy (unless Unmoved (lineMoves executing state) (Moved i (getD (it .amounts) (line - 1) 0))) t → NoticeBy (noticeAt executing line rs (At i)) t
     unfolding noticeAt noticeIn
     in-range t l b = go (eqb (it .state) 2) (leb 1 line && leb line (it .lines))
       where
-        go : (x y : Bool) → NoticeBy (cond x (Unmoved 17) (cond y (moveOr (lineMoves executing state) (Moved i (getD (it .amounts) (line - 1) 0))) (Unmoved 20))) t
+        go : (x y : Bool) → NoticeBy (cond x (Unmoved 17) (cond y (unless Unmoved (lineMoves executing state) (Moved i (getD (it .amounts) (line - 1) 0))) (Unmoved 20))) t
         go true y = record { code = 17; is = refl; soon = omega arith }
         go false true = b
         go false false = record { code = 20; is = refl; soon = l }

@@ -5,11 +5,12 @@ use mathlib.Core.List.{List, [], _∷_, _++_}
 use lib.ListN.{set, take, drop}
 use Rattle.order.specs.Ordinativo.{Ordinativo}
 use Rattle.record.specs.declared.Record.{Record}
+use Rattle.record.specs.Slot.{keyOf}
 use Rattle.rules.specs.declared.Ruling.{Ruling}
 use Rattle.rules.specs.declared.Ruling.the-variants.{Accepted, Refused}
 use Rattle.rules.specs.declared.Noticed.{Noticed}
 use Rattle.rules.specs.declared.Noticed.the-variants.{Moved, Unmoved}
-use Rattle.rules.specs.Rules.{nth, judgeOrder, written, movedTo}
+use Rattle.rules.specs.Rules.{nth, judgeOrder, recordWith, written, movedTo}
 
 -- a record in place of the one at i, or after the last
 abbrev pub storedAt : List Record → ℕ → Record → List Record
@@ -27,17 +28,7 @@ allRecords slots year (o ∷ os) rs = allRecords slots year os (recordsBy year o
 
 -- a record with the state s at line k, counted from 0
 abbrev pub withState : Record → ℕ → ℕ → Record
-withState r k s = record {
-  kind = r .kind;
-  state = r .state;
-  lines = r .lines;
-  esercizio = r .esercizio;
-  number = r .number;
-  date = r .date;
-  total = r .total;
-  states = set (r .states) k s;
-  amounts = r .amounts;
-}
+withState r k s = recordWith (keyOf r) (r .state) (r .lines) (r .date) (r .total) (set (r .states) k s) (r .amounts)
 
 -- a notice: "Execution sets the line executed; reversal sets it waiting again"
 abbrev pub recordsMoved : Bool → ℕ → List Record → Noticed → List Record

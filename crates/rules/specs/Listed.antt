@@ -12,9 +12,9 @@ use Rattle.order.specs.declared.Line.{Line}
 use Rattle.order.specs.Ordinativo.{Ordinativo}
 use Rattle.record.specs.declared.Record.{Record}
 use Rattle.record.specs.declared.Key.{Key}
-use Rattle.record.specs.Slot.{keyOf}
+use Rattle.record.specs.Slot.{annulledState, executedLine, keyOf}
 use Rattle.lines.specs.Lines.{sumOf}
-use Rattle.rules.specs.Rules.{keyFor, eight, amountsOf}
+use Rattle.rules.specs.Rules.{keyFor, eightPlaces, amountsOf}
 
 -- r is one of the records, the one of this kind, esercizio and number
 pub record Has (rs : List Record) (k : Key) (r : Record) : Type 0 where
@@ -26,11 +26,11 @@ HasNone rs k = (r : Record) → Has rs k r → ⊥
 
 -- "state (1 acquired, 2 annulled)"
 abbrev pub IsAnnulled : Record → Type 0
-IsAnnulled r = r .state ≡ 2
+IsAnnulled r = r .state ≡ annulledState
 
 -- "line states (.. 1 waiting, 2 executed)": line k, counted from 0
 abbrev pub IsExecuted : Record → ℕ → Type 0
-IsExecuted r k = getD (r .states) k 0 ≡ 2
+IsExecuted r k = getD (r .states) k 0 ≡ executedLine
 
 -- AN ORDER
 
@@ -42,7 +42,7 @@ Numbered ls = (k : ℕ) → k < length ls → getD (map (λ (l : Line). l .progr
 pub data Differs (o : Ordinativo) (r : Record) : Type 0 where
   total : (o .total ≡ r .total → ⊥) → Differs o r
   count : (length (o .lines) ≡ r .lines → ⊥) → Differs o r
-  amounts : (eight (amountsOf (o .lines)) ≡ r .amounts → ⊥) → Differs o r
+  amounts : (eightPlaces (amountsOf (o .lines)) ≡ r .amounts → ⊥) → Differs o r
 
 -- the operations on an order that is there
 pub data OnRecord : Operation → Type 0 where

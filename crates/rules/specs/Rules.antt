@@ -6,13 +6,14 @@ use lib.ListN.{length, getD, take, replicate}
 use lib.Dec.{eqb, leb, ltb}
 use Rattle.ranges.specs.declared.Found.{Found}
 use Rattle.ranges.specs.declared.Found.the-variants.{At, Nothing}
+use Rattle.calendar.specs.declared.Date.{Date}
 use Rattle.codes.specs.declared.Operation.{Operation}
 use Rattle.codes.specs.declared.Operation.the-variants.{Inserimento, Variazione, Annullo, Sostituzione}
 use Rattle.order.specs.declared.Line.{Line}
 use Rattle.order.specs.Ordinativo.{Ordinativo}
 use Rattle.record.specs.declared.Record.{Record}
 use Rattle.record.specs.declared.Key.{Key}
-use Rattle.record.specs.Slot.{keyOf}
+use Rattle.record.specs.Slot.{acquiredState, annulledState, waitingLine, executedLine, recordAt, keyOf}
 use Rattle.slots.specs.Slots.{findIn}
 use Rattle.lines.specs.Lines.{lineCode}
 use Rattle.rules.specs.declared.Situation.{Situation}
@@ -37,11 +38,11 @@ asksOf Sostituzione = Unserved 11
 
 unfoldable pub anyExecuted : List ℕ → Bool
 anyExecuted [] = false
-anyExecuted (s ∷ states) = eqb s 2 || anyExecuted states
+anyExecuted (s ∷ states) = eqb s executedLine || anyExecuted states
 
 -- the situation of an order that is there
 unfoldable pub situationIn : Record → Situation
-situationIn r = cond (eqb (r .state) 2) Annulled (cond (anyExecuted (r .states)) Executed Waiting)
+situationIn r = cond (eqb (r .state) annulledState) Annulled (cond (anyExecuted (r .states)) Executed Waiting)
 
 -- a row: "absent; annulled; acquired, all lines waiting; acquired, a line executed"
 abbrev pub row : ℕ → ℕ → ℕ → ℕ → Situation → ℕ
@@ -62,19 +63,9 @@ stepCode Annul s = row 16 17 0 18 s
 abbrev pub keyFor : ℕ → Ordinativo → Key
 keyFor year o = record { kind = o .kind; esercizio = year; number = o .number }
 
--- no record: nothing ever looks past the last one
+-- no record, an empty slot's: nothing ever looks past the last one
 abbrev pub noRecord : Record
-noRecord = record {
-  kind = 0;
-  state = 0;
-  lines = 0;
-  esercizio = 0;
-  number = 0;
-  date = record { year = 0; month = 0; day = 0 };
-  total = 0;
-  states = replicate 8 0;
-  amounts = replicate 8 0;
-}
+noRecord = recordAt [] 0
 
 -- the record at an index of a body's records
 abbrev pub nth : List Record → ℕ → Record
@@ -85,8 +76,8 @@ situationOf rs Nothing = Absent
 situationOf rs (At i) = situationIn (nth rs i)
 
 -- EIGHT PLACES of a record, nothing after what there is: "eight line states (0 no line ..)", "eight amounts"
-abbrev pub eight : List ℕ → List ℕ
-eight ns = take 8 (ns ++ replicate 8 0)
+abbrev pub eightPlaces : List ℕ → List ℕ
+eightPlaces ns = take 8 (ns ++ replicate 8 0)
 
 unfoldable pub amountsOf : List Line → List ℕ
 amountsOf [] = []
@@ -100,7 +91,7 @@ sameList (a ∷ x) (b ∷ y) = eqb a b && sameList x y
 
 -- "19 (ANNULLO: total, number of lines or a line amount differs from the record)"
 unfoldable pub sameOrder : Ordinativo → Record → Bool
-sameOrder o r = eqb (o .total) (r .total) && (eqb (length (o .lines)) (r .lines) && sameList (eight (amountsOf (o .lines))) (r .amounts))
+sameOrder o r = eqb (o .total) (r .total) && (eqb (length (o .lines)) (r .lines) && sameList (eightPlaces (amountsOf (o .lines))) (r .amounts))
 
 -- after a step of 0: the slot that the order's record takes. "15 (INSERIMENTO: the body has no empty slot)"
 abbrev pub firstEmpty : ℕ → List Record → Ruling
@@ -116,17 +107,17 @@ placed slots o rs Vary Nothing = Refused 16
 placed slots o rs Annul (At i) = ifSame o rs i
 placed slots o rs Annul Nothing = Refused 16
 
--- a code, or what comes after where it is 0
-abbrev pub unless : ℕ → Ruling → Ruling
-unless zero next = next
-unless (suc c) next = Refused (suc c)
+-- refused with a code, or what comes after where it is 0
+abbrev pub unless : {A : Type 0} → (ℕ → A) → ℕ → A → A
+unless refuse zero next = next
+unless refuse (suc c) next = refuse (suc c)
 
 unfoldable pub stepped : ℕ → Ordinativo → List Record → Change → Found → Ruling
-stepped slots o rs c f = unless (stepCode c (situationOf rs f)) (placed slots o rs c f)
+stepped slots o rs c f = unless Refused (stepCode c (situationOf rs f)) (placed slots o rs c f)
 
 -- "12 ..; 13 ..; then the step table ..; then 19 .. or 15 ..; else 0"
 abbrev pub judgeChange : ℕ → ℕ → Ordinativo → List Record → Change → Ruling
-judgeChange slots year o rs c = unless (lineCode (o .lines) (o .total)) (stepped slots o rs c (findIn rs 0 (keyFor year o)))
+judgeChange slots year o rs c = unless Refused (lineCode (o .lines) (o .total)) (stepped slots o rs c (findIn rs 0 (keyFor year o)))
 
 abbrev pub judgeAsked : ℕ → ℕ → Ordinativo → List Record → Asks → Ruling
 judgeAsked slots year o rs (For c) = judgeChange slots year o rs c
@@ -142,69 +133,49 @@ orderCode (Refused code) = code
 
 -- WHAT IS WRITTEN
 
--- a record with this key and state, and the order's date, total and lines, all of them waiting
-abbrev pub recordOf : Key → ℕ → Ordinativo → Record
-recordOf k state o = record {
+-- a record of this key and state: so many lines, date, total, line states and amounts
+abbrev pub recordWith : Key → ℕ → ℕ → Date → ℕ → List ℕ → List ℕ → Record
+recordWith k state lines date total states amounts = record {
   kind = k .kind;
   state = state;
-  lines = length (o .lines);
+  lines = lines;
   esercizio = k .esercizio;
   number = k .number;
-  date = o .date;
-  total = o .total;
-  states = eight (replicate (length (o .lines)) 1);
-  amounts = eight (amountsOf (o .lines));
+  date = date;
+  total = total;
+  states = states;
+  amounts = amounts;
 }
 
--- "INSERIMENTO fills the body's first empty slot with all lines waiting"
-abbrev pub inserted : ℕ → Ordinativo → Record
-inserted year o = recordOf (keyFor year o) 1 o
+-- with the order's date, total and lines, all of them waiting
+abbrev pub recordOf : Key → ℕ → Ordinativo → Record
+recordOf k state o =
+    recordWith k state (length (o .lines)) (o .date) (o .total) (eightPlaces (replicate (length (o .lines)) waitingLine)) (eightPlaces (amountsOf (o .lines)))
 
--- "VARIAZIONE replaces date, total and lines"
-abbrev pub varied : Ordinativo → Record → Record
-varied o r = recordOf (keyOf r) (r .state) o
-
--- "ANNULLO sets the state only"
-abbrev pub annulled : Record → Record
-annulled r = record {
-  kind = r .kind;
-  state = 2;
-  lines = r .lines;
-  esercizio = r .esercizio;
-  number = r .number;
-  date = r .date;
-  total = r .total;
-  states = r .states;
-  amounts = r .amounts;
-}
-
--- the record that an accepted change leaves in its slot, which held r
+-- the record that an accepted change leaves in its slot, which held r: "INSERIMENTO fills the body's first empty slot with all lines waiting;
+-- VARIAZIONE replaces date, total and lines; ANNULLO sets the state only"
 unfoldable pub written : ℕ → Ordinativo → Record → Change → Record
-written year o r Insert = inserted year o
-written year o r Vary = varied o r
-written year o r Annul = annulled r
+written year o r Insert = recordOf (keyFor year o) acquiredState o
+written year o r Vary = recordOf (keyOf r) (r .state) o
+written year o r Annul = recordWith (keyOf r) annulledState (r .lines) (r .date) (r .total) (r .states) (r .amounts)
 
 -- A NOTICE: "Execution sets the line executed; reversal sets it waiting again"
 
 -- 0 where a line of this state moves, else "for execution 21 (already executed), for reversal 22 (not executed)"
 unfoldable pub lineMoves : Bool → ℕ → ℕ
-lineMoves true state = cond (eqb state 2) 21 0
-lineMoves false state = cond (eqb state 2) 0 22
+lineMoves true state = cond (eqb state executedLine) 21 0
+lineMoves false state = cond (eqb state executedLine) 0 22
 
 abbrev pub movedTo : Bool → ℕ
-movedTo true = 2
-movedTo false = 1
-
-abbrev pub moveOr : ℕ → Noticed → Noticed
-moveOr zero next = next
-moveOr (suc c) next = Unmoved (suc c)
+movedTo true = executedLine
+movedTo false = waitingLine
 
 -- "17; 20 (no such line)": line 0 or past the order's lines
 unfoldable pub noticeIn : Bool → ℕ → ℕ → Record → Noticed
 noticeIn executing line i r =
-    cond (eqb (r .state) 2) (Unmoved 17)
+    cond (eqb (r .state) annulledState) (Unmoved 17)
     (cond (leb 1 line && leb line (r .lines))
-    (moveOr (lineMoves executing (getD (r .states) (line - 1) 0)) (Moved i (getD (r .amounts) (line - 1) 0)))
+    (unless Unmoved (lineMoves executing (getD (r .states) (line - 1) 0)) (Moved i (getD (r .amounts) (line - 1) 0)))
     (Unmoved 20))
 
 unfoldable pub noticeAt : Bool → ℕ → List Record → Found → Noticed

@@ -9,7 +9,8 @@ ghost use Prim.Native.Nat.{_≤_};
 ghost use lib.ListN.{replicate};
 ghost use lib.Dec.{ltb};
 ghost use Rattle.order.specs.Ordinativo.{linesThere, ordinativo};
-ghost use Rattle.rules.specs.Rules.{asksOf, anyExecuted, situationIn, stepCode, eight, amountsOf, sameList, sameOrder, inserted, varied, annulled, written, lineMoves, noticeIn};
+ghost use Rattle.record.specs.Slot.{acquiredState, annulledState, waitingLine, keyOf};
+ghost use Rattle.rules.specs.Rules.{asksOf, anyExecuted, situationIn, stepCode, eightPlaces, amountsOf, sameList, sameOrder, keyFor, recordWith, recordOf, written, lineMoves, noticeIn};
 ghost use Rattle.rules.specs.Inner.{rowOf, columnOf};
 
 // Where the step table's columns stand.
@@ -68,7 +69,7 @@ fn amount_for(n: usize, k: usize, amount: u64) -> u64
 
 // Eight amounts. Whatever stands in a place past the lines is left out.
 fn amounts_of(ls: Lines) -> [u64; 8]
-    ensures { λ r. ⌜ r ≡ eight (amountsOf (linesThere ls)) ⌝ }
+    ensures { λ r. ⌜ r ≡ eightPlaces (amountsOf (linesThere ls)) ⌝ }
 {
     let e = ls.each;
     let n = ls.count;
@@ -86,13 +87,13 @@ fn amounts_of(ls: Lines) -> [u64; 8]
 
 // The state at place k of n lines: waiting, or no line.
 fn waiting_for(n: usize, k: usize) -> u8
-    ensures { λ r. ⌜ r ≡ cond (ltb k n) 1 0 ⌝ }
+    ensures { λ r. ⌜ r ≡ cond (ltb k n) waitingLine 0 ⌝ }
 {
-    if k < n { 1 } else { 0 }
+    if k < n { record::WAITING } else { 0 }
 }
 
 fn waiting_lines(n: usize) -> [u8; 8]
-    ensures { λ r. ⌜ r ≡ eight (replicate n 1) ⌝ }
+    ensures { λ r. ⌜ r ≡ eightPlaces (replicate n waitingLine) ⌝ }
 {
     [
         waiting_for(n, 0),
@@ -111,7 +112,7 @@ fn any_executed(states: &[u8]) -> bool
 {
     let mut i = 0;
     while i < states.len() {
-        if states[i] == 2 {
+        if states[i] == record::EXECUTED {
             return true;
         }
         i += 1;
@@ -124,7 +125,7 @@ pub fn situation_in(r: Record) -> Situation
     ensures { λ s. ⌜ s ≡ situationIn r ⌝ }
 {
     let states = r.states;
-    if r.state == 2 {
+    if r.state == record::ANNULLED {
         return Situation::Annulled;
     }
     if any_executed(&states) {
@@ -197,7 +198,7 @@ pub fn same_order(o: Order, r: Record) -> bool
 }
 
 fn inserted_by(year: u64, o: Order) -> Record
-    ensures { λ w. ⌜ w ≡ inserted year (ordinativo o) ⌝ }
+    ensures { λ w. ⌜ w ≡ recordOf (keyFor year (ordinativo o)) acquiredState (ordinativo o) ⌝ }
 {
     let ls = o.lines;
     let date = o.date;
@@ -206,7 +207,7 @@ fn inserted_by(year: u64, o: Order) -> Record
     let amounts = amounts_of(ls);
     Record {
         kind: o.kind,
-        state: 1,
+        state: record::ACQUIRED,
         lines: n as u8,
         esercizio: year,
         number: o.number,
@@ -219,7 +220,7 @@ fn inserted_by(year: u64, o: Order) -> Record
 
 // Date, total and lines are replaced: nothing is left of the lines it had.
 fn varied_by(o: Order, r: Record) -> Record
-    ensures { λ w. ⌜ w ≡ varied (ordinativo o) r ⌝ }
+    ensures { λ w. ⌜ w ≡ recordOf (keyOf r) (r .state) (ordinativo o) ⌝ }
 {
     let ls = o.lines;
     let date = o.date;
@@ -237,10 +238,10 @@ fn varied_by(o: Order, r: Record) -> Record
 
 // The state only.
 fn annulled_of(r: Record) -> Record
-    ensures { λ w. ⌜ w ≡ annulled r ⌝ }
+    ensures { λ w. ⌜ w ≡ recordWith (keyOf r) annulledState (r .lines) (r .date) (r .total) (r .states) (r .amounts) ⌝ }
 {
     let mut w = r;
-    w.state = 2;
+    w.state = record::ANNULLED;
     w
 }
 
@@ -259,9 +260,9 @@ fn line_moves(executing: bool, state: u8) -> u8
     ensures { λ r. ⌜ r ≡ lineMoves executing state ⌝ }
 {
     if executing {
-        if state == 2 { 21 } else { 0 }
+        if state == record::EXECUTED { 21 } else { 0 }
     } else {
-        if state == 2 { 0 } else { 22 }
+        if state == record::EXECUTED { 0 } else { 22 }
     }
 }
 
@@ -272,7 +273,7 @@ pub fn notice_in(executing: bool, line: u64, i: usize, r: Record) -> Noticed
 {
     let states = r.states;
     let amounts = r.amounts;
-    if r.state == 2 {
+    if r.state == record::ANNULLED {
         return Noticed::Unmoved(17);
     }
     if line < 1 {

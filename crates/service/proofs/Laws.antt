@@ -108,7 +108,7 @@ module _ (t : List ℕ) (base n : ℕ) where
     first-full h = rw (length-is, le-ltb used n h)
 
 -- a code that isn't 0 is the answer
-unless-stop : (code : ℕ) (next : Ruling) → (code ≡ 0 → ⊥) → unless code next ≡ Refused code
+unless-stop : (code : ℕ) (next : Ruling) → (code ≡ 0 → ⊥) → unless Refused code next ≡ Refused code
 unless-stop zero next h = absurd (h refl)
 unless-stop (suc code) next h = refl
 

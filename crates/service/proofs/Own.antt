@@ -1,10 +1,11 @@
 -- What a body's calls answer and leave rests on its own slots alone: where these agree, so do the answers, the outcomes and the slots afterwards.
 use Prim.Native.Nat.{ℕ, _+_, _-_, _*_, _≤_, _<_}
-use mathlib.Core.Bool.{Bool, true}
+use mathlib.Core.Bool.{Bool, true, cond}
 use mathlib.Core.List.{List, [], _∷_, _++_}
 use mathlib.Core.Path.{_≡_, refl, sym, ap, _∙_}
 use native.Mathlib.Omega.{arith}
 use lib.ListN.{length, getD}
+use lib.Dec.{eqb}
 use Rattle.words.specs.Numbers.{put}
 use Rattle.words.proofs.Laws.{Agree, on, get-before, get-in, get-after}
 use Rattle.order.specs.Ordinativo.{Ordinativo}
@@ -22,7 +23,7 @@ use Rattle.rules.specs.Rules.{judgeOrder, orderCode, written, judgeNotice, move
 use Rattle.rules.proofs.Kept.{split}
 use Rattle.service.proofs.Laws.{order-low, notice-line}
 use Rattle.service.proofs.Kept.{Writables, none, more, order-kept}
-use Rattle.service.specs.Service.{orderComes, orderStored, orderLeaves, outcomeBytes, one, allLeave, allOutcomes, allAccepted, noticeComes, noticeStored, noticeLeaves}
+use Rattle.service.specs.Service.{orderComes, orderStored, orderLeaves, outcomeBytes, allLeave, allOutcomes, allAccepted, noticeComes, noticeStored, noticeLeaves}
 
 -- the same bytes put at the same place
 pub put-agree : {s t : List ℕ} {p q m : ℕ} → Agree s p t q m → (k : ℕ) (v : List ℕ) → p + k ≤ length s → q + k ≤ length t → Agree (put s (p + k) v) p (put t (q + k) v) q m
@@ -106,6 +107,6 @@ all-own {s} {t} {p} {q} n year (o ∷ os) a hs ht (more w ws) y =
     let r = all-own n year os b (omega (arith, ks .long, hs), ks .ok) (omega (arith, kt .long, ht), kt .ok) ws y in
     record {
       outcomes = λ k. outcomeBytes o (orderCode (e k)) ++ r .outcomes k;
-      accepted = λ k. one (e k) + r .accepted k;
+      accepted = λ k. cond (eqb (orderCode (e k)) 0) 1 0 + r .accepted k;
       left = r .left;
     }

@@ -1,9 +1,10 @@
 -- Orders and notices served on one body of a table's bytes (document 01, "Answers"): the rules over its records, and the bytes they leave.
 use Prim.Native.Nat.{ℕ, _+_, _*_, _-_}
 use mathlib.Core.Path.{_≡_}
-use mathlib.Core.Bool.{Bool}
+use mathlib.Core.Bool.{Bool, cond}
 use mathlib.Core.List.{List, [], _∷_, _++_}
 use lib.ListN.{length}
+use lib.Dec.{eqb}
 use Rattle.words.specs.Numbers.{put, bytes4, bytes8}
 use Rattle.codes.specs.Codes.{operationNumber}
 use Rattle.order.specs.Ordinativo.{Ordinativo}
@@ -54,14 +55,11 @@ allOutcomes t base n year [] = []
 allOutcomes t base n year (o ∷ os) =
     outcomeBytes o (orderCode (orderComes t base n year o)) ++ allOutcomes (orderLeaves t base n year o) base n year os
 
-abbrev pub one : Ruling → ℕ
-one (Accepted c i) = 1
-one (Refused code) = 0
-
 -- "accepted (how many of them got outcome code 0)"
 unfoldable pub allAccepted : List ℕ → ℕ → ℕ → ℕ → List Ordinativo → ℕ
 allAccepted t base n year [] = 0
-allAccepted t base n year (o ∷ os) = one (orderComes t base n year o) + allAccepted (orderLeaves t base n year o) base n year os
+allAccepted t base n year (o ∷ os) =
+    cond (eqb (orderCode (orderComes t base n year o)) 0) 1 0 + allAccepted (orderLeaves t base n year o) base n year os
 
 -- A NOTICE
 

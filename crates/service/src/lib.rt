@@ -161,7 +161,11 @@ pub fn put_outcome(out: &mut [u8], at: usize, o: Order, code: u8)
 fn moved_to(executing: bool) -> u8
     ensures { λ r. ⌜ r ≡ movedTo executing ⌝ }
 {
-    if executing { 2 } else { 1 }
+    if executing {
+        record::EXECUTED
+    } else {
+        record::WAITING
+    }
 }
 
 // What a notice comes to.

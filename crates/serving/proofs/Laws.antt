@@ -1,9 +1,11 @@
 -- The orders of a flow served one after the other.
 use mathlib.Core.Path.{_≡_, refl, sym, ap, _∙_}
 use mathlib.Core.List.{List, [], _++_}
+use mathlib.Core.Bool.{cond}
 use Prim.Native.Nat.{ℕ, zero, suc, _+_, _*_, _-_, _≤_, _<_}
 use native.Mathlib.Omega.{arith}
 use lib.ListN.{length, length-map}
+use lib.Dec.{eqb}
 use Rattle.words.specs.Numbers.{put}
 use Rattle.words.proofs.Laws.{put-nil, put-put}
 use Rattle.record.specs.Slot.{slotSize}
@@ -18,7 +20,7 @@ use Rattle.orders.specs.Orders.{inRow, orderOf, ordersIn}
 use Rattle.orders.proofs.Laws.{row-at, orders-one, orders-end, Order-at, order-at}
 use Rattle.rules.specs.declared.Ruling.{Ruling}
 use Rattle.rules.specs.Rules.{orderCode}
-use Rattle.service.specs.Service.{orderComes, orderLeaves, outcomeBytes, one, allLeave, allOutcomes, allAccepted}
+use Rattle.service.specs.Service.{orderComes, orderLeaves, outcomeBytes, allLeave, allOutcomes, allAccepted}
 use Rattle.serving.specs.Served.{ordersFrom, Rooted}
 
 -- HOW MANY: each order takes at least a byte of the flow
@@ -78,7 +80,7 @@ module _ (f past : List ℕ) (base n year : ℕ) (t₀ out₀ : List ℕ) (from 
       serving-room = let h : to + 16 * suc (length (ordersFrom f (k .child .after))) ≤ length out = rw (serving-order .rest) at (s .room) in omega arith
 
       pub serving-step : {o : Order} {j : Ruling} {code a : ℕ} {t′ out′ : List ℕ} → o ≡ orderOf f k → j ≡ orderComes t base n year (ordinativo o) → t′ ≡ orderLeaves t base n year (ordinativo o) → length t′ ≡ length t
-          → code ≡ orderCode j → out′ ≡ put out to (outcomeBytes (ordinativo o) code) → length out′ ≡ length out → a ≡ one j → a ≤ 1
+          → code ≡ orderCode j → out′ ≡ put out to (outcomeBytes (ordinativo o) code) → length out′ ≡ length out → a ≡ cond (eqb code 0) 1 0 → a ≤ 1
           → Serving f past base n year t₀ out₀ from t′ out′ (k .child .after) (to + 16) (accepted + a)
       unfolding allAccepted allLeave allOutcomes
       serving-step {o} {j} {code} {a} {t′} {out′} eo ej et lt ec eu lu ea la =
@@ -88,12 +90,12 @@ module _ (f past : List ℕ) (base n year : ℕ) (t₀ out₀ : List ℕ) (from 
           let v = s .slots in
           let w = s .few in
           let h : to + 16 * suc (length os) ≤ length out = rw (q .rest) at (s .room) in
-          let c : accepted + (one (orderComes t base n year (ordinativo (orderOf f k))) + allAccepted (orderLeaves t base n year (ordinativo (orderOf f k))) base n year os) ≡ allAccepted t₀ base n year (ordersFrom f from) = rw (q .rest) at (s .counted) in
+          let c : accepted + (cond (eqb (orderCode (orderComes t base n year (ordinativo (orderOf f k)))) 0) 1 0 + allAccepted (orderLeaves t base n year (ordinativo (orderOf f k))) base n year os) ≡ allAccepted t₀ base n year (ordersFrom f from) = rw (q .rest) at (s .counted) in
           let m : allLeave (orderLeaves t base n year (ordinativo (orderOf f k))) base n year os ≡ allLeave t₀ base n year (ordersFrom f from) = rw (q .rest) at (s .leaves) in
           let p : put out to (outcomeBytes (ordinativo (orderOf f k)) (orderCode (orderComes t base n year (ordinativo (orderOf f k)))) ++ allOutcomes (orderLeaves t base n year (ordinativo (orderOf f k))) base n year os) ≡ put out₀ 0 (allOutcomes t₀ base n year (ordersFrom f from)) = rw (q .rest) at (s .outcomes) in
           let tt : t′ ≡ orderLeaves t base n year (ordinativo (orderOf f k)) = et ∙ ap (λ (x : Order). orderLeaves t base n year (ordinativo x)) eo in
           let jj : j ≡ orderComes t base n year (ordinativo (orderOf f k)) = ej ∙ ap (λ (x : Order). orderComes t base n year (ordinativo x)) eo in
-          let aa : a ≡ one (orderComes t base n year (ordinativo (orderOf f k))) = ea ∙ ap one jj in
+          let aa : a ≡ cond (eqb (orderCode (orderComes t base n year (ordinativo (orderOf f k)))) 0) 1 0 = ea ∙ ap (λ (x : ℕ). cond (eqb x 0) 1 0) (ec ∙ ap orderCode jj) in
           let uu : out′ ≡ put out to (outcomeBytes (ordinativo (orderOf f k)) (orderCode (orderComes t base n year (ordinativo (orderOf f k))))) = rw (← eo, ← ej, ← ec) eu in
           record {
             rooted = record { within = l .within; holds = q .on; noted = s .rooted .noted };

@@ -7,7 +7,7 @@ use lib.ListN.{length}
 use Rattle.markup.specs.Noted.{Noted}
 use Rattle.rows.specs.declared.Parent.the-variants.{FlussoOrdinativi}
 use Rattle.rows.specs.Kept.{keptFrom}
-use Rattle.structure.specs.Structure.{all, keptHolds, fitsAt}
+use Rattle.structure.specs.Structure.{allKept, keptHolds, fitsAt}
 use Rattle.order.specs.Ordinativo.{Ordinativo, ordinativo}
 use Rattle.orders.specs.Orders.{ordersIn}
 use Rattle.words.specs.Numbers.{put}
@@ -20,7 +20,7 @@ ordersFrom f from = map ordinativo (ordersIn f (keptFrom FlussoOrdinativi f from
 -- the root's children from a place on each hold what their row says, and the notes are true
 pub record Rooted (f past : List ℕ) (from : ℕ) : Type 0 where
   pub within : from ≤ length f
-  pub holds : all (keptHolds (λ q a. fitsAt 3 q f a) f) (keptFrom FlussoOrdinativi f from) ≡ true
+  pub holds : allKept (keptHolds (λ q a. fitsAt 3 q f a) f) (keptFrom FlussoOrdinativi f from) ≡ true
   pub noted : Noted f past
 
 -- the orders os served one after another on the table t, their outcomes written into the buffer out: how many were accepted, and the two buffers

@@ -3,11 +3,13 @@ use rows::Next;
 use rows::Parent;
 use rules::Ruling;
 ghost use mathlib.Core.Path.{_≡_};
+ghost use mathlib.Core.Bool.{cond};
 ghost use Prim.Native.Nat.{_+_, _*_, _≤_};
 ghost use lib.ListN.{length};
+ghost use lib.Dec.{eqb};
 ghost use Rattle.record.specs.Slot.{slotSize};
 ghost use Rattle.rules.specs.Rules.{orderCode};
-ghost use Rattle.service.specs.Service.{outcomeSize, one};
+ghost use Rattle.service.specs.Service.{outcomeSize};
 ghost use Rattle.serving.specs.Served.{ordersFrom, Rooted, AllServed};
 
 // An order's code, for its outcome bytes.
@@ -20,13 +22,11 @@ fn code_of(j: Ruling) -> u8
     }
 }
 
-fn one_of(j: Ruling) -> usize
-    ensures { λ r. ⌜ (r ≡ one j) × (r ≤ 1) ⌝ }
+// What an order of this code adds to the accepted ones.
+fn one_of(code: u8) -> usize
+    ensures { λ r. ⌜ (r ≡ cond (eqb code 0) 1 0) × (r ≤ 1) ⌝ }
 {
-    match j {
-        Ruling::Accepted(_, _) => 1,
-        Ruling::Refused(_) => 0,
-    }
+    if code == 0 { 1 } else { 0 }
 }
 
 // Serves the orders from a place of the root's children on, each on the table that the one before left: how many were accepted.
@@ -53,8 +53,9 @@ pub fn serve_all(
         let c = k.child;
         let o = orders::order_of(f, k, past);
         let j = service::serve_order(t, base, n, year, o);
-        service::put_outcome(out, to, o, code_of(j));
-        accepted += one_of(j);
+        let code = code_of(j);
+        service::put_outcome(out, to, o, code);
+        accepted += one_of(code);
         to += service::OUTCOME;
         i = c.after;
     }

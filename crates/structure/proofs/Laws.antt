@@ -22,20 +22,20 @@ use Rattle.children.specs.Child.{childrenFrom}
 use Rattle.rows.specs.Table.{Named, _is_, Row, table, nameIs, among, spotIn}
 use Rattle.rows.specs.Kept.{keepOne, keep, keptFrom, nextOf}
 use Rattle.rows.proofs.Laws.{next-at, next-done}
-use Rattle.structure.specs.Structure.{isNil, all, Range, ranges, takes, rowsOf, isRow, inOrder, keptHolds, fitBy, fitsAt}
+use Rattle.structure.specs.Structure.{isNil, allKept, Range, ranges, takes, rowsOf, isRow, inOrder, keptHolds, fitBy, fitsAt}
 
 no : {A : Type 0} → _≡_ {A = Bool} false true → A
 no e = let z : _≡_ {A = ℕ} 0 1 = cc in absurd (omega arith)
 
 -- WHAT FITS IS MADE OF
 pub fits-parts : (d : ℕ) (p : Parent) (s : List ℕ) (at : ℕ) → fitsAt (suc d) p s at ≡ true
-    → (inOrder (ranges (table p)) 0 (rowsOf (keptFrom p s (whiteAt s at))) ≡ true) × (all (keptHolds (λ q a. fitsAt d q s a) s) (keptFrom p s (whiteAt s at)) ≡ true)
+    → (inOrder (ranges (table p)) 0 (rowsOf (keptFrom p s (whiteAt s at))) ≡ true) × (allKept (keptHolds (λ q a. fitsAt d q s a) s) (keptFrom p s (whiteAt s at)) ≡ true)
 unfolding fitsAt fitBy
-fits-parts d p s at e = both (inOrder (ranges (table p)) 0 (rowsOf (keptFrom p s (whiteAt s at)))) (all (keptHolds (λ q a. fitsAt d q s a) s) (keptFrom p s (whiteAt s at))) e
+fits-parts d p s at e = both (inOrder (ranges (table p)) 0 (rowsOf (keptFrom p s (whiteAt s at)))) (allKept (keptHolds (λ q a. fitsAt d q s a) s) (keptFrom p s (whiteAt s at))) e
 
-pub all-parts : (f : Kept → Bool) (k : Kept) (ks : List Kept) → all f (k ∷ ks) ≡ true → (f k ≡ true) × (all f ks ≡ true)
-unfolding all
-all-parts f k ks e = both (f k) (all f ks) e
+pub all-parts : (f : Kept → Bool) (k : Kept) (ks : List Kept) → allKept f (k ∷ ks) ≡ true → (f k ≡ true) × (allKept f ks ≡ true)
+unfolding allKept
+all-parts f k ks e = both (f k) (allKept f ks) e
 
 -- THE ROWS IN ORDER, one after the other
 -- a row that takes exactly one element: the first of them stands in it
@@ -64,21 +64,21 @@ order-once rs n (k ∷ t) e = go (eqb (k .row) n) refl e
     go false f h = no h
 
 -- the last row: all stand in it, as many as it takes
-inLast : (n : ℕ) (ks : List Kept) → isNil (drop (run (isRow n) (rowsOf ks)) (rowsOf ks)) ≡ true → (run (isRow n) (rowsOf ks) ≡ length ks) × (all (λ k. eqb (k .row) n) ks ≡ true)
-unfolding rowsOf run all
+inLast : (n : ℕ) (ks : List Kept) → isNil (drop (run (isRow n) (rowsOf ks)) (rowsOf ks)) ≡ true → (run (isRow n) (rowsOf ks) ≡ length ks) × (allKept (λ k. eqb (k .row) n) ks ≡ true)
+unfolding rowsOf run allKept
 inLast n [] e = (refl, refl)
 inLast n (k ∷ t) e = go (eqb (k .row) n) refl e (inLast n t)
   where
     go : (b : Bool) → eqb (k .row) n ≡ b → isNil (drop (cond b (suc (run (isRow n) (rowsOf t))) 0) (k .row ∷ rowsOf t)) ≡ true
-        → (isNil (drop (run (isRow n) (rowsOf t)) (rowsOf t)) ≡ true → (run (isRow n) (rowsOf t) ≡ length t) × (all (λ k. eqb (k .row) n) t ≡ true))
-        → (cond b (suc (run (isRow n) (rowsOf t))) 0 ≡ suc (length t)) × ((b && all (λ k. eqb (k .row) n) t) ≡ true)
+        → (isNil (drop (run (isRow n) (rowsOf t)) (rowsOf t)) ≡ true → (run (isRow n) (rowsOf t) ≡ length t) × (allKept (λ k. eqb (k .row) n) t ≡ true))
+        → (cond b (suc (run (isRow n) (rowsOf t))) 0 ≡ suc (length t)) × ((b && allKept (λ k. eqb (k .row) n) t) ≡ true)
     go true f h more = let m = more h in (ap suc (m .0), m .1)
     go false f h more = no h
 
 pub record Last (r : Range) (n : ℕ) (ks : List Kept) : Type 0 where
   pub least : r .least ≤ length ks
   pub most : length ks ≤ r .most
-  pub rows : all (λ k. eqb (k .row) n) ks ≡ true
+  pub rows : allKept (λ k. eqb (k .row) n) ks ≡ true
 
 pub order-last : (r : Range) (n : ℕ) (ks : List Kept) → inOrder (r ∷ []) n (rowsOf ks) ≡ true → Last r n ks
 unfolding inOrder
@@ -103,7 +103,7 @@ module _ (p : Parent) (s : List ℕ) (i : ℕ) where
         let y : o .rest ≡ keptFrom p s (k .child .after) = cc in
         (ap (λ (j : Kept). j .row) (sym x) ∙ o .row, rw y at (o .others))
 
-    pub all-next : (g : Kept → Bool) → all g (keptFrom p s i) ≡ true → (g k ≡ true) × (all g (keptFrom p s (k .child .after)) ≡ true)
+    pub all-next : (g : Kept → Bool) → allKept g (keptFrom p s i) ≡ true → (g k ≡ true) × (allKept g (keptFrom p s (k .child .after)) ≡ true)
     all-next g e = all-parts g k (keptFrom p s (k .child .after)) (rw (next-at p s i k f .rest) at e)
 
 -- A NAMED CHILD'S ROW AND WHAT IT HOLDS are as its parent's table says: what a name of that row holds

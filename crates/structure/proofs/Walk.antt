@@ -22,7 +22,7 @@ use Rattle.rows.specs.declared.Next.the-variants.{Named, Done}
 use Rattle.rows.specs.Kept.{keptFrom, nextOf}
 use Rattle.rows.proofs.Laws.{next-at, next-done}
 use Rattle.children.proofs.Laws.{Lies, children-end, children-one}
-use Rattle.structure.specs.Structure.{isNil, all, Range, ranges, takes, allows, rowsOf, isRow, inOrder, textOnly, keptHolds, fitBy, fitsAt}
+use Rattle.structure.specs.Structure.{isNil, allKept, Range, ranges, takes, allows, rowsOf, isRow, inOrder, textOnly, keptHolds, fitBy, fitsAt}
 use Rattle.structure.proofs.Laws.{kept-row}
 use Rattle.structure.specs.Walk.{paired, filledBy, filledFrom, countedOf}
 
@@ -180,7 +180,7 @@ order-end rs row n h = rw (le-leb row (length rs) (omega arith)) (end-by (length
 
 -- THE WALK: what is left to say of the children ks after those that are walked
 unfoldable pub goesOn : List Range → (Kept → Bool) → ℕ → ℕ → List Kept → Bool
-goesOn rs f row n ks = inOrderFrom (drop row rs) row n (rowsOf ks) && all f ks
+goesOn rs f row n ks = inOrderFrom (drop row rs) row n (rowsOf ks) && allKept f ks
 
 -- a child's part, and the others' in the order of the rows
 and-swap : (a b c : Bool) → (a && (b && c)) ≡ (b && (a && c))
@@ -189,7 +189,7 @@ and-swap false b c = sym (and-false b)
 
 module _ (rs : List Range) (f : Kept → Bool) (row n : ℕ) (ks : List Kept) where
   pub goes-end : ks ≡ [] → row < length rs → goesOn rs f row n ks ≡ filledFrom rs row n (length rs)
-  unfolding goesOn rowsOf all
+  unfolding goesOn rowsOf allKept
   goes-end e h = rw (e, order-end rs row n h) (and-true (filledFrom rs row n (length rs)))
 
   module _ (k : Kept) (t : List Kept) (e : ks ≡ k ∷ t) where
@@ -198,8 +198,8 @@ module _ (rs : List Range) (f : Kept → Bool) (row n : ℕ) (ks : List Kept) wh
     goes-short g = rw (e, order-step rs row n (k .row) (rowsOf t), g)
 
     pub goes-on : filledFrom rs row n (k .row) ≡ true → goesOn rs f row n ks ≡ (f k && goesOn rs f (k .row) (countedOf row n (k .row)) t)
-    unfolding goesOn rowsOf all
-    goes-on g = rw (e, order-step rs row n (k .row) (rowsOf t), g) (and-swap (inOrderFrom (drop (k .row) rs) (k .row) (countedOf row n (k .row)) (rowsOf t)) (f k) (all f t))
+    unfolding goesOn rowsOf allKept
+    goes-on g = rw (e, order-step rs row n (k .row) (rowsOf t), g) (and-swap (inOrderFrom (drop (k .row) rs) (k .row) (countedOf row n (k .row)) (rowsOf t)) (f k) (allKept f t))
 
 -- ONE LEVEL
 -- what the level below says of a parent's content
@@ -215,7 +215,7 @@ unfolding fitsAt fitBy goesOn
 fits-level zero p s at f = absurd (f refl)
 fits-level (suc d) p s at f =
     let z : d ≡ suc d - 1 = omega arith in
-    ap (λ (x : ℕ). inOrder (ranges (table p)) 0 (rowsOf (keptFrom p s (whiteAt s at))) && all (keptHolds (λ q a. fitsAt x q s a) s) (keptFrom p s (whiteAt s at))) z
+    ap (λ (x : ℕ). inOrder (ranges (table p)) 0 (rowsOf (keptFrom p s (whiteAt s at))) && allKept (keptHolds (λ q a. fitsAt x q s a) s) (keptFrom p s (whiteAt s at))) z
     ∙ rw (order-start (ranges (table p)) 0 (rowsOf (keptFrom p s (whiteAt s at))))
 
 -- TEXT

@@ -18,9 +18,10 @@ abbrev pub isNil : {A : Type 0} → List A → Bool
 isNil [] = true
 isNil (a ∷ t) = false
 
-unfoldable pub all : (Kept → Bool) → List Kept → Bool
-all p [] = true
-all p (k ∷ ks) = p k && all p ks
+-- p holds of each of the named children
+unfoldable pub allKept : (Kept → Bool) → List Kept → Bool
+allKept p [] = true
+allKept p (k ∷ ks) = p k && allKept p ks
 
 -- "NAMED CHILDREN, IN THIS ORDER"
 
@@ -71,7 +72,7 @@ keptHolds deeper s k = holdsAt deeper s (k .holds) (k .child .gt + 1)
 
 -- named children that have the parent's structure: they stand in the order and number of its rows, and each holds what its row says
 unfoldable pub fitBy : (Parent → ℕ → Bool) → Parent → List ℕ → List Kept → Bool
-fitBy deeper p s ks = inOrder (ranges (table p)) 0 (rowsOf ks) && all (keptHolds deeper s) ks
+fitBy deeper p s ks = inOrder (ranges (table p)) 0 (rowsOf ks) && allKept (keptHolds deeper s) ks
 
 -- content that begins at `at` has the structure of the parent, of at most d levels
 unfoldable pub fitsAt : ℕ → Parent → List ℕ → ℕ → Bool

@@ -2,37 +2,22 @@
 -- 0)"): a reader needs the outcome buffer alone to check it.
 use Prim.Native.Nat.{ℕ, _+_}
 use mathlib.Core.Path.{_≡_, refl, sym, ap, _∙_}
-use mathlib.Core.Bool.{Bool, true, false, cond, _&&_}
+use mathlib.Core.Bool.{true, cond, _&&_}
 use mathlib.Core.List.{List, [], _∷_, _++_}
-use native.Mathlib.Omega.{arith}
 use lib.Dec.{eqb}
-use borrow.Author.Tests.{eqb-true}
 use lib.ListN.{length, drop}
 use Rattle.words.specs.Numbers.{put}
 use Rattle.slots.specs.Slots.{recordsAt}
 use Rattle.order.specs.Ordinativo.{Ordinativo}
-use Rattle.rules.specs.declared.Ruling.{Ruling}
-use Rattle.rules.specs.declared.Ruling.the-variants.{Accepted, Refused}
 use Rattle.rules.specs.Rules.{orderCode, judgeOrder}
-use Rattle.service.specs.Service.{orderComes, orderLeaves, outcomeBytes, allOutcomes, allAccepted, one}
+use Rattle.service.specs.Service.{orderComes, orderLeaves, outcomeBytes, allOutcomes, allAccepted}
 use Rattle.desk.specs.declared.FlowAnswer.{FlowAnswer}
 use Rattle.desk.specs.Desk.{Reading, refused, served, flowReads, flowAnswer, FlowPromise, flowReply, flowCode}
-use Rattle.theorems.specs.Codes.{oneOf, each, orderRefusals, orderCodes, outcomeCodes, zeroCodes}
+use Rattle.theorems.specs.Codes.{oneOf, each, orderCodes, outcomeCodes, zeroCodes}
 use Rattle.theorems.proofs.Given.{Coding, read}
-use Rattle.theorems.proofs.Codes.{Coded, order-coded, judged-codes}
+use Rattle.theorems.proofs.Codes.{order-coded, judged-codes}
 
 -- THE COUNT
-never : _≡_ {A = Bool} false true → ⊥
-never z = let y : _≡_ {A = ℕ} 0 1 = cc in omega arith
-
-judged-one : (j : Ruling) → Coded j → one j ≡ cond (eqb (orderCode j) 0) 1 0
-judged-one (Accepted c i) h = refl
-judged-one (Refused code) h = go (eqb code 0) refl
-  where
-    go : (u : Bool) → eqb code 0 ≡ u → _≡_ {A = ℕ} 0 (cond u 1 0)
-    go false e = refl
-    go true e = absurd (never (sym (ap (oneOf orderRefusals) (eqb-true code 0 e)) ∙ h))
-
 -- the rules' codes of a flow's orders, each on the table the one before left
 abbrev pub codesOn : List ℕ → ℕ → ℕ → ℕ → List Ordinativo → List ℕ
 codesOn t base n year [] = []
@@ -58,10 +43,7 @@ module _ (base n year : ℕ) where
   unfolding allAccepted orderComes
   counted t [] = refl
   counted t (o ∷ os) =
-      let rs = recordsAt t base n in
-      let e = judged-one (judgeOrder n year o rs) (order-coded n year o rs) in
-      let d = counted (orderLeaves t base n year o) os in
-      λ i. e i + d i
+      ap (λ (m : ℕ). cond (eqb (orderCode (judgeOrder n year o (recordsAt t base n))) 0) 1 0 + m) (counted (orderLeaves t base n year o) os)
 
 -- THE THEOREMS, about what keeps the promise of a flow
 module _ (t f out : List ℕ) (a : FlowAnswer) (t′ out′ : List ℕ) (p : FlowPromise t f out a t′ out′) where

@@ -28,7 +28,7 @@ use Rattle.rules.specs.declared.Ruling.{Ruling}
 use Rattle.rules.specs.declared.Ruling.the-variants.{Accepted, Refused}
 use Rattle.rules.specs.declared.Noticed.{Noticed}
 use Rattle.rules.specs.declared.Noticed.the-variants.{Moved, Unmoved}
-use Rattle.rules.specs.Rules.{asksOf, situationOf, stepCode, nth, sameOrder, placed, unless, stepped, judgeChange, judgeAsked, keyFor, judgeOrder, orderCode, lineMoves, moveOr, noticeIn, noticeAt, judgeNotice, noticeCode}
+use Rattle.rules.specs.Rules.{asksOf, situationOf, stepCode, nth, sameOrder, placed, unless, stepped, judgeChange, judgeAsked, keyFor, judgeOrder, orderCode, lineMoves, noticeIn, noticeAt, judgeNotice, noticeCode}
 use Rattle.service.specs.Service.{noticeComes}
 use Rattle.address.specs.declared.Addressed.{Addressed}
 use Rattle.address.specs.declared.Addressed.the-variants.{Invalid, Unknown, Body}
@@ -60,7 +60,7 @@ later : (c : ℕ) → Or orderRefusals (suc c) → oneOf orderRefusals (suc c) �
 later c (inl e) = absurd (omega arith)
 later c (inr e) = e
 
-unless-coded : (c : ℕ) (j : Ruling) → Or orderRefusals c → Coded j → Coded (unless c j)
+unless-coded : (c : ℕ) (j : Ruling) → Or orderRefusals c → Coded j → Coded (unless Refused c j)
 unless-coded zero j h k = k
 unless-coded (suc c) j h k = later c h
 
@@ -139,16 +139,16 @@ open-codes WrongRequest = refl
 open-codes WrongLength = refl
 
 -- A NOTICE for a body
-moves-coded : (executing : Bool) (s i cents : ℕ) → oneOf (noticeCodes executing) (noticeCode (moveOr (lineMoves executing s) (Moved i cents))) ≡ true
+moves-coded : (executing : Bool) (s i cents : ℕ) → oneOf (noticeCodes executing) (noticeCode (unless Unmoved (lineMoves executing s) (Moved i cents))) ≡ true
 unfolding lineMoves
 moves-coded true s i cents = go (eqb s 2)
   where
-    go : (u : Bool) → oneOf (noticeCodes true) (noticeCode (moveOr (cond u 21 0) (Moved i cents))) ≡ true
+    go : (u : Bool) → oneOf (noticeCodes true) (noticeCode (unless Unmoved (cond u 21 0) (Moved i cents))) ≡ true
     go true = refl
     go false = refl
 moves-coded false s i cents = go (eqb s 2)
   where
-    go : (u : Bool) → oneOf (noticeCodes false) (noticeCode (moveOr (cond u 0 22) (Moved i cents))) ≡ true
+    go : (u : Bool) → oneOf (noticeCodes false) (noticeCode (unless Unmoved (cond u 0 22) (Moved i cents))) ≡ true
     go true = refl
     go false = refl
 
@@ -162,7 +162,7 @@ unfolding noticeIn
 in-coded executing line i x = go (eqb (x .state) 2) (leb 1 line && leb line (x .lines))
   where
     go : (u v : Bool)
-        → oneOf (noticeCodes executing) (noticeCode (cond u (Unmoved 17) (cond v (moveOr (lineMoves executing (getD (x .states) (line - 1) 0)) (Moved i (getD (x .amounts) (line - 1) 0))) (Unmoved 20)))) ≡ true
+        → oneOf (noticeCodes executing) (noticeCode (cond u (Unmoved 17) (cond v (unless Unmoved (lineMoves executing (getD (x .states) (line - 1) 0)) (Moved i (getD (x .amounts) (line - 1) 0))) (Unmoved 20)))) ≡ true
     go true v = both-have executing .1
     go false false = both-have executing .2
     go false true = moves-coded executing (getD (x .states) (line - 1) 0) i (getD (x .amounts) (line - 1) 0)

@@ -24,7 +24,7 @@ use Rattle.rules.specs.declared.Ruling.{Ruling}
 use Rattle.rules.specs.declared.Ruling.the-variants.{Accepted, Refused}
 use Rattle.ranges.specs.declared.Found.the-variants.{At}
 use Rattle.rules.specs.declared.Noticed.the-variants.{Moved}
-use Rattle.rules.specs.Rules.{anyExecuted, keyFor, nth, noRecord, eight, judgeOrder, written, lineMoves, movedTo, judgeNotice}
+use Rattle.rules.specs.Rules.{anyExecuted, keyFor, nth, noRecord, eightPlaces, judgeOrder, written, lineMoves, movedTo, judgeNotice}
 use Rattle.rules.specs.Effects.{storedAt, recordsBy, allRecords, withState}
 use Rattle.rules.proofs.Judging.{Stands, inserting, varying, annulling, accepted, Moves, moved}
 use Rattle.rules.proofs.Kept.{waiting-all}
@@ -119,12 +119,12 @@ module _ (p : Which) (v : Value) where
     unfolding written
     by-stand c i (inserting y f q l) =
         let new : Record = written year o (nth rs i) c in
-        let z : lines new ≡ 0 = rw y (none-paid v 1 (eight (replicate (length (o .lines)) 1)) _ (waiting-all (length (o .lines)))) in
+        let z : lines new ≡ 0 = rw y (none-paid v 1 (eightPlaces (replicate (length (o .lines)) 1)) _ (waiting-all (length (o .lines)))) in
         ap (worth p v) (stored-end rs i new q) ∙ omega (arith, add-worth rs new, none-in new z)
     by-stand c i (varying y f w) =
         let h = found-below rs (keyFor year o) i noRecord f in
         let new : Record = written year o (nth rs i) c in
-        let z : lines new ≡ 0 = rw y (none-paid v 1 (eight (replicate (length (o .lines)) 1)) _ (waiting-all (length (o .lines)))) in
+        let z : lines new ≡ 0 = rw y (none-paid v 1 (eightPlaces (replicate (length (o .lines)) 1)) _ (waiting-all (length (o .lines)))) in
         ap (worth p v) (stored-set rs i new h) ∙ omega (arith, set-worth rs i new h, none-in new z, none-in (nth rs i) (none-paid v 1 (nth rs i .states) _ (w .waits)))
     by-stand c i (annulling y f w s) =
         let h = found-below rs (keyFor year o) i noRecord f in

@@ -10,6 +10,7 @@ use Rattle.ranges.specs.declared.Found.the-variants.{At, Nothing}
 use Rattle.calendar.specs.declared.Date.{Date}
 use Rattle.target_days.specs.Target.{targetCode}
 use Rattle.record.specs.declared.Key.{Key}
+use Rattle.record.specs.Slot.{mandatoKind, reversaleKind}
 use Rattle.slots.specs.Slots.{recordsAt}
 use Rattle.body.specs.Body.{centsOf}
 use Rattle.entries.specs.Entry.{slotsOf, placeOf}
@@ -49,7 +50,7 @@ comesTo t b year o = orderComes t (placeOf t (entryOf b)) (slotsOf t (entryOf b)
 
 -- a key that no record of a valid body has
 pub data Strange (k : Key) : Type 0 where
-  kind : (k .kind ≡ 1 → ⊥) → (k .kind ≡ 2 → ⊥) → Strange k
+  kind : (k .kind ≡ mandatoKind → ⊥) → (k .kind ≡ reversaleKind → ⊥) → Strange k
   number : k .number ≡ 0 → Strange k
 
 abbrev pub Exactly : Type 0 → Type 0 → Type 0
@@ -132,5 +133,5 @@ pub record Condition2 : Type 0 where
   pub no-such-order : EachNotice (λ t b executing k line a t′. Strange k → (a ≡ Declined 16) × (t′ ≡ t))
   -- "a body's totals are those of its records"
   pub totals : (t : List ℕ) → tableOk t ≡ true → (code : List ℕ) (b : ℕ) → bodyOf t code ≡ At b → (a : TotalsAnswer) → TotalsPromise t code a
-      → (a .code ≡ 0) × (a .used ≡ length (recordsOf b t)) × (a .paid ≡ centsOf 1 (recordsOf b t)) × (a .collected ≡ centsOf 2 (recordsOf b t))
+      → (a .code ≡ 0) × (a .used ≡ length (recordsOf b t)) × (a .paid ≡ centsOf mandatoKind (recordsOf b t)) × (a .collected ≡ centsOf reversaleKind (recordsOf b t))
       × (a .balance ≡ pos (a .collected) -ℤ pos (a .paid))

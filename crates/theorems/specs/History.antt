@@ -8,7 +8,7 @@ use mathlib.Core.List.{List, [], _∷_}
 use lib.Dec.{eqb}
 use Rattle.record.specs.declared.Key.{Key}
 use Rattle.record.specs.declared.Record.{Record}
-use Rattle.record.specs.Slot.{keyOf}
+use Rattle.record.specs.Slot.{mandatoKind, reversaleKind, executedLine, keyOf}
 use Rattle.body.specs.Body.{centsOf}
 use Rattle.table.specs.Table.{bodies, tableOk}
 use Rattle.notices.specs.declared.NoticeAnswer.{NoticeAnswer}
@@ -69,7 +69,7 @@ weight p v k n UnknownBody = 0
 unfoldable pub worthIn : Value → ℕ → List ℕ → List ℕ → ℕ
 worthIn v n [] amounts = 0
 worthIn v n (s ∷ states) [] = 0
-worthIn v n (s ∷ states) (a ∷ amounts) = cond (eqb s 2) (v n a) 0 + worthIn v (suc n) states amounts
+worthIn v n (s ∷ states) (a ∷ amounts) = cond (eqb s executedLine) (v n a) 0 + worthIn v (suc n) states amounts
 
 unfoldable pub worth : Which → Value → List Record → ℕ
 worth p v [] = 0
@@ -118,7 +118,7 @@ module _ (E : Engine) (t₀ : List ℕ) (b : ℕ) (cs : List Call) where
     pub line-most : (key : Key) (line : ℕ) → worth (withKey key) (onLine line) (recordsOf b now) ≤ 1
     -- what totals answer at that moment are the cents of those records
     pub totals-are : (code : List ℕ) → position t₀ (some code) ≡ some b → (a : TotalsAnswer) → TotalsPromise now code a
-        → (a .paid ≡ centsOf 1 (recordsOf b now)) × (a .collected ≡ centsOf 2 (recordsOf b now))
+        → (a .paid ≡ centsOf mandatoKind (recordsOf b now)) × (a .collected ≡ centsOf reversaleKind (recordsOf b now))
 
   -- from a fresh table
   pub record Fresh : Type 0 where
@@ -126,7 +126,8 @@ module _ (E : Engine) (t₀ : List ℕ) (b : ℕ) (cs : List Call) where
     pub cash-opened : (kind : ℕ) → centsOf kind (recordsOf b now) + reversals (cash kind) L ≡ executions (cash kind) L
     -- and so are those that totals answer
     pub totals-opened : (code : List ℕ) → position t₀ (some code) ≡ some b → (a : TotalsAnswer) → TotalsPromise now code a
-        → (a .paid + reversals (cash 1) L ≡ executions (cash 1) L) × (a .collected + reversals (cash 2) L ≡ executions (cash 2) L)
+        → (a .paid + reversals (cash mandatoKind) L ≡ executions (cash mandatoKind) L)
+        × (a .collected + reversals (cash reversaleKind) L ≡ executions (cash reversaleKind) L)
     -- a line's executions less its reversals are 0 or 1
     pub line-opened : (key : Key) (line : ℕ)
         → (executions (perTime key line) L ≡ reversals (perTime key line) L) ⊎ (executions (perTime key line) L ≡ reversals (perTime key line) L + 1)

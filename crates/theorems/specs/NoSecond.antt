@@ -6,7 +6,7 @@ use mathlib.Core.Path.{_≡_}
 use mathlib.Core.Bool.{Bool}
 use mathlib.Core.List.{List}
 use Rattle.children.specs.declared.FieldSpans.{FieldSpans}
-use Rattle.children.specs.Child.{FieldPromise, ownName, ownText}
+use Rattle.children.specs.Child.{FieldPromise, NamePromise, TextPromise}
 use Rattle.calendar.specs.declared.Date.{Date}
 use Rattle.days.specs.declared.Between.{Between}
 use Rattle.days.specs.Days.{DaysPromise}
@@ -32,8 +32,8 @@ pub record NoSecond : Type 0 where
   pub totals : (t code : List ℕ) (a b : TotalsAnswer) → TotalsPromise t code a → TotalsPromise t code b → a ≡ b
   -- a field's own words: where they stand in the flow, and so which they are
   pub field : (s : List ℕ) (place : ℕ) (a b : FieldSpans) → FieldPromise s place a → FieldPromise s place b → a ≡ b
-  pub name : (s : List ℕ) (place : ℕ) (a b : List ℕ) → a ≡ ownName s place → b ≡ ownName s place → a ≡ b
-  pub text : (s : List ℕ) (place : ℕ) (a b : List ℕ) → a ≡ ownText s place → b ≡ ownText s place → a ≡ b
+  pub name : (s : List ℕ) (place : ℕ) (a b : List ℕ) → NamePromise s place a → NamePromise s place b → a ≡ b
+  pub text : (s : List ℕ) (place : ℕ) (a b : List ℕ) → TextPromise s place a → TextPromise s place b → a ≡ b
   -- dates (Req 08), the exported functions' promises too
   pub days : (a b : Date) (x y : Between) → DaysPromise a b x → DaysPromise a b y → x ≡ y
   pub first-day : (d : Date) (x y : FirstDay) → FirstPromise d x → FirstPromise d y → x ≡ y

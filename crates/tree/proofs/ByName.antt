@@ -1,12 +1,12 @@
 -- Structure and fields by name, by recursion over the tree (specs/), are those by row number and level (proofs/Levels.antt).
-use mathlib.Core.Path.{_≡_, refl, ap, _∙_}
+use mathlib.Core.Path.{_≡_, refl, sym, ap, _∙_}
 use mathlib.Core.List.{List, [], _∷_, _++_}
 use mathlib.Core.Bool.{Bool, true, false, cond, _&&_, _||_}
 use Prim.Native.Nat.{ℕ, zero, suc, _<_}
 use native.Mathlib.Omega.{arith}
-use lib.ListN.{drop}
+use lib.ListN.{length, drop}
 use lib.Dec.{eqb, leb}
-use borrow.Author.Tests.{leb-true}
+use borrow.Author.Tests.{leb-true, ne-eqb}
 use Rattle.scan.specs.Bytes.{bytes, between, run, textIs}
 use Rattle.scan.proofs.Laws.{both}
 use Rattle.rows.specs.declared.Parent.{Parent}
@@ -18,7 +18,7 @@ use Rattle.rows.specs.declared.Spot.the-variants.{At, Passed}
 use Rattle.rows.specs.Table.{Named, _is_, Row, table}
 use Rattle.structure.specs.Structure.{ranges, isRow, inOrder}
 use Rattle.tree.specs.Tree.{tree, Held, says, holds, Trees, none, more, nameOf, kidsIn}
-use Rattle.tree.specs.Structure.{Said, named, passed, saidBy, said, keepName, namesIn, hasName, front, inRows, treeFits, heldFits, allFit}
+use Rattle.tree.specs.Structure.{Said, named, passed, saidBy, said, keepName, keptNames, hasName, front, inRows, treeFits, heldFits, allFit}
 use Rattle.tree.specs.Fields.{treeFields, heldFields, allFields}
 use Rattle.tree.proofs.Levels.{amongNames, spotNamed, KeptTree, keepTree, keptTrees, rowsOfTrees, allTrees, fitsHeld, keptFits, fitsTree, fieldsHeld, fieldsOfTrees, fieldsTree}
 use Rattle.tree.proofs.Names.{namesAt, onlyAt, row-is, row-next, tables-apart}
@@ -51,13 +51,13 @@ data Found (p : Parent) : List KeptTree → Type 0 where
   found-next : {k : KeptTree} {ks : List KeptTree} → spotNamed (table p) 0 (nameOf (k .tree)) ≡ At (k .row) (k .holds) → Found p ks → Found p (k ∷ ks)
 
 module _ (p : Parent) where
-  names-kept : (ts : Trees) → (namesIn (table p) ts ≡ namesOf (keptTrees p ts)) × Found p (keptTrees p ts)
-  unfolding namesIn keptTrees
+  names-kept : (ts : Trees) → (keptNames (table p) ts ≡ namesOf (keptTrees p ts)) × Found p (keptTrees p ts)
+  unfolding keptNames keptTrees
   names-kept none = (refl, found-none)
   names-kept (more t ts) = let i = names-kept ts in go (spotNamed (table p) 0 (nameOf t)) refl (said-rows (nameOf t) (table p) 0) (i .0) (i .1)
     where
-      go : (w : Spot) → spotNamed (table p) 0 (nameOf t) ≡ w → said (table p) (nameOf t) ≡ sayAt w → namesIn (table p) ts ≡ namesOf (keptTrees p ts) → Found p (keptTrees p ts)
-          → (keepName (said (table p) (nameOf t)) (nameOf t) (namesIn (table p) ts) ≡ namesOf (keepTree w t (keptTrees p ts))) × Found p (keepTree w t (keptTrees p ts))
+      go : (w : Spot) → spotNamed (table p) 0 (nameOf t) ≡ w → said (table p) (nameOf t) ≡ sayAt w → keptNames (table p) ts ≡ namesOf (keptTrees p ts) → Found p (keptTrees p ts)
+          → (keepName (said (table p) (nameOf t)) (nameOf t) (keptNames (table p) ts) ≡ namesOf (keepTree w t (keptTrees p ts))) × Found p (keepTree w t (keptTrees p ts))
       go (At n h) e z i f = (rw (z, i), found-next {k = record { tree = t; row = n; holds = h }} e f)
       go Passed e z i f = (rw (z, i), f)
 
@@ -97,14 +97,14 @@ module _ (p : Parent) where
   in-rows : (rs : List Row) (n : ℕ) → drop n (table p) ≡ rs → (ks : List KeptTree) → Found p ks → inOrder (ranges rs) n (rowsOfTrees ks) ≡ inRows rs (namesOf ks)
   unfolding inOrder inRows rowsOfTrees
   in-rows [] n e [] f = refl
-  in-rows [] n e (k ∷ ks) f = refl
+  in-rows [] n e (k ∷ ks) f = sym (ne-eqb (suc (length (namesOf ks))) 0 (λ z. omega arith))
   in-rows (r ∷ rs) n e ks f =
       let x = row-next (table p) n r rs e in
       let m = front (r .names) (namesOf ks) in
       let d = drop-both m ks f in
       rw (front-run n (r .names) (x .0) ks f, d .0, d .1) (ap (λ b. between (r .least) (r .most) m && b) (in-rows rs (suc n) (x .1) (drop m ks) (d .2)))
 
-  rows-named : (ts : Trees) → inOrder (ranges (table p)) 0 (rowsOfTrees (keptTrees p ts)) ≡ inRows (table p) (namesIn (table p) ts)
+  rows-named : (ts : Trees) → inOrder (ranges (table p)) 0 (rowsOfTrees (keptTrees p ts)) ≡ inRows (table p) (keptNames (table p) ts)
   rows-named ts = let i = names-kept ts in rw (i .0) (in-rows (table p) 0 refl (keptTrees p ts) (i .1))
 
 -- RANKS: a parent's named children are of lower rank: a test that the tables pass by computing
@@ -160,8 +160,8 @@ and-true : (b : Bool) → (b && true) ≡ b
 and-true true = refl
 and-true false = refl
 
-none-fit : (q : Parent) → (inRows (table q) (namesIn (table q) none) && allFit none q) ≡ inRows (table q) []
-unfolding namesIn allFit
+none-fit : (q : Parent) → (inRows (table q) (keptNames (table q) none) && allFit none q) ≡ inRows (table q) []
+unfolding keptNames allFit
 none-fit q = and-true (inRows (table q) [])
 
 pass-fits : (h : Held) → heldFits h passed ≡ true
@@ -170,7 +170,7 @@ pass-fits (says t) = refl
 pass-fits (holds ts) = refl
 
 abbrev Level : ℕ → Type 0
-Level d = (q : Parent) → rank q < d → (ts : Trees) → fitsTree d q ts ≡ (inRows (table q) (namesIn (table q) ts) && allFit ts q)
+Level d = (q : Parent) → rank q < d → (ts : Trees) → fitsTree d q ts ≡ (inRows (table q) (keptNames (table q) ts) && allFit ts q)
 
 module _ (d : ℕ) (ih : Level d) where
   held-fits : (g : Holds) (h : Held) → ((q : Parent) → g ≡ Rows q → rank q < d) → fitsHeld (fitsTree d) g h ≡ heldFits h (named g)
@@ -224,7 +224,7 @@ module _ (d : ℕ) (ih : FieldLevel d) where
   held-fields l n (Text f) (says t) r e = refl
   held-fields l n (Text f) (holds ts) r e = let z : _≡_ {A = ℕ} 0 1 = cc in absurd (omega arith)
   held-fields l n (Rows q) (says t) r e = no-fields d q
-  held-fields l n (Rows q) (holds ts) r e = ih q (r q refl) ts (both (inRows (table q) (namesIn (table q) ts)) (allFit ts q) e .1)
+  held-fields l n (Rows q) (holds ts) r e = ih q (r q refl) ts (both (inRows (table q) (keptNames (table q) ts)) (allFit ts q) e .1)
 
   all-fields : (p : Parent) → rank p < suc d → (ts : Trees) → allFit ts p ≡ true → fieldsOfTrees (fieldsTree d) (keptTrees p ts) ≡ allFields ts p
   unfolding fieldsOfTrees keptTrees allFit treeFits allFields treeFields
@@ -249,4 +249,4 @@ fields-named (suc d) q r ts e = field-level d (fields-named d) q r ts e
 pub held-fields-named : (d : ℕ) (p : Parent) → rank p < d → (l : ℕ) (h : Held) → heldFits h (named (Rows p)) ≡ true → fieldsTree d p (kidsIn h) ≡ heldFields h l (named (Rows p))
 unfolding heldFits heldFields
 held-fields-named d p r l (says t) e = no-fields d p
-held-fields-named d p r l (holds ts) e = fields-named d p r ts (both (inRows (table p) (namesIn (table p) ts)) (allFit ts p) e .1)
+held-fields-named d p r l (holds ts) e = fields-named d p r ts (both (inRows (table p) (keptNames (table p) ts)) (allFit ts p) e .1)

@@ -9,7 +9,7 @@ use Rattle.digits.specs.declared.Number.the-variants.{Value}
 use Rattle.order.specs.declared.Line.{Line}
 use Rattle.orders.specs.Orders.{Header}
 use Rattle.tree.specs.Tree.{Tree, Trees}
-use Rattle.tree.specs.Orders.{OneText, OneValue, Each, each-none, each-next, HeaderIn, Words, mandato, reversale, LineIn, OrderIn, AnOrder, OrdersIn}
+use Rattle.tree.specs.Orders.{OneText, OneValue, Each, each-none, each-next, HeaderIn, Words, mandatoWords, reversaleWords, joined, LineIn, OrderIn, AnOrder, OrdersIn}
 use Rattle.order.specs.Ordinativo.{Ordinativo}
 
 text-one : {x : String} {ts : Trees} {t u : List ℕ} → OneText x ts t → OneText x ts u → t ≡ u
@@ -40,10 +40,10 @@ module _ (w : Words) where
       λ i. record { kind = k i; operation = x i; number = number-one (a .number) (b .number) i; date = d i; total = number-one (a .total) (b .total) i; lines = each-one line-one (a .lines) (b .lines) i }
 
 an-order-one : (t : Tree) (o q : Ordinativo) → AnOrder t o → AnOrder t q → o ≡ q
-an-order-one t o q (inl a) (inl b) = order-one mandato t o q a b
+an-order-one t o q (inl a) (inl b) = order-one mandatoWords t o q a b
 an-order-one t o q (inl a) (inr b) = let y = a .name in let z = b .name in let e : _≡_ {A = ℕ} 109 114 = cc in absurd (omega arith)
 an-order-one t o q (inr a) (inl b) = let y = a .name in let z = b .name in let e : _≡_ {A = ℕ} 109 114 = cc in absurd (omega arith)
-an-order-one t o q (inr a) (inr b) = order-one reversale t o q a b
+an-order-one t o q (inr a) (inr b) = order-one reversaleWords t o q a b
 
 pub orders-one : (ts : Trees) (os qs : List Ordinativo) → OrdersIn ts os → OrdersIn ts qs → os ≡ qs
 orders-one ts os qs a b = each-one an-order-one a b

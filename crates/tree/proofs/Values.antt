@@ -36,7 +36,7 @@ use Rattle.rows.specs.Table.{_is_, Row, once, many, table}
 use Rattle.structure.specs.Structure.{Range, ranges, takes, isRow, inOrder}
 use Rattle.orders.specs.Orders.{valueOf, dateOf, operationOf, noLine, eight}
 use Rattle.tree.specs.Tree.{Tree, tree, says, holds, Trees, none, more, nameOf, heldOf, kidsIn}
-use Rattle.tree.specs.Orders.{childrenNamed, OneText, OneValue, Each, each-none, each-next, HeaderIn, Words, mandato, reversale, LineIn, OrderIn, AnOrder, OrdersIn}
+use Rattle.tree.specs.Orders.{childrenNamed, OneText, OneValue, Each, each-none, each-next, HeaderIn, Words, mandatoWords, reversaleWords, joined, LineIn, OrderIn, AnOrder, OrdersIn}
 use Rattle.order.specs.Ordinativo.{Ordinativo, ordinativo}
 use Rattle.tree.proofs.Levels.{KeptTree, keepTree, keptTrees, rowsOfTrees, allTrees, keptFits, fitsTree, fieldsHeld, fieldsOfTrees, fieldsTree, firstText, textNamed, headerTree, lineTree, linesTree, orderTree, ordersTree, inPlaces, allInPlaces}
 use Rattle.tree.proofs.Names.{text-same, HasRow, has-names, inRowTrees, pick, asKept, row-picked}
@@ -231,8 +231,8 @@ header-in d ts r = record {
 module _ (p q : Parent) (w : Words) (sp : Spelled p q w) where
   line-in : (d : ℕ) (t : Tree) → Right (suc d) q (kidsIn (heldOf t)) → LineIn w t (lineTree w (kidsIn (heldOf t)))
   line-in d t r = record {
-    progressivo = progressivo-of (w .progressivo) (kidsIn (heldOf t)) (text-of d q (kidsIn (heldOf t)) r 0 (w .progressivo) _ (sp .progressivo));
-    amount = importo-of (w .amount) (kidsIn (heldOf t)) (text-of d q (kidsIn (heldOf t)) r 1 (w .amount) _ (sp .amount));
+    progressivo = progressivo-of (joined "progressivo_" (w .party)) (kidsIn (heldOf t)) (text-of d q (kidsIn (heldOf t)) r 0 (joined "progressivo_" (w .party)) _ (sp .progressivo));
+    amount = importo-of (joined "importo_" (w .party)) (kidsIn (heldOf t)) (text-of d q (kidsIn (heldOf t)) r 1 (joined "importo_" (w .party)) _ (sp .amount));
   }
 
   lines-in : (d n : ℕ) (l : List Tree) → allTrees (right (suc d)) (asKept n (Rows q) l) ≡ true → Each (LineIn w) l (linesTree w l)
@@ -250,10 +250,10 @@ module _ (p q : Parent) (w : Words) (sp : Spelled p q w) where
         name = n;
         kind = refl;
         operation = operazione-of "tipo_operazione" k (text-of (suc d) p k r 0 "tipo_operazione" _ (sp .operation));
-        number = numero-of (w .number) k (text-of (suc d) p k r 1 (w .number) _ (sp .number));
-        date = data-of (w .date) k (text-of (suc d) p k r 2 (w .date) _ (sp .date));
-        total = importo-of (w .total) k (text-of (suc d) p k r 3 (w .total) _ (sp .total));
-        lines = lines-in d 4 (childrenNamed (w .line ∷ []) k) (row-right (suc d) p k r 4 (w .line) (Rows q) 1 8 (sp .line));
+        number = numero-of (joined "numero_" (w .name)) k (text-of (suc d) p k r 1 (joined "numero_" (w .name)) _ (sp .number));
+        date = data-of (joined "data_" (w .name)) k (text-of (suc d) p k r 2 (joined "data_" (w .name)) _ (sp .date));
+        total = importo-of (joined "importo_" (w .name)) k (text-of (suc d) p k r 3 (joined "importo_" (w .name)) _ (sp .total));
+        lines = lines-in d 4 (childrenNamed (joined "informazioni_" (w .party) ∷ []) k) (row-right (suc d) p k r 4 (joined "informazioni_" (w .party)) (Rows q) 1 8 (sp .line));
       }
 
 -- its lines, at most eight, come back from their places
@@ -278,8 +278,8 @@ Whole t o = AnOrder t o × (ordinativo (inPlaces o) ≡ o)
 
 order-whole : (p q : Parent) (w : Words) → Spelled p q w → (d : ℕ) (t : Tree) → Right (suc (suc d)) p (kidsIn (heldOf t)) → ordinativo (inPlaces (orderTree w (kidsIn (heldOf t)))) ≡ orderTree w (kidsIn (heldOf t))
 order-whole p q w sp d t r =
-    let l = childrenNamed (w .line ∷ []) (kidsIn (heldOf t)) in
-    let b = row-length (suc d) p (kidsIn (heldOf t)) r 4 (w .line) (Rows q) 1 8 (sp .line) in
+    let l = childrenNamed (joined "informazioni_" (w .party) ∷ []) (kidsIn (heldOf t)) in
+    let b = row-length (suc d) p (kidsIn (heldOf t)) r 4 (joined "informazioni_" (w .party)) (Rows q) 1 8 (sp .line) in
     let h = leb-true (length l) 8 (both (leb 1 (length l)) (leb (length l) 8) b .1) in
     let k : length (linesTree w l) ≤ 8 = omega (arith, lines-length w l) in
     rw (lines-back (linesTree w l) k)
@@ -308,9 +308,9 @@ orders-each d (more t ts) a = go (textIs (bytes "mandato") (nameOf t)) refl (tex
         → allTrees (right (suc (suc d))) (keepTree (cond b (At 5 (Rows Mandato)) (cond c (At 5 (Rows Reversale)) Passed)) t (pick orderNames 5 ts)) ≡ true
         → (allTrees (right (suc (suc d))) (pick orderNames 5 ts) ≡ true → Each Whole (childrenNamed ("mandato" ∷ "reversale" ∷ []) ts) (ordersTree ts))
         → Each Whole (cond (b || (c || false)) (t ∷ childrenNamed ("mandato" ∷ "reversale" ∷ []) ts) (childrenNamed ("mandato" ∷ "reversale" ∷ []) ts))
-        (cond b (orderTree mandato (kidsIn (heldOf t)) ∷ ordersTree ts) (cond c (orderTree reversale (kidsIn (heldOf t)) ∷ ordersTree ts) (ordersTree ts)))
-    go true y c z e i = let k = one Mandato e in each-next (inl (order-in Mandato InformazioniBeneficiario mandato spelled-mandato d t (text-same (bytes "mandato") (nameOf t) y) (k .0)), order-whole Mandato InformazioniBeneficiario mandato spelled-mandato d t (k .0)) (i (k .1))
-    go false y true z e i = let k = one Reversale e in each-next (inr (order-in Reversale InformazioniVersante reversale spelled-reversale d t (text-same (bytes "reversale") (nameOf t) z) (k .0)), order-whole Reversale InformazioniVersante reversale spelled-reversale d t (k .0)) (i (k .1))
+        (cond b (orderTree mandatoWords (kidsIn (heldOf t)) ∷ ordersTree ts) (cond c (orderTree reversaleWords (kidsIn (heldOf t)) ∷ ordersTree ts) (ordersTree ts)))
+    go true y c z e i = let k = one Mandato e in each-next (inl (order-in Mandato InformazioniBeneficiario mandatoWords spelled-mandato d t (text-same (bytes "mandato") (nameOf t) y) (k .0)), order-whole Mandato InformazioniBeneficiario mandatoWords spelled-mandato d t (k .0)) (i (k .1))
+    go false y true z e i = let k = one Reversale e in each-next (inr (order-in Reversale InformazioniVersante reversaleWords spelled-reversale d t (text-same (bytes "reversale") (nameOf t) z) (k .0)), order-whole Reversale InformazioniVersante reversaleWords spelled-reversale d t (k .0)) (i (k .1))
     go false y false z e i = i e
 
 pub orders-in : (d : ℕ) (ts : Trees) → Right (suc (suc (suc d))) FlussoOrdinativi ts → OrdersIn ts (map ordinativo (allInPlaces (ordersTree ts)))

@@ -14,6 +14,7 @@ use Rattle.digits.specs.declared.Number.the-variants.{Value}
 use Rattle.digits.specs.Digits.{esercizio, numero, importo, progressivo}
 use Rattle.dates.specs.declared.Day.the-variants.{On}
 use Rattle.dates.specs.Dates.{dataOf}
+use Rattle.record.specs.Slot.{mandatoKind, reversaleKind}
 use Rattle.order.specs.declared.Line.{Line}
 use Rattle.order.specs.Ordinativo.{Ordinativo}
 use Rattle.orders.specs.Orders.{Header}
@@ -51,59 +52,41 @@ pub record HeaderIn (kids : Trees) (h : Header) : Type 0 where
   pub ente : OneText "codice_ente_BT" kids (h .ente)
   pub esercizio : OneValue "esercizio" esercizio kids (Value (h .esercizio))
 
--- AN ORDER'S WORDS: its element's name and kind, and the names of its children and of its lines' children. "Reversale is the same with reversale,
--- informazioni_versante, versante in place of mandato, informazioni_beneficiario, beneficiario"
+-- AN ORDER'S WORDS: its kind, its element's name, and who its lines are for. "Reversale is the same with reversale, informazioni_versante, versante in
+-- place of mandato, informazioni_beneficiario, beneficiario"
 pub record Words : Type 0 where
-  pub name : String
   pub kind : ℕ
-  pub number : String
-  pub date : String
-  pub total : String
-  pub line : String
-  pub progressivo : String
-  pub amount : String
+  pub name : String
+  pub party : String
 
-abbrev pub mandato : Words
-mandato = record {
-  name = "mandato";
-  kind = 1;
-  number = "numero_mandato";
-  date = "data_mandato";
-  total = "importo_mandato";
-  line = "informazioni_beneficiario";
-  progressivo = "progressivo_beneficiario";
-  amount = "importo_beneficiario";
-}
+abbrev pub mandatoWords : Words
+mandatoWords = record { kind = mandatoKind; name = "mandato"; party = "beneficiario" }
 
-abbrev pub reversale : Words
-reversale = record {
-  name = "reversale";
-  kind = 2;
-  number = "numero_reversale";
-  date = "data_reversale";
-  total = "importo_reversale";
-  line = "informazioni_versante";
-  progressivo = "progressivo_versante";
-  amount = "importo_versante";
-}
+abbrev pub reversaleWords : Words
+reversaleWords = record { kind = reversaleKind; name = "reversale"; party = "versante" }
+
+-- a name of two parts, such as numero_ and mandato
+abbrev pub joined : String → String → String
+joined String.[] y = y
+joined (String._∷_ c x) y = String._∷_ c (joined x y)
 
 -- AN ORDER, with all its lines
 pub record LineIn (w : Words) (t : Tree) (l : Line) : Type 0 where
-  pub progressivo : OneValue (w .progressivo) progressivo (kidsIn (heldOf t)) (Value (l .progressivo))
-  pub amount : OneValue (w .amount) importo (kidsIn (heldOf t)) (Value (l .amount))
+  pub progressivo : OneValue (joined "progressivo_" (w .party)) progressivo (kidsIn (heldOf t)) (Value (l .progressivo))
+  pub amount : OneValue (joined "importo_" (w .party)) importo (kidsIn (heldOf t)) (Value (l .amount))
 
 pub record OrderIn (w : Words) (t : Tree) (o : Ordinativo) : Type 0 where
   pub name : nameOf t ≡ bytes (w .name)
   pub kind : o .kind ≡ w .kind
   pub operation : OneValue "tipo_operazione" tipoOperazione (kidsIn (heldOf t)) (Operazione (o .operation))
-  pub number : OneValue (w .number) numero (kidsIn (heldOf t)) (Value (o .number))
-  pub date : OneValue (w .date) dataOf (kidsIn (heldOf t)) (On (o .date))
-  pub total : OneValue (w .total) importo (kidsIn (heldOf t)) (Value (o .total))
-  pub lines : Each (LineIn w) (childrenNamed (w .line ∷ []) (kidsIn (heldOf t))) (o .lines)
+  pub number : OneValue (joined "numero_" (w .name)) numero (kidsIn (heldOf t)) (Value (o .number))
+  pub date : OneValue (joined "data_" (w .name)) dataOf (kidsIn (heldOf t)) (On (o .date))
+  pub total : OneValue (joined "importo_" (w .name)) importo (kidsIn (heldOf t)) (Value (o .total))
+  pub lines : Each (LineIn w) (childrenNamed (joined "informazioni_" (w .party) ∷ []) (kidsIn (heldOf t))) (o .lines)
 
 -- THE ORDERS among the root's children: "mandato and reversale in any mix"
 abbrev pub AnOrder : Tree → Ordinativo → Type 0
-AnOrder t o = OrderIn mandato t o ⊎ OrderIn reversale t o
+AnOrder t o = OrderIn mandatoWords t o ⊎ OrderIn reversaleWords t o
 
 abbrev pub OrdersIn : Trees → List Ordinativo → Type 0
-OrdersIn kids os = Each AnOrder (childrenNamed (mandato .name ∷ reversale .name ∷ []) kids) os
+OrdersIn kids os = Each AnOrder (childrenNamed (mandatoWords .name ∷ reversaleWords .name ∷ []) kids) os

@@ -2,7 +2,8 @@
 use Prim.Native.Nat.{ℕ, suc}
 use mathlib.Core.List.{List, [], _∷_}
 use mathlib.Core.Bool.{Bool, true, false, cond, _&&_, _||_}
-use lib.ListN.{drop}
+use lib.ListN.{length, drop}
+use lib.Dec.{eqb}
 use Rattle.scan.specs.Bytes.{bytes, between, textIs}
 use Rattle.rows.specs.declared.Parent.{Parent}
 use Rattle.rows.specs.declared.Holds.{Holds}
@@ -30,9 +31,9 @@ keepName (named h) x xs = x ∷ xs
 keepName passed x xs = xs
 
 -- the names of the named children; "Elements whose name isn't among their parent's named children may stand before, between or after these"
-unfoldable pub namesIn : List Row → Trees → List (List ℕ)
-namesIn rs none = []
-namesIn rs (more t ts) = keepName (said rs (nameOf t)) (nameOf t) (namesIn rs ts)
+unfoldable pub keptNames : List Row → Trees → List (List ℕ)
+keptNames rs none = []
+keptNames rs (more t ts) = keepName (said rs (nameOf t)) (nameOf t) (keptNames rs ts)
 
 -- IN THIS ORDER
 
@@ -45,13 +46,9 @@ unfoldable pub front : List Named → List (List ℕ) → ℕ
 front ns [] = 0
 front ns (x ∷ xs) = cond (hasName ns x) (suc (front ns xs)) 0
 
-abbrev pub isNone : List (List ℕ) → Bool
-isNone [] = true
-isNone (x ∷ xs) = false
-
 -- as many of the first row's as it takes, then the rows after it, then nothing
 unfoldable pub inRows : List Row → List (List ℕ) → Bool
-inRows [] xs = isNone xs
+inRows [] xs = eqb (length xs) 0
 inRows (r ∷ rs) xs = between (r .least) (r .most) (front (r .names) xs) && inRows rs (drop (front (r .names) xs) xs)
 
 -- WHAT EACH HOLDS: "A childless named element holds text only", a parent its named children; what is passed over is so "with all they hold"
@@ -64,7 +61,7 @@ unfoldable mutual
   heldFits (says t) (named (Rows q)) = inRows (table q) []
   heldFits (says t) passed = true
   heldFits (holds ts) (named (Text f)) = false
-  heldFits (holds ts) (named (Rows q)) = inRows (table q) (namesIn (table q) ts) && allFit ts q
+  heldFits (holds ts) (named (Rows q)) = inRows (table q) (keptNames (table q) ts) && allFit ts q
   heldFits (holds ts) passed = true
 
   pub allFit : Trees → Parent → Bool

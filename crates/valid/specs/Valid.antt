@@ -8,10 +8,11 @@ use Rattle.scan.specs.Bytes.{between}
 use Rattle.bounds.specs.Bounds.{isYear, isNumero, maxCents}
 use Rattle.calendar.specs.Calendar.{isDate}
 use Rattle.record.specs.declared.Record.{Record}
+use Rattle.record.specs.Slot.{mandatoKind, reversaleKind, acquiredState, annulledState, waitingLine, executedLine}
 
 -- a line that is there is waiting or executed; "an annulled order has every line waiting"
 unfoldable pub lineThere : Bool → ℕ → ℕ → Bool
-lineThere annulled state amount = between 1 (cond annulled 1 2) state && leb amount maxCents
+lineThere annulled state amount = between waitingLine (cond annulled waitingLine executedLine) state && leb amount maxCents
 
 -- "lines that aren't there have state and amount zero"
 unfoldable pub lineAbsent : ℕ → ℕ → Bool
@@ -21,7 +22,7 @@ lineAbsent state amount = eqb state 0 && eqb amount 0
 unfoldable pub lineOk : Record → ℕ → Bool
 lineOk r k =
     cond (ltb k (r .lines))
-    (lineThere (eqb (r .state) 2) (getD (r .states) k 0) (getD (r .amounts) k 0))
+    (lineThere (eqb (r .state) annulledState) (getD (r .states) k 0) (getD (r .amounts) k 0))
     (lineAbsent (getD (r .states) k 0) (getD (r .amounts) k 0))
 
 -- f holds of the m numbers from k on
@@ -36,8 +37,8 @@ sum (a ∷ rest) = a + sum rest
 -- "fields lie in the ranges above"
 unfoldable pub rangesOk : Record → Bool
 rangesOk r =
-    between 1 2 (r .kind) && (between 1 2 (r .state) && (between 1 8 (r .lines) && (isYear (r .esercizio)
-    && (isNumero (r .number) && (isDate (r .date) && leb (r .total) maxCents)))))
+    between mandatoKind reversaleKind (r .kind) && (between acquiredState annulledState (r .state) && (between 1 8 (r .lines)
+    && (isYear (r .esercizio) && (isNumero (r .number) && (isDate (r .date) && leb (r .total) maxCents)))))
 
 -- a record that is valid by itself: ranges, its eight lines, and "line amounts sum to the total"
 unfoldable pub recordOk : Record → Bool

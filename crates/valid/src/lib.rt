@@ -15,14 +15,18 @@ ghost use Rattle.valid.specs.Valid.{lineThere, lineAbsent, lineOk, allFr
 fn top_state(annulled: bool) -> u8
     ensures { λ r. ⌜ r ≡ cond annulled 1 2 ⌝ }
 {
-    if annulled { 1 } else { 2 }
+    if annulled {
+        record::WAITING
+    } else {
+        record::EXECUTED
+    }
 }
 
 fn line_there(annulled: bool, state: u8, amount: u64) -> bool
     ensures { λ r. ⌜ r ≡ lineThere annulled state amount ⌝ }
 {
     both(
-        both(1 <= state, state <= top_state(annulled)),
+        both(record::WAITING <= state, state <= top_state(annulled)),
         amount <= bounds::MAX_CENTS,
     )
 }
@@ -49,9 +53,9 @@ fn ranges_ok(t: &[u8], at: usize) -> bool
     let number = words::read4(t, at + 8);
     let total = words::read8(t, at + 16);
     both(
-        both(1 <= kind, kind <= 2),
+        both(record::MANDATO <= kind, kind <= record::REVERSALE),
         both(
-            both(1 <= state, state <= 2),
+            both(record::ACQUIRED <= state, state <= record::ANNULLED),
             both(
                 both(1 <= lines, lines <= 8),
                 both(
@@ -102,7 +106,7 @@ fn lines_there(t: &[u8], at: usize, lines: usize) -> bool
     ensures { λ b. ⌜ b ≡ (allFrom (lineOk (recordAt (now (t .entry)) at)) 0 lines
         && eqb (sum (recordAt (now (t .entry)) at .amounts)) (recordAt (now (t .entry)) at .total)) ⌝ }
 {
-    let annulled = t[at + 1] == 2;
+    let annulled = t[at + 1] == record::ANNULLED;
     let mut rest = words::read8(t, at + 16);
     let mut k = 0;
     while k < lines {

@@ -7,14 +7,13 @@ use lib.ListN.{length, take}
 use lib.Dec.{leb}
 use Rattle.order.specs.Ordinativo.{Ordinativo}
 use Rattle.orders.specs.Orders.{Header, inRow, textIn as ordersTextIn, inside, lineOf, linesOf, eight, linesIn, orderOf, ordersOf}
-use Rattle.codes.specs.declared.Operation.the-variants.{Variazione, Annullo}
-use Rattle.flow.specs.declared.Verdict.the-variants.{FieldBreaks, Stands}
+use Rattle.flow.specs.declared.Verdict.the-variants.{Stands}
 use Rattle.flow.specs.Flow.{headerOf, flowOrders, verdictOf}
 use Rattle.table.specs.Table.{tableOk}
 use Rattle.desk.specs.declared.FlowAnswer.the-variants.{BrokenField}
 use Rattle.desk.specs.Desk.{refused, maxFlow, forBank, flowReads}
 use Rattle.marked.specs.Flows.{single}
-use Rattle.witness.specs.Flows.{two, changing, annulling, headerFor, orderTo, order}
+use Rattle.witness.specs.Flows.{two, headerFor, order}
 use Rattle.scan.specs.Bytes.{bytes, isLetter, isDigit, isAlnum, isNameByte, isWhite, all, run, runEnd, startsWith, hasAt, textIs}
 use Rattle.scan.specs.Characters.{isChar, sized, isTail, charSize, pastOr, charAt}
 use Rattle.scan.specs.References.{whichAt}
@@ -30,7 +29,7 @@ use Rattle.markup.specs.Markup.{elementBy, childBy, childrenBy, contentBy, elem
 use Rattle.children.specs.Child.{childAt, childrenBy as childrenChildrenBy, childrenFrom}
 use Rattle.rows.specs.Kept.{keep, keptFrom}
 use Rattle.rows.specs.Table.{nameIs}
-use Rattle.structure.specs.Structure.{all as structureAll, rowsOf, inOrder, textOnly, fitBy, fitsAt}
+use Rattle.structure.specs.Structure.{allKept, rowsOf, inOrder, textOnly, fitBy, fitsAt}
 use Rattle.standing.specs.Readings.{fieldsBy, fieldsAt, firstBad}
 
 -- a flow that stands, with its header and its orders
@@ -45,17 +44,13 @@ pub record Flows : Type 0 where
   pub own : ReadAs (single "471") (headerFor "471") (order 1 ∷ [])
   pub other : ReadAs (single "000471") (headerFor "000471") (order 1 ∷ [])
   pub more : ReadAs two (headerFor "471") (order 1 ∷ order 2 ∷ [])
-  pub changed : ReadAs changing (headerFor "471") (orderTo Variazione 1 ∷ [])
-  pub annulled : ReadAs annulling (headerFor "471") (orderTo Annullo 1 ∷ [])
 
 pub flows : Flows
-unfolding isLetter isDigit isAlnum isNameByte isWhite all run runEnd startsWith hasAt textIs isChar sized isTail charSize pastOr charAt leap monthLength isDate isIdentifying codiceAbi identificativo codiceEnte tipoOperazione digitsAfter digits esercizio numero zeroInFront importo progressivo dataOf clock dataOra whichAt replacedAfter charactersAfter anagrafica fieldStands repeat until nameAt pieceAt textAt endTagAt optionalAt elementBy childBy childrenBy contentBy elementAt contentAt rootAt markupOf childAt childrenChildrenBy childrenFrom keep keptFrom nameIs structureAll rowsOf inOrder textOnly fitBy fitsAt fieldsBy fieldsAt firstBad inRow ordersTextIn inside lineOf linesOf eight linesIn orderOf ordersOf verdictOf
+unfolding isLetter isDigit isAlnum isNameByte isWhite all run runEnd startsWith hasAt textIs isChar sized isTail charSize pastOr charAt leap monthLength isDate isIdentifying codiceAbi identificativo codiceEnte tipoOperazione digitsAfter digits esercizio numero zeroInFront importo progressivo dataOf clock dataOra whichAt replacedAfter charactersAfter anagrafica fieldStands repeat until nameAt pieceAt textAt endTagAt optionalAt elementBy childBy childrenBy contentBy elementAt contentAt rootAt markupOf childAt childrenChildrenBy childrenFrom keep keptFrom nameIs allKept rowsOf inOrder textOnly fitBy fitsAt fieldsBy fieldsAt firstBad inRow ordersTextIn inside lineOf linesOf eight linesIn orderOf ordersOf verdictOf
 flows = record {
   own = record { at = 19; short = refl; stands = refl; header = refl; orders = refl };
   other = record { at = 19; short = refl; stands = refl; header = refl; orders = refl };
   more = record { at = 19; short = refl; stands = refl; header = refl; orders = refl };
-  changed = record { at = 19; short = refl; stands = refl; header = refl; orders = refl };
-  annulled = record { at = 19; short = refl; stands = refl; header = refl; orders = refl };
 }
 
 -- what such a flow comes to on a valid table

@@ -3,15 +3,10 @@ use mathlib.Core.Path.{_≡_, refl, _∙_}
 use mathlib.Core.Bool.{true}
 use mathlib.Core.List.{List, [], _∷_}
 use lib.ListN.{getD}
-use Rattle.codes.specs.declared.Operation.the-variants.{Variazione, Annullo}
-use Rattle.scan.specs.Bytes.{bytes, part, isLetter, isDigit, isAlnum, all, startsWith, hasAt, textIs}
+use Rattle.scan.specs.Bytes.{bytes, isLetter, isDigit, isAlnum, all, startsWith, hasAt, textIs}
 use Rattle.words.specs.Numbers.{put, be2, be4, be8}
-use Rattle.ranges.specs.declared.Found.the-variants.{At}
-use Rattle.table.specs.Table.{bodies, entryOf, headOk, entryOk, layoutOk, bodiesOk, tableOk}
+use Rattle.table.specs.Table.{headOk, entryOk, layoutOk, bodiesOk, tableOk}
 use Rattle.order.specs.Ordinativo.{Ordinativo}
-use Rattle.rules.specs.declared.Change.the-variants.{Insert, Vary}
-use Rattle.rules.specs.declared.Ruling.the-variants.{Accepted}
-use Rattle.rules.specs.declared.Situation.the-variants.{Waiting}
 use Rattle.service.specs.Service.{orderComes, orderStored, orderLeaves, outcomeBytes, allLeave, allOutcomes, allAccepted, noticeComes}
 use Rattle.notices.specs.declared.NoticeAnswer.the-variants.{Done, Declined}
 use Rattle.address.specs.Address.{addressed}
@@ -21,25 +16,25 @@ use Rattle.target_days.specs.Easter.{paschal, fullMoon, sundayAfter, easter}
 use Rattle.target_days.specs.Target.{weekend, fixedClosing, marchDay, closesOn, closing, targetCode}
 use Rattle.notices.specs.Notices.{noticeBy, noticeAnswer, bodyTotals, totalsOf}
 use Rattle.record.specs.declared.Key.{Key}
-use Rattle.desk.specs.declared.FlowAnswer.the-variants.{Taken, BrokenField}
-use Rattle.desk.specs.Desk.{refused, served, forBank, flowReads, flowAnswer, flowTable, flowOutcomes}
+use Rattle.desk.specs.declared.FlowAnswer.the-variants.{Taken}
+use Rattle.desk.specs.Desk.{served, forBank, flowReads, flowAnswer, flowTable, flowOutcomes}
 use Rattle.marked.specs.Flows.{requestOf, sampleTable, single, room}
-use Rattle.witness.specs.Flows.{two, changing, annulling, headerFor, orderTo, order, linesCode, first, second, twoLined}
-use Rattle.witness.specs.Takers.{OneValue, Mixed, codeAsked}
+use Rattle.witness.specs.Flows.{two, headerFor, order, first, second}
+use Rattle.witness.specs.Takers.{SameValue, Mixed, codeAsked}
 use Rattle.witness.proofs.Computed.{flows, reads}
 use Rattle.calendar.specs.Calendar.{leap, monthLength, isDate}
 use Rattle.ranges.specs.Ranges.{zeros}
 use Rattle.digits.specs.Digits.{digitsAfter, digits}
 use Rattle.record.specs.Slot.{recordAt, restZero, flat8, recordBytes, keyIs}
 use Rattle.valid.specs.Valid.{lineThere, lineAbsent, lineOk, allFrom, sum, rangesOk, recordOk}
-use Rattle.slots.specs.Slots.{usedAt, slotsAt, recordsAt, findIn, distinct}
+use Rattle.slots.specs.Slots.{usedAt, slotsAt, findIn, distinct}
 use Rattle.body.specs.Body.{slotOk, slotsOk, bodyOk}
 use Rattle.entries.specs.Entry.{codeAt, slotsOf, placeOf, formOk, formsOk, codesFrom, findCode, distinctCodes}
 use Rattle.request.specs.Request.{asked, slotsAsked, needed, bodiesAskedOk, requestOk}
 use Rattle.opening.specs.declared.Opened.the-variants.{Open}
 use Rattle.opening.specs.Opening.{headBytes, entryBytes, entriesBytes, opened, openOf}
 use Rattle.lines.specs.Lines.{numberedFrom, sumOf, lineCode}
-use Rattle.rules.specs.Rules.{keyFor, nth, amountsOf, anyExecuted, situationIn, situationOf, sameList, sameOrder, placed, stepped, judgeOrder, written, lineMoves, noticeIn, noticeAt, judgeNotice}
+use Rattle.rules.specs.Rules.{amountsOf, anyExecuted, situationIn, situationOf, sameList, sameOrder, placed, stepped, judgeOrder, written, lineMoves, noticeIn, noticeAt, judgeNotice}
 
 -- THE ORDERS, as they are served: 000471's slots begin at byte 80, 471's at 464, four of 96 bytes each; at 80 and 176 where each has one slot
 abbrev pub one : List Ordinativo
@@ -47,12 +42,6 @@ one = order 1 ∷ []
 
 abbrev pub both : List Ordinativo
 both = order 1 ∷ order 2 ∷ []
-
-abbrev pub change : Ordinativo
-change = orderTo Variazione 1
-
-abbrev pub annul : Ordinativo
-annul = orderTo Annullo 1
 
 -- mandato 1 of 2021
 abbrev pub key : Key
@@ -67,22 +56,18 @@ pub record Facts : Type 0 where
   pub valid : tableOk sampleTable ≡ true
   pub valid-first : tableOk first ≡ true
   pub valid-second : tableOk second ≡ true
-  pub valid-lined : tableOk twoLined ≡ true
   -- the flows are for the bank and for a body with room
   pub own : forBank sampleTable 16 (headerFor "471") one ≡ served 464 4 2021 one
   pub again : forBank second 16 (headerFor "471") one ≡ served 464 4 2021 one
   pub more : forBank second 32 (headerFor "471") both ≡ served 464 4 2021 both
   pub other-first : forBank first 16 (headerFor "000471") one ≡ served 80 4 2021 one
   pub own-first : forBank first 16 (headerFor "471") one ≡ served 464 4 2021 one
-  pub changed : forBank twoLined 16 (headerFor "471") (change ∷ []) ≡ served 464 4 2021 (change ∷ [])
-  pub annulled : forBank twoLined 16 (headerFor "471") (annul ∷ []) ≡ served 464 4 2021 (annul ∷ [])
   -- the answers
   pub answer : flowAnswer sampleTable (served 464 4 2021 one) ≡ Taken 1 1
   pub answer-again : flowAnswer second (served 464 4 2021 one) ≡ Taken 1 0
   pub answer-more : flowAnswer second (served 464 4 2021 both) ≡ Taken 2 1
   pub answer-other : flowAnswer first (served 80 4 2021 one) ≡ Taken 1 0
   pub answer-first : flowAnswer first (served 464 4 2021 one) ≡ Taken 1 1
-  pub answer-annul : flowAnswer twoLined (served 464 4 2021 (annul ∷ [])) ≡ Taken 1 0
   -- outcome codes
   pub code-0 : getD (flowOutcomes second (room 2) (served 464 4 2021 both)) 2 0 ≡ 14
   pub code-1 : getD (flowOutcomes second (room 2) (served 464 4 2021 both)) 18 0 ≡ 0
@@ -91,17 +76,6 @@ pub record Facts : Type 0 where
   pub slot-empty : getD sampleTable 464 0 ≡ 0
   pub next : getD (flowTable second (served 464 4 2021 both)) 560 0 ≡ 1
   pub next-empty : getD (orderLeaves second 464 4 2021 (order 1)) 560 0 ≡ 0
-  pub slots-used : getD (part (flowTable sampleTable (served 464 4 2021 one)) 464 848) 0 0 ≡ 1
-  pub slots-empty : getD (part sampleTable 464 848) 0 0 ≡ 0
-  -- the change of an order of two lines to one of one, and its second amount
-  pub comes-change : orderComes twoLined 464 4 2021 change ≡ Accepted Vary 0
-  pub amount-old : getD (recordAt twoLined 464 .amounts) 1 0 ≡ 5000
-  pub amount-new : getD (recordAt (flowTable twoLined (served 464 4 2021 (change ∷ []))) 464 .amounts) 1 0 ≡ 0
-  -- an ANNULLO of its number, rightly numbered and summed up
-  pub lines-right : linesCode annul ≡ 0
-  pub found : findIn (recordsAt twoLined 464 4) 0 (keyFor 2021 annul) ≡ At 0
-  pub waits : situationIn (nth (recordsAt twoLined 464 4) 0) ≡ Waiting
-  -- 000471 has filled its slots, 471 has not
   -- two bodies whose codes have one value, and what each is told of 000471's mandato 1
   pub mixed : Mixed first (bytes "000471") (bytes "471")
   pub notice-other : noticeAnswer first true (bytes "000471") key 1 wednesday ≡ Done 100
@@ -111,7 +85,7 @@ pub record Facts : Type 0 where
   pub used-before : totalsOf sampleTable (bytes "000471") .used ≡ 0
   -- and a request for both
   pub asked-two : asked (requestOf 4) ≡ 2
-  pub value-asked : OneValue (codeAsked (requestOf 4) 0) (codeAsked (requestOf 4) 1)
+  pub value-asked : SameValue (codeAsked (requestOf 4) 0) (codeAsked (requestOf 4) 1)
   pub opens : openOf (requestOf 4) 848 ≡ Open
 
 pub facts : Facts
@@ -120,34 +94,22 @@ facts = record {
   valid = refl;
   valid-first = refl;
   valid-second = refl;
-  valid-lined = refl;
   own = refl;
   again = refl;
   more = refl;
   other-first = refl;
   own-first = refl;
-  changed = refl;
-  annulled = refl;
   answer = refl;
   answer-again = refl;
   answer-more = refl;
   answer-other = refl;
   answer-first = refl;
-  answer-annul = refl;
   code-0 = refl;
   code-1 = refl;
   slot = refl;
   slot-empty = refl;
   next = refl;
   next-empty = refl;
-  slots-used = refl;
-  slots-empty = refl;
-  comes-change = refl;
-  amount-old = refl;
-  amount-new = refl;
-  lines-right = refl;
-  found = refl;
-  waits = refl;
   mixed = record { one = 0; other = 1; left = refl; right = refl; value = record { value = 471; left = refl; right = refl } };
   notice-other = refl;
   notice-own = refl;
@@ -174,9 +136,3 @@ other-first-reads = reads first 16 (flows .other) (facts .valid-first) ∙ facts
 
 pub own-first-reads : flowReads first (single "471") 16 ≡ served 464 4 2021 one
 own-first-reads = reads first 16 (flows .own) (facts .valid-first) ∙ facts .own-first
-
-pub changed-reads : flowReads twoLined changing 16 ≡ served 464 4 2021 (change ∷ [])
-changed-reads = reads twoLined 16 (flows .changed) (facts .valid-lined) ∙ facts .changed
-
-pub annulled-reads : flowReads twoLined annulling 16 ≡ served 464 4 2021 (annul ∷ [])
-annulled-reads = reads twoLined 16 (flows .annulled) (facts .valid-lined) ∙ facts .annulled

@@ -1,12 +1,21 @@
 -- WHAT THE PROMISES RULE OUT, each on a flow or a call for document 01's table; and that such flows are taken.
-use Prim.Native.Nat.{ℕ, _≤_}
+use Prim.Native.Nat.{ℕ, zero, suc, _+_, _*_, _≤_, _<_}
 use mathlib.Core.Path.{_≡_, refl, sym, ap, _∙_, subst}
-use mathlib.Core.Bool.{true}
-use mathlib.Core.List.{List, [], _∷_}
+use mathlib.Core.Bool.{Bool, true, false}
+use mathlib.Core.List.{List, [], _∷_, _++_}
 use native.Mathlib.Omega.{arith}
-use lib.ListN.{length, getD, replicate}
-use Rattle.scan.specs.Bytes.{bytes, part}
-use Rattle.record.specs.Slot.{recordAt}
+use lib.ListN.{length, getD, drop, replicate, length-append, List·getD-eq-default}
+use lib.Seq.{getD-drop}
+use lib.Dec.{eqb, ltb}
+use borrow.Author.Tests.{eqb-true, ltb-true, ltb-false, le-ltb}
+use Rattle.scan.specs.Bytes.{bytes}
+use Rattle.scan.proofs.Laws.{both}
+use Rattle.valid.specs.Valid.{lineAbsent, lineOk}
+use Rattle.valid.proofs.Valid.{Valid, ok-line}
+use Rattle.slots.specs.Slots.{recordsAt}
+use Rattle.body.proofs.Slots.{valid-at}
+use Rattle.entries.specs.Entry.{slotsOf, placeOf}
+use Rattle.table.specs.Table.{tableOk, entryOf}
 use Rattle.orders.specs.Orders.{Header}
 use Rattle.opening.specs.Opening.{openCode}
 use Rattle.notices.specs.declared.TotalsAnswer.{TotalsAnswer}
@@ -18,20 +27,29 @@ use Rattle.desk.specs.Desk.{Reading, flowReads, flowAnswer, flowTable, flowOutc
 use Rattle.ranges.specs.declared.Found.{Found}
 use Rattle.ranges.specs.declared.Found.the-variants.{At}
 use Rattle.record.specs.declared.Record.{Record}
-use Rattle.table.proofs.Bodies.{found-body}
+use Rattle.table.proofs.Bodies.{body-at, found-body}
 use Rattle.order.specs.Ordinativo.{Ordinativo}
 use Rattle.flow.specs.declared.Verdict.{Verdict}
 use Rattle.flow.specs.declared.Verdict.the-variants.{FieldBreaks, Stands}
 use Rattle.flow.specs.Flow.{headerOf}
-use Rattle.rules.specs.Listed.{Applies, sostituzione, misnumbered, missummed, present, full, absent, annulled, executed, differs}
-use Rattle.service.specs.Service.{orderComes}
+use Rattle.rules.specs.Listed.{Has, Applies, sostituzione, misnumbered, missummed, present, full, absent, annulled, executed, differs}
+use Rattle.rules.specs.Rules.{keyFor, nth, judgeOrder, orderCode}
+use Rattle.rules.specs.Effects.{recordsBy, allRecords}
+use Rattle.service.specs.Service.{outcomeSize, orderComes}
+use Rattle.service.proofs.Laws.{held}
+use Rattle.theorems.specs.Engine.{flow as aFlow, recordsOf, owned}
+use Rattle.theorems.specs.Codes.{outcomeCodes}
+use Rattle.theorems.specs.Condition2.{codesInTurn}
+use Rattle.theorems.specs.Condition2 as Rules
+use Rattle.theorems.proofs.Steps.{ours}
 use Rattle.theorems.proofs.Condition1.{condition1}
 use Rattle.theorems.proofs.Condition2.{condition2}
+use Rattle.theorems.proofs.Condition3.{condition3}
 use Rattle.marked.specs.Flows.{requestOf, sampleTable, single, room}
-use Rattle.witness.specs.Flows.{two, changing, annulling, order, first, second, twoLined}
-use Rattle.witness.specs.Takers.{Taker, Keeps, RefusesAll, OneOutcome, StoresNothing, FirstOnly, InventsAccepted, CountsOrders, KeepsAmounts, AnnulsByNumber, NoSlotForOthers, HalfApplied, ServesElsewhere, Notifier, KeepsNotice, Teller, KeepsTotals, Opener, KeepsOpen, InventsUsed, UsedUnseen, Mixed, ByNumber, NoticeByNumber, TotalsByNumber, OpenByNumber}
+use Rattle.witness.specs.Flows.{two, order, first, second}
+use Rattle.witness.specs.Takers.{Taker, Keeps, RefusesAll, OneOutcome, StoresNothing, FirstOnly, InventsAccepted, CountsOrders, KeepsAmounts, Somewhere, AnnulsByNumber, NoSlotForOthers, HalfApplied, ServesElsewhere, Notifier, KeepsNotice, Teller, KeepsTotals, Opener, KeepsOpen, InventsUsed, UsedUnseen, Mixed, ByNumber, NoticeByNumber, TotalsByNumber, OpenByNumber}
 use Rattle.witness.proofs.Computed.{flows}
-use Rattle.witness.proofs.Facts.{key, change, annul, facts, own-reads, again-reads, more-reads, other-first-reads, own-first-reads, changed-reads, annulled-reads, wednesday}
+use Rattle.witness.proofs.Facts.{key, facts, own-reads, again-reads, more-reads, other-first-reads, own-first-reads, wednesday}
 
 -- a result that keeps the promise is that of the reading
 by-reading : (t f out : List ℕ) {t′ out′ : List ℕ} {a : FlowAnswer} {g : Reading} → flowReads t f (length out) ≡ g → FlowPromise t f out a t′ out′ → Gives t out g a t′ out′
@@ -58,6 +76,37 @@ full-body (absent p h) e = absurd (omega arith)
 full-body (annulled p r h a) e = absurd (omega arith)
 full-body (executed p r h a k x) e = absurd (omega arith)
 full-body (differs p r h d) e = absurd (omega arith)
+
+-- an order's code among those of its flow
+code-in-turn : (slots year : ℕ) (before : List Ordinativo) (o : Ordinativo) (after : List Ordinativo) (rs : List Record)
+    → getD (codesInTurn slots year (before ++ (o ∷ after)) rs) (length before) 0 ≡ orderCode (judgeOrder slots year o (allRecords slots year before rs))
+unfolding allRecords
+code-in-turn slots year [] o after rs = refl
+code-in-turn slots year (x ∷ before) o after rs = code-in-turn slots year before o after (recordsBy year x rs (judgeOrder slots year x rs))
+
+outcome-byte : (n k : ℕ) (out : List ℕ) → k < n → getD (outcomeCodes n out) k 0 ≡ getD out (outcomeSize * k + 2) 0
+outcome-byte zero k out h = absurd (omega arith)
+outcome-byte (suc n) zero out h = refl
+outcome-byte (suc n) (suc k) out h =
+    let e : outcomeSize + (outcomeSize * k + 2) ≡ outcomeSize * suc k + 2 = omega arith in
+    outcome-byte n k (drop outcomeSize out) (omega arith) ∙ getD-drop outcomeSize out (outcomeSize * k + 2) 0 ∙ ap (λ (i : ℕ). getD out i 0) e
+
+-- a line past those of a valid record has no amount
+past-lines : (r : Record) → Valid r → (k : ℕ) → r .lines ≤ k → getD (r .amounts) k 0 ≡ 0
+unfolding lineOk lineAbsent
+past-lines r v k h = go (ltb k 8) refl
+  where
+    go : (b : Bool) → ltb k 8 ≡ b → getD (r .amounts) k 0 ≡ 0
+    go false e = List·getD-eq-default (r .amounts) 0 (omega (arith, v .amounts, ltb-false k 8 e))
+    go true e =
+        let a = rw (le-ltb k (r .lines) h) at (ok-line r (v .ok) k (ltb-true k 8 e)) in
+        eqb-true _ _ (both (eqb (getD (r .states) k 0) 0) (eqb (getD (r .amounts) k 0) 0) a .1)
+
+-- an order's record, said of the same body and place
+has-there : (t f : List ℕ) (before : List Ordinativo) (o : Ordinativo) (r : Record) {a b i j : ℕ} → a ≡ b → i ≡ j
+    → Has (allRecords (slotsOf t (entryOf a)) (headerOf f i .esercizio) before (recordsOf a t)) (keyFor (headerOf f i .esercizio) o) r
+    → Has (allRecords (slotsOf t (entryOf b)) (headerOf f j .esercizio) before (recordsOf b t)) (keyFor (headerOf f j .esercizio) o) r
+has-there t f before o r p q h = rw (← p, ← q) h
 
 -- a byte of buffers that are one
 byte : (i : ℕ) {x y : List ℕ} → x ≡ y → getD x i 0 ≡ getD y i 0
@@ -144,32 +193,59 @@ module _ (T : Taker) (keeps : Keeps T) where
       let y : 0 ≡ r .0 1 = sym (ap accepted e) ∙ r .1 second (single "471") (room 1) ∙ ap (λ (a : FlowAnswer). r .0 (flowReply a .orders)) e in
       omega arith
 
-  -- an order of two lines changed to one line: its second amount is 0, and was 50.00
+  -- it leaves the table that the engine of condition 3 leaves
+  as-ours : (t f out : List ℕ) → T .table t f out ≡ ours .next (aFlow f out) t
+  as-ours t f out = keeps t f out .1 ∙ sym (ours .keeps (aFlow f out) t .2 .1)
+
+  -- the table stays valid: "lines that aren't there have state and amount zero"
   pub keeps-amounts : KeepsAmounts T → ⊥
   keeps-amounts r =
-      let e = by-reading twoLined changing (room 1) changed-reads (keeps twoLined changing (room 1)) .1 in
-      let z = r twoLined changing (room 1) 464 4 2021 0 1 change changed-reads refl (facts .comes-change) (omega arith) in
-      omega (arith, facts .amount-old, facts .amount-new, z, ap (λ (x : List ℕ). getD (recordAt x 464 .amounts) 1 0) e)
+      let u = T .table (r .table) (r .flow) (r .lent) in
+      let e = as-ours (r .table) (r .flow) (r .lent) in
+      let ok : tableOk u ≡ true = ap tableOk e ∙ condition3 ours (r .table) (r .valid) .valid (aFlow (r .flow) (r .lent) ∷ []) in
+      let base = placeOf u (entryOf (r .body)) in
+      let n = slotsOf u (entryOf (r .body)) in
+      let h = held u base n (r .slot) (r .used) in
+      let v = valid-at u base n (r .slot) (body-at u ok (r .body) (r .there) .valid) (h .used) in
+      r .kept (past-lines (nth (recordsAt u base n) (r .slot)) (subst Valid (sym (h .same)) v) (r .line) (r .gone))
 
-  -- its ANNULLO with another amount is refused (19)
+  -- a flow that is taken is for the body that it names
+  module _ (w : Somewhere T) where
+    here-taken : Rules.Taken (w .table) (w .flow) (T .answer (w .table) (w .flow) (w .lent)) (T .table (w .table) (w .flow) (w .lent)) (T .outcomes (w .table) (w .flow) (w .lent))
+    here-taken = condition2 .taken (w .table) (w .flow) (w .lent) _ _ _ (keeps (w .table) (w .flow) (w .lent)) (w .taken)
+
+    here-place : w .at ≡ here-taken .at
+    here-place = one-place (w .stands) (here-taken .stands)
+
+    here-body : w .body ≡ here-taken .body
+    here-body = one-body (rw here-place at (w .named)) (here-taken .named)
+
+  -- 19 applies, so that the order isn't accepted
   pub annuls-by-number : AnnulsByNumber T → ⊥
   annuls-by-number r =
-      let e = by-reading twoLined annulling (room 1) annulled-reads (keeps twoLined annulling (room 1)) .0 ∙ facts .answer-annul in
-      let z = r twoLined annulling (room 1) 464 4 2021 0 annul annulled-reads refl (facts .lines-right) (facts .found) (facts .waits) in
-      omega (arith, ap accepted e)
+      let w = r .here in
+      let k = here-taken w in
+      let i = here-place w in
+      let os = rw i at (r .orders) in
+      let has = has-there (w .table) (w .flow) (r .before) (r .order) (r .old) (here-body w) i (r .has) in
+      let d = code-in-turn (slotsOf (w .table) (entryOf (k .body))) (headerOf (w .flow) (k .at) .esercizio) (r .before) (r .order) (r .others) (recordsOf (k .body) (w .table)) in
+      let c = ap (λ (l : List ℕ). getD l (length (r .before)) 0) (rw os at (k .codes)) in
+      let x = outcome-byte (length (r .before ++ (r .order ∷ r .others))) (length (r .before)) (T .outcomes (w .table) (w .flow) (w .lent)) (omega (arith, length-append (r .before) (r .order ∷ r .others))) in
+      let z = sym (sym x ∙ c ∙ d) ∙ r .answered in
+      k .exactly (r .before) (r .order) (r .others) os .0 z 19 (differs (r .annuls) (r .old) has (r .meant))
 
   -- 15 is given exactly where the body is full
   pub no-slot-for-others : NoSlotForOthers T → ⊥
   unfolding orderComes
   no-slot-for-others r =
-      let t = r .table in
-      let k = condition2 .taken t (r .flow) (r .lent) _ _ _ (keeps t (r .flow) (r .lent)) (r .taken) in
-      let i = one-place (r .stands) (k .stands) in
-      let n = rw i at (r .named) in
-      let b = one-body n (k .named) in
+      let w = r .here in
+      let t = w .table in
+      let k = here-taken w in
+      let i = here-place w in
+      let b = here-body w in
       let c = ap (λ (l : List ℕ). getD l 0 0) (rw (rw i at (r .first)) at (k .codes)) in
-      let w = condition2 .answer t (k .valid) (k .body) (found-body t (k .valid) (headerOf (r .flow) (k .at) .ente) (k .body) (k .named)) (headerOf (r .flow) (k .at) .esercizio) (r .order) 15 (λ q. omega arith) .0 (sym c ∙ r .answered) in
-      let l = full-body (w .0) refl in
+      let v = condition2 .answer t (k .valid) (k .body) (found-body t (k .valid) (headerOf (w .flow) (k .at) .ente) (k .body) (k .named)) (headerOf (w .flow) (k .at) .esercizio) (r .order) 15 (λ q. omega arith) .0 (sym c ∙ r .answered) in
+      let l = full-body (v .0) refl in
       let m = rw b at (r .empty) in
       omega arith
 
@@ -179,11 +255,11 @@ module _ (T : Taker) (keeps : Keeps T) where
       let k = keeps (r .table) (r .flow) (r .lent) in
       r .changed (condition1 .refused-flow (r .table) (r .flow) (r .lent) _ _ _ k (λ z. breaks-stands (r .late) (condition2 .taken (r .table) (r .flow) (r .lent) _ _ _ k z .stands)) .0)
 
+  -- a call of one body leaves every other body's part
   pub serves-elsewhere : ServesElsewhere T → ⊥
   serves-elsewhere r =
-      let e = by-reading sampleTable (single "471") (room 1) own-reads (keeps sampleTable (single "471") (room 1)) .1 in
-      let z = r sampleTable (single "471") (room 1) 464 4 2021 (order 1 ∷ []) own-reads in
-      omega (arith, facts .slots-used, facts .slots-empty, byte 0 z, ap (λ (x : List ℕ). getD (part x 464 848) 0 0) e)
+      let e = as-ours (r .table) (r .flow) (r .lent) in
+      r .changed (ap (owned (r .table) (r .other)) e ∙ condition3 ours (r .table) (r .valid) .isolated .step [] (aFlow (r .flow) (r .lent)) (r .other) (r .body) (r .there) (r .named) (r .apart))
 
   -- on the table that mandato 1 of 000471 left: refused (14) for 000471, accepted for 471
   pub by-number : ByNumber T → ⊥

@@ -2,14 +2,11 @@
 use Prim.Native.Nat.{ℕ}
 use Prim.Native.String.{String}
 use mathlib.Core.List.{List, [], _∷_, _++_}
-use lib.ListN.{length}
 use Rattle.scan.specs.Bytes.{bytes}
-use Rattle.codes.specs.declared.Operation.{Operation}
 use Rattle.codes.specs.declared.Operation.the-variants.{Inserimento}
 use Rattle.opening.specs.Opening.{opened}
 use Rattle.order.specs.Ordinativo.{Ordinativo}
 use Rattle.orders.specs.Orders.{Header}
-use Rattle.lines.specs.Lines.{lineCode}
 use Rattle.service.specs.Service.{orderLeaves}
 use Rattle.marked.specs.Flows.{requestOf, sampleTable, mandato, flowOf}
 
@@ -17,48 +14,20 @@ use Rattle.marked.specs.Flows.{requestOf, sampleTable, mandato, flowOf}
 abbrev pub two : List ℕ
 two = flowOf "471" (mandato "INSERIMENTO" "1" ++ mandato "INSERIMENTO" "2")
 
--- mandato 1 changed, and annulled
-abbrev pub changing : List ℕ
-changing = flowOf "471" (mandato "VARIAZIONE" "1")
-
-abbrev pub annulling : List ℕ
-annulling = flowOf "471" (mandato "ANNULLO" "1")
-
 -- READ AS
 abbrev pub headerFor : String → Header
 headerFor code = record { abi = bytes "01234"; ente = bytes code; esercizio = 2021 }
 
 -- of 1.00 in one line
-abbrev pub orderTo : Operation → ℕ → Ordinativo
-orderTo op n = record {
+abbrev pub order : ℕ → Ordinativo
+order n = record {
   kind = 1;
-  operation = op;
+  operation = Inserimento;
   number = n;
   date = record { year = 2021; month = 3; day = 1 };
   total = 100;
   lines = record { progressivo = 1; amount = 100 } ∷ [];
 }
-
-abbrev pub order : ℕ → Ordinativo
-order = orderTo Inserimento
-
--- of 150.00 in lines of 100.00 and 50.00
-abbrev pub twoLines : ℕ → Ordinativo
-twoLines n = record {
-  kind = 1;
-  operation = Inserimento;
-  number = n;
-  date = record { year = 2021; month = 3; day = 1 };
-  total = 15000;
-  lines = record { progressivo = 1; amount = 10000 } ∷ record { progressivo = 2; amount = 5000 } ∷ [];
-}
-
--- how many lines an order has, and what the line check says of them
-abbrev pub lineCount : Ordinativo → ℕ
-lineCount o = length (o .lines)
-
-abbrev pub linesCode : Ordinativo → ℕ
-linesCode o = lineCode (o .lines) (o .total)
 
 -- TABLES: document 01's after mandato 1 for 000471, and after mandato 1 for 471
 abbrev pub first : List ℕ
@@ -66,10 +35,6 @@ first = orderLeaves sampleTable 80 4 2021 (order 1)
 
 abbrev pub second : List ℕ
 second = orderLeaves sampleTable 464 4 2021 (order 1)
-
--- after a mandato 1 of two lines for 471
-abbrev pub twoLined : List ℕ
-twoLined = orderLeaves sampleTable 464 4 2021 (twoLines 1)
 
 -- for the same bodies with one slot each
 abbrev pub small : List ℕ

@@ -1,21 +1,20 @@
 -- WHAT TAKES CALLS, right or wrong: functions from what a call is lent to an answer and the buffers afterwards. What is proved impossible of those that
 -- keep the promises are document 01's five programs ("How tight the promises are") and its "Errors we have seen made", each said by what it does at
--- every input.
+-- every input, or, where it says `somewhere`, at one input at least.
 use Prim.Native.Nat.{ℕ, _+_, _*_, _<_, _≤_}
 use mathlib.Core.Path.{_≡_}
 use mathlib.Core.Bool.{Bool, true}
-use mathlib.Core.List.{List, [], _∷_}
+use mathlib.Core.Option.{some}
+use mathlib.Core.List.{List, [], _∷_, _++_}
 use lib.ListN.{length, getD}
-use Rattle.scan.specs.Bytes.{bytes, part}
 use Rattle.digits.specs.declared.Number.the-variants.{Value}
 use Rattle.digits.specs.Digits.{digits}
 use Rattle.ranges.specs.declared.Found.the-variants.{At}
-use Rattle.codes.specs.declared.Operation.the-variants.{Variazione, Annullo}
+use Rattle.codes.specs.declared.Operation.the-variants.{Annullo}
 use Rattle.calendar.specs.declared.Date.{Date}
 use Rattle.record.specs.declared.Key.{Key}
-use Rattle.record.specs.Slot.{slotSize, recordAt}
-use Rattle.slots.specs.Slots.{usedAt, recordsAt, findIn}
-use Rattle.entries.specs.Entry.{requestSize, slotsOf, placeOf, codesFrom}
+use Rattle.record.specs.declared.Record.{Record}
+use Rattle.entries.specs.Entry.{requestSize, slotsOf, codesFrom}
 use Rattle.table.specs.Table.{tableOk, bodies, bodyOf, entryOf}
 use Rattle.request.specs.Request.{firstBody, asked}
 use Rattle.opening.specs.declared.Opened.{Opened}
@@ -24,20 +23,18 @@ use Rattle.opening.specs.Opening.{OpenPromise}
 use Rattle.order.specs.Ordinativo.{Ordinativo}
 use Rattle.flow.specs.declared.Verdict.the-variants.{FieldBreaks, Stands}
 use Rattle.flow.specs.Flow.{verdictOf, headerOf, flowOrders}
-use Rattle.rules.specs.declared.Situation.the-variants.{Waiting}
-use Rattle.rules.specs.declared.Change.the-variants.{Vary}
-use Rattle.rules.specs.declared.Ruling.the-variants.{Accepted}
-use Rattle.rules.specs.Rules.{keyFor, nth, situationIn}
-use Rattle.service.specs.Service.{orderComes, orderLeaves}
+use Rattle.rules.specs.Rules.{keyFor, nth}
+use Rattle.rules.specs.Effects.{allRecords}
+use Rattle.rules.specs.Listed.{Has, Differs}
+use Rattle.service.specs.Service.{outcomeSize, orderLeaves}
 use Rattle.notices.specs.declared.NoticeAnswer.{NoticeAnswer}
 use Rattle.notices.specs.declared.TotalsAnswer.{TotalsAnswer}
 use Rattle.notices.specs.Notices.{NoticePromise, TotalsPromise}
 use Rattle.desk.specs.declared.FlowAnswer.{FlowAnswer}
 use Rattle.desk.specs.declared.FlowReply.{FlowReply}
 use Rattle.desk.specs.Desk.{served, flowReads, FlowPromise, flowReply}
-use Rattle.theorems.specs.Engine.{recordsOf}
+use Rattle.theorems.specs.Engine.{flow as aFlow, who, recordsOf, owned}
 use Rattle.theorems.specs.Codes.{outcomeCodes, zeroCodes}
-use Rattle.witness.specs.Flows.{lineCount, linesCode}
 
 -- FLOWS: from a table, a flow and a lent outcome buffer
 pub record Taker : Type 0 where
@@ -84,21 +81,23 @@ module _ (T : Taker) where
   abbrev pub CountsOrders : Type 0
   CountsOrders = (g : ℕ → ℕ) × ((t f out : List ℕ) → reply t f out .accepted ≡ g (reply t f out .orders))
 
-  -- "A changed order keeping old amounts in lines it no longer has"
-  abbrev pub KeepsAmounts : Type 0
-  KeepsAmounts = (t f out : List ℕ) (base n year i k : ℕ) (o : Ordinativo) → flowReads t f (length out) ≡ served base n year (o ∷ [])
-      → o .operation ≡ Variazione → orderComes t base n year o ≡ Accepted Vary i → lineCount o ≤ k
-      → getD (recordAt (T .table t f out) (base + slotSize * i) .amounts) k 0 ≡ getD (recordAt t (base + slotSize * i) .amounts) k 0
+  -- "A changed order keeping old amounts in lines it no longer has": somewhere a valid table has, after a flow, a record with an amount in a line that
+  -- the record hasn't
+  pub record KeepsAmounts : Type 0 where
+    pub table : List ℕ
+    pub flow : List ℕ
+    pub lent : List ℕ
+    pub valid : tableOk table ≡ true
+    pub body : ℕ
+    pub there : body < bodies (T .table table flow lent)
+    pub slot : ℕ
+    pub used : slot < length (recordsOf body (T .table table flow lent))
+    pub line : ℕ
+    pub gone : nth (recordsOf body (T .table table flow lent)) slot .lines ≤ line
+    pub kept : getD (nth (recordsOf body (T .table table flow lent)) slot .amounts) line 0 ≡ 0 → ⊥
 
-  -- "ANNULLO by number alone, where the school meant another order": it is accepted where an order of that key is there, with every line waiting
-  abbrev pub AnnulsByNumber : Type 0
-  AnnulsByNumber = (t f out : List ℕ) (base n year i : ℕ) (o : Ordinativo) → flowReads t f (length out) ≡ served base n year (o ∷ [])
-      → o .operation ≡ Annullo → linesCode o ≡ 0 → findIn (recordsAt t base n) 0 (keyFor year o) ≡ At i
-      → situationIn (nth (recordsAt t base n) i) ≡ Waiting → reply t f out .accepted ≡ 1
-
-  -- "'No slot' answered because another body filled its own", or for whatever reason: somewhere the first order of a flow gets 15, though its body has
-  -- an empty slot
-  pub record NoSlotForOthers : Type 0 where
+  -- somewhere: a flow that it takes, and the body that the flow names
+  pub record Somewhere : Type 0 where
     pub table : List ℕ
     pub flow : List ℕ
     pub lent : List ℕ
@@ -107,11 +106,40 @@ module _ (T : Taker) where
     pub stands : verdictOf flow ≡ Stands at
     pub body : ℕ
     pub named : bodyOf table (headerOf flow at .ente) ≡ At body
-    pub empty : length (recordsOf body table) < slotsOf table (entryOf body)
+
+  -- the flow's esercizio, the body's slots, and its records after the first orders of the flow
+  abbrev year : Somewhere → ℕ
+  year w = headerOf (w .flow) (w .at) .esercizio
+
+  abbrev slots : Somewhere → ℕ
+  slots w = slotsOf (w .table) (entryOf (w .body))
+
+  abbrev after : Somewhere → List Ordinativo → List Record
+  after w os = allRecords (slots w) (year w) os (recordsOf (w .body) (w .table))
+
+  -- "ANNULLO by number alone, where the school meant another order": somewhere an ANNULLO gets 0 though total, number of lines or a line amount differs
+  -- from the record of its key, on what the orders before it left
+  pub record AnnulsByNumber : Type 0 where
+    pub here : Somewhere
+    pub before : List Ordinativo
     pub order : Ordinativo
     pub others : List Ordinativo
-    pub first : flowOrders flow at ≡ order ∷ others
-    pub answered : getD (T .outcomes table flow lent) 2 0 ≡ 15
+    pub orders : flowOrders (here .flow) (here .at) ≡ before ++ (order ∷ others)
+    pub annuls : order .operation ≡ Annullo
+    pub old : Record
+    pub has : Has (after here before) (keyFor (year here) order) old
+    pub meant : Differs order old
+    pub answered : getD (T .outcomes (here .table) (here .flow) (here .lent)) (outcomeSize * length before + 2) 0 ≡ 0
+
+  -- "'No slot' answered because another body filled its own", or for whatever reason: somewhere the first order of a flow gets 15, though its body has
+  -- an empty slot
+  pub record NoSlotForOthers : Type 0 where
+    pub here : Somewhere
+    pub empty : length (recordsOf (here .body) (here .table)) < slots here
+    pub order : Ordinativo
+    pub others : List Ordinativo
+    pub first : flowOrders (here .flow) (here .at) ≡ order ∷ others
+    pub answered : getD (T .outcomes (here .table) (here .flow) (here .lent)) 2 0 ≡ 15
 
   -- "A flow half applied before a late field broke": somewhere a field breaks, and the table is another
   pub record HalfApplied : Type 0 where
@@ -122,10 +150,18 @@ module _ (T : Taker) where
     pub late : verdictOf flow ≡ FieldBreaks place
     pub changed : T .table table flow lent ≡ table → ⊥
 
-  -- a body served on another body's slots: whatever it writes elsewhere, the slots of the flow's own body stay as they were
-  abbrev pub ServesElsewhere : Type 0
-  ServesElsewhere = (t f out : List ℕ) (base n year : ℕ) (os : List Ordinativo) → flowReads t f (length out) ≡ served base n year os
-      → part (T .table t f out) base (base + slotSize * n) ≡ part t base (base + slotSize * n)
+  -- a body served on another body's slots: somewhere a flow that names one body of a valid table changes what another body owns
+  pub record ServesElsewhere : Type 0 where
+    pub table : List ℕ
+    pub flow : List ℕ
+    pub lent : List ℕ
+    pub valid : tableOk table ≡ true
+    pub body : ℕ
+    pub named : who table (aFlow flow lent) ≡ some body
+    pub other : ℕ
+    pub there : other < bodies table
+    pub apart : other ≡ body → ⊥
+    pub changed : owned table other (T .table table flow lent) ≡ owned table other table → ⊥
 
 -- NOTICES, TOTALS AND OPENING
 pub record Notifier : Type 0 where
@@ -164,7 +200,7 @@ UsedUnseen S = (g : List ℕ → ℕ) × ((t code : List ℕ) → S t code .used
 
 -- "ANY CODE TURNED INTO AN INTEGER AND BACK": two codes that are numbers of one value are taken for one. Codes that are no numbers, and codes of no
 -- body, it may well keep apart
-pub record OneValue (a b : List ℕ) : Type 0 where
+pub record SameValue (a b : List ℕ) : Type 0 where
   pub value : ℕ
   pub left : digits 1 16 a ≡ Value value
   pub right : digits 1 16 b ≡ Value value
@@ -175,7 +211,7 @@ pub record Mixed (t a b : List ℕ) : Type 0 where
   pub other : ℕ
   pub left : bodyOf t a ≡ At one
   pub right : bodyOf t b ≡ At other
-  pub value : OneValue a b
+  pub value : SameValue a b
 
 -- flows that stand and differ in nothing but codice_ente_BT are answered alike
 abbrev pub ByNumber : Taker → Type 0
@@ -196,4 +232,4 @@ codeAsked q i = getD (codesFrom requestSize q firstBody (asked q)) i []
 
 -- a request for two such bodies is held to repeat a code
 abbrev pub OpenByNumber : Opener → Type 0
-OpenByNumber O = (q t : List ℕ) (i j : ℕ) → i < j → j < asked q → OneValue (codeAsked q i) (codeAsked q j) → O .answer q t ≡ WrongRequest
+OpenByNumber O = (q t : List ℕ) (i j : ℕ) → i < j → j < asked q → SameValue (codeAsked q i) (codeAsked q j) → O .answer q t ≡ WrongRequest

@@ -1,7 +1,7 @@
 use mathlib.Core.Path.{ap, _∙_}
 use Prim.Native.Nat.{ℕ}
 use lib.ListN.{replicate}
-use Rattle.rules.specs.Rules.{eight}
+use Rattle.rules.specs.Rules.{eightPlaces}
 use borrow.Author.Needs.{needs}
 use Rattle.rules.proofs.varied_by.Statement.{statement}
 use Rattle.rules.proofs.varied_by.Tie as tie
@@ -28,7 +28,7 @@ returns c =
     let o = c .before .before .before .before .before .args .o in
     let r = c .before .before .before .before .before .args .r in
     let n = c .before .before .count-of .ensures .0 in
-    let s = c .before .waiting-lines .ensures ∙ ap (λ (k : ℕ). eight (replicate k 1)) n in
+    let s = c .before .waiting-lines .ensures ∙ ap (λ (k : ℕ). eightPlaces (replicate k 1)) n in
     let a = c .amounts-of .ensures in
     λ k. record {
       kind = r .kind;

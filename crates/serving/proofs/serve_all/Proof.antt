@@ -106,7 +106,7 @@ loop-again c =
     let s = c .before .before .before .before .before .before .before .before .before .before .before .before .before .before .before .before .loop .inv in
     let k = c .before .before .before .before .before .before .before .before .before .before .before .before .before .k .given .0 .0 in
     let e : nextOf (inRow 5 (keptFrom FlussoOrdinativi (a .f .now) (c .before .before .before .before .before .before .before .before .before .before .before .before .before .before .before .before .loop .i))) ≡ Named k = sym (c .before .before .before .before .before .before .before .before .before .before .before .before .before .before .before .next-row .ensures) ∙ c .before .before .before .before .before .before .before .before .before .before .before .before .before .k .given .1 in
-    serving-step (a .f .now) (a .past .now) (a .base) (a .n) (a .year) (a .t .now) (a .out .now) (a .from) _ _ _ _ _ s k e (c .before .before .before .before .before .before .before .before .before .before .order-of .ensures .0) (c .before .before .before .before .before .before .before .before .serve-order .ensures .0) (c .before .before .before .before .before .before .before .before .serve-order .ensures .1) (search needs) (c .before .before .before .before .code-of .ensures) (c .before .before .before .put-outcome .ensures) (search needs) (c .one-of .ensures .0) (c .one-of .ensures .1)
+    serving-step (a .f .now) (a .past .now) (a .base) (a .n) (a .year) (a .t .now) (a .out .now) (a .from) _ _ _ _ _ s k e (c .before .before .before .before .before .before .before .before .before .before .order-of .ensures .0) (c .before .before .before .before .before .before .before .before .serve-order .ensures .0) (c .before .before .before .before .before .before .before .before .serve-order .ensures .1) (search needs) (c .before .before .before .before .before .code-of .ensures) (c .before .before .before .put-outcome .ensures) (search needs) (c .one-of .ensures .0) (c .one-of .ensures .1)
 
 pub serve-all-spec : {M : Type 1} → statement M
 serve-all-spec =
