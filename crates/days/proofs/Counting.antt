@@ -12,7 +12,7 @@ use Rattle.calendar.specs.Calendar.{isDate}
 use Rattle.calendar.proofs.Laws.{date-ranges}
 use Rattle.days.specs.declared.Between.{Between}
 use Rattle.days.specs.Days.{monthOf, numberOf, dateOf, nextDay, served, daysBetween}
-use Rattle.days.specs.Counting.{daysOn, Takes, on, back, Counting}
+use Rattle.days.specs.Counting.{daysOn, Takes, on, back, Counting, CountedDays}
 use Rattle.days.proofs.Laws.{start-mono, start-1200, number-least, number-most, one-date, next-number, next-real, served-date, both-served}
 
 -- PAST THE TABLE there is no way back
@@ -112,3 +112,6 @@ module _ (a b : Date) (h : served a ≡ true) (k : served b ≡ true) where
 
   pub counting : Counting a b
   counting = record { code = ap (λ r. r .code) told; takes = count (leb (numberOf a) (numberOf b)) refl; alone = only }
+
+pub counted-days : CountedDays
+counted-days = counting

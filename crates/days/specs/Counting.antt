@@ -16,8 +16,12 @@ pub data Takes (a b : Date) : ℤ → Type 0 where
   on : {n : ℕ} → daysOn n a ≡ b → Takes a b (pos n)
   back : {n : ℕ} → daysOn (suc n) b ≡ a → Takes a b (negsuc n)
 
--- proved in proofs/Counting.antt: of any two dates that are served the call answers how many days it takes, and no other number is
+-- the call's answer to two dates is how many days it takes, and no other number is
 pub record Counting (a b : Date) : Type 0 where
   pub code : daysBetween a b .code ≡ 0
   pub takes : Takes a b (daysBetween a b .days)
   pub alone : (z : ℤ) → Takes a b z → z ≡ daysBetween a b .days
+
+-- of any two dates that are served. Proved: `counted-days : CountedDays` (proofs/Counting.antt)
+abbrev pub CountedDays : Type 0
+CountedDays = (a b : Date) → served a ≡ true → served b ≡ true → Counting a b

@@ -13,7 +13,7 @@ use Rattle.days.proofs.Laws.{one-date, next-number, number-first, number-most}
 use Rattle.target_days.specs.Easter.{easter}
 use Rattle.target_days.specs.Published.{butcher, butcherMid, butcherEnd}
 use Rattle.target_days.specs.Target.{weekend, fixedClosing, marchDay, closesOn, closing, targetCode, firstFrom, firstTargetDay}
-use Rattle.first_target.specs.First.{First, FirstTold}
+use Rattle.first_target.specs.First.{First, FirstTold, FirstDays}
 use Rattle.target_days.proofs.Easter.{by-butcher}
 use Rattle.target_days.proofs.Laws.{Served, served-real, code-28, code-0, first-stop}
 
@@ -207,8 +207,8 @@ told-served : (d : Date) → served d ≡ true → firstTargetDay d ≡ record {
 unfolding firstTargetDay
 told-served d s = rw s refl
 
-pub first-told : (d : Date) → served d ≡ true → FirstTold d
-first-told d s =
+pub first-days : FirstDays
+first-days d s =
     let q = told-served d s in
     let e : firstTargetDay d .date ≡ firstFrom 4 d = ap (λ r. r .date) q in
     record {

@@ -13,10 +13,14 @@ pub record First (d r : Date) : Type 0 where
   pub after : numberOf d ≤ numberOf r
   pub before : (e : Date) → isDate e ≡ true → numberOf d ≤ numberOf e → numberOf e < numberOf r → closing e ≡ true
 
--- proved in proofs/First.antt of every date of the served years: the answer is the first one, no other date is, it comes within four days, and is served
+-- the answer to a date is the first one, no other date is, it comes within four days, and is served
 pub record FirstTold (d : Date) : Type 0 where
   pub code : firstTargetDay d .code ≡ 0
   pub first : First d (firstTargetDay d .date)
   pub alone : (r : Date) → First d r → r ≡ firstTargetDay d .date
   pub near : numberOf (firstTargetDay d .date) ≤ numberOf d + 4
   pub inside : served (firstTargetDay d .date) ≡ true
+
+-- of every date of the served years: "a first TARGET day never falls outside the served years". Proved: `first-days : FirstDays` (proofs/First.antt)
+abbrev pub FirstDays : Type 0
+FirstDays = (d : Date) → served d ≡ true → FirstTold d

@@ -10,7 +10,7 @@ use Rattle.calendar.specs.Calendar.{leap, monthLength}
 use Rattle.days.specs.Days.{lengthAt, startOf, monthOf, numberOf, weekday, dateOf}
 use Rattle.days.proofs.Table.{T-both, allStarts, each-start}
 use Rattle.target_days.specs.Easter.{paschal, fullMoon, sundayAfter, easter}
-use Rattle.target_days.specs.Published.{moonOfEpact, moonByEpact, butcherEnd, butcherMid, butcher, FirstSunday, Agreed}
+use Rattle.target_days.specs.Published.{moonOfEpact, moonByEpact, butcherEnd, butcherMid, butcher, FirstSunday, Agreed, AllAgreed}
 
 -- THE FIRST SUNDAY AFTER the full moon
 pub first-sunday : (s moon : ℕ) → 1 ≤ moon → FirstSunday s moon (sundayAfter s moon)
@@ -75,13 +75,13 @@ moon-range y h k =
     (leb→le 21 (fullMoon y) (u .0), leb→le (fullMoon y) 49 (u .1))
 
 -- EASTER is the first Sunday after the full moon, from 22 March to 25 April
-pub agreed : (y : ℕ) → 2000 ≤ y → y ≤ 2099 → Agreed y
+pub all-agreed : AllAgreed
 unfolding easter
-agreed y h k =
+all-agreed y h k =
     let r = moon-range y h k in
     record {
       moon = by-epact y h k;
-      equinox = r .0;
+      equinox = r;
       sunday = first-sunday (numberOf (dateOf y 3 1)) (fullMoon y) (omega arith);
       rule = by-butcher y h k;
     }

@@ -33,9 +33,13 @@ pub record FirstSunday (s moon e : ℕ) : Type 0 where
   pub after : moon < e
   pub before : (n : ℕ) → moon < n → n < e → weekday (s + (n - 1)) ≡ 0 → ⊥
 
--- of a year
+-- of a year, whose full moons are those of 21 March to 18 April
 pub record Agreed (y : ℕ) : Type 0 where
   pub moon : moonByEpact y ≡ fullMoon y
-  pub equinox : 21 ≤ fullMoon y
+  pub equinox : (21 ≤ fullMoon y) × (fullMoon y ≤ 49)
   pub sunday : FirstSunday (numberOf (dateOf y 3 1)) (fullMoon y) (easter y)
   pub rule : butcher y ≡ easter y
+
+-- of every year of the table. Proved: `all-agreed : AllAgreed` (proofs/Easter.antt)
+abbrev pub AllAgreed : Type 0
+AllAgreed = (y : ℕ) → 2000 ≤ y → y ≤ 2099 → Agreed y

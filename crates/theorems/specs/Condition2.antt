@@ -64,7 +64,8 @@ None applies = (c : ℕ) → applies c → ⊥
 abbrev pub InTurn : (ℕ → ℕ) → (ℕ → Type 0) → ℕ → Type 0
 InTurn turn applies code = applies code × ((c : ℕ) → applies c → turn code ≤ turn c)
 
--- of every order for a body of a valid table, and of every notice for one on a TARGET day that keeps its promise, with its answer and the table afterwards
+-- of every order for a body of a valid table; and of every notice for such a body whose date is a TARGET day, with an answer and a table afterwards that keep
+-- its promise
 abbrev pub EachOrder : (List ℕ → ℕ → ℕ → Ordinativo → Type 0) → Type 0
 EachOrder P = (t : List ℕ) → tableOk t ≡ true → (b : ℕ) → b < bodies t → (year : ℕ) (o : Ordinativo) → P t b year o
 
