@@ -89,7 +89,7 @@ in-bytes t lo n l k = (ne-eqb (length t) 0 (λ e. omega arith), le-ltb n (length
 exactly : (t : List ℕ) (n : ℕ) → 1 ≤ n → length t ≡ n → (eqb (length t) 0 ≡ false) × (ltb n (length t) ≡ false)
 exactly t n l e = in-bytes t n n l (omega arith, omega arith)
 
-formed-sized : (f : Form) (t : List ℕ) → formed f t ≡ true → (applies Empty f t ≡ false) × (applies Long f t ≡ false)
+pub formed-sized : (f : Form) (t : List ℕ) → formed f t ≡ true → (applies Empty f t ≡ false) × (applies Long f t ≡ false)
 unfolding formed progressivo
 formed-sized CodiceAbi t e = exactly t 5 (omega arith) (abi-length t e)
 formed-sized Identificativo t e = in-bytes t 1 35 (omega arith) (identificativo-length t e)

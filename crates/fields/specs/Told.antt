@@ -1,4 +1,4 @@
--- What readings tell, over document 02's four conditions alone: when a field stands, when it breaks, and which cause is told.
+-- What readings tell, over the four conditions of Causes: when a field stands, when it breaks, and which cause is told. Document 02's own sentences are in Sentences.
 use Prim.Native.Nat.{ℕ, _<_}
 use mathlib.Core.Path.{_≡_}
 use mathlib.Core.List.{List}
