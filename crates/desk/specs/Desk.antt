@@ -8,6 +8,7 @@ use lib.Dec.{eqb, leb}
 use Rattle.scan.specs.Bytes.{textIs}
 use Rattle.words.specs.Numbers.{put}
 use Rattle.table.specs.Table.{tableOk, abiOf}
+use Rattle.fields.specs.Causes.{causeNumber}
 use Rattle.order.specs.Ordinativo.{Ordinativo}
 use Rattle.orders.specs.Orders.{Header}
 use Rattle.flow.specs.declared.Verdict.{Verdict}
@@ -46,7 +47,7 @@ forBank t room h os = cond (textIs (abiOf t) (h .abi)) (forBody room (h .eserciz
 abbrev pub forFlow : List ℕ → List ℕ → ℕ → Verdict → Reading
 forFlow t f room (MarkupBreaks p) = refused BrokenMarkup
 forFlow t f room StructureBreaks = refused BrokenStructure
-forFlow t f room (FieldBreaks p) = refused (BrokenField p)
+forFlow t f room (FieldBreaks p c) = refused (BrokenField p c)
 forFlow t f room (Stands at) = forBank t room (headerOf f at) (flowOrders f at)
 
 abbrev pub maxFlow : ℕ
@@ -83,27 +84,29 @@ Gives t out g a t′ out′ = (a ≡ flowAnswer t g) × (t′ ≡ flowTable t g)
 abbrev pub FlowPromise : List ℕ → List ℕ → List ℕ → FlowAnswer → List ℕ → List ℕ → Type 0
 FlowPromise t f out a t′ out′ = Gives t out (flowReads t f (length out)) a t′ out′
 
--- DOCUMENT 01'S NUMBERS of an answer: "A refusal gives orders and accepted 0; place is 0 but for code 5"
+-- DOCUMENT 01'S NUMBERS of an answer: "A refusal gives orders and accepted 0; place is 0 but for code 5". Document 02, Req 03: "the flow's answer
+-- carries it: 1 empty, 2 longer than the longest allowed text, 3 wrong form, 4 right form but a value outside its range. .. All other answers carry
+-- cause 0"
 abbrev refusal : ℕ → FlowReply
-refusal c = record { code = c; place = 0; orders = 0; accepted = 0 }
+refusal c = record { code = c; place = 0; orders = 0; accepted = 0; cause = 0 }
 
 abbrev pub flowReply : FlowAnswer → FlowReply
 flowReply InvalidTable = refusal 1
 flowReply TooLong = refusal 2
 flowReply BrokenMarkup = refusal 3
 flowReply BrokenStructure = refusal 4
-flowReply (BrokenField p) = record { code = 5; place = p; orders = 0; accepted = 0 }
+flowReply (BrokenField p c) = record { code = 5; place = p; orders = 0; accepted = 0; cause = causeNumber c }
 flowReply OtherBank = refusal 6
 flowReply UnknownBody = refusal 7
 flowReply NoRoom = refusal 8
-flowReply (Taken n m) = record { code = 0; place = 0; orders = n; accepted = m }
+flowReply (Taken n m) = record { code = 0; place = 0; orders = n; accepted = m; cause = 0 }
 
 abbrev pub flowCode : FlowAnswer → ℕ
 flowCode a = flowReply a .code
 
 -- the same reply, number by number
 abbrev pub SameReply : FlowReply → FlowReply → Type 0
-SameReply m n = (m .code ≡ n .code) × (m .place ≡ n .place) × (m .orders ≡ n .orders) × (m .accepted ≡ n .accepted)
+SameReply m n = (m .code ≡ n .code) × (m .place ≡ n .place) × (m .orders ≡ n .orders) × (m .accepted ≡ n .accepted) × (m .cause ≡ n .cause)
 
 -- the promise in these numbers
 abbrev pub FlowReplies : List ℕ → List ℕ → List ℕ → FlowReply → List ℕ → List ℕ → Type 0

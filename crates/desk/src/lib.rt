@@ -1,6 +1,7 @@
 // A flow's call, on any bytes at all: the table is checked, then the flow's length, markup, structure and fields, then bank, body and room; then its
 // orders are served.
 use address::Addressed;
+use fields::Cause;
 use flow::Verdict;
 use header::Heading;
 ghost use mathlib.Core.Path.{_≡_};
@@ -23,19 +24,20 @@ pub enum FlowAnswer {
     TooLong,
     BrokenMarkup,
     BrokenStructure,
-    BrokenField(usize),
+    BrokenField(usize, Cause),
     OtherBank,
     UnknownBody,
     NoRoom,
     Taken(usize, usize),
 }
 
-// Document 01's numbers of an answer.
+// Document 01's numbers of an answer, and the cause that document 02 adds.
 pub struct FlowReply {
     pub code: u64,
     pub place: u64,
     pub orders: u64,
     pub accepted: u64,
+    pub cause: u64,
 }
 
 // The orders of a flow for a body of the table: 8, or they are served.
@@ -110,7 +112,7 @@ fn take_noted(t: &mut [u8], f: &[u8], out: &mut [u8], past: &mut [u32]) -> FlowA
     match flow::verdict_of(f, past) {
         Verdict::MarkupBreaks(_) => FlowAnswer::BrokenMarkup,
         Verdict::StructureBreaks => FlowAnswer::BrokenStructure,
-        Verdict::FieldBreaks(p) => FlowAnswer::BrokenField(p),
+        Verdict::FieldBreaks(p, x) => FlowAnswer::BrokenField(p, x),
         Verdict::Stands(at) => for_bank(t, f, at, out, past),
     }
 }
@@ -135,13 +137,14 @@ pub fn take_flow(t: &mut [u8], f: &[u8], out: &mut [u8]) -> FlowAnswer
 }
 
 fn refusal(code: u64) -> FlowReply
-    ensures { λ r. ⌜ SameReply r (record { code = code; place = 0; orders = 0; accepted = 0 }) ⌝ }
+    ensures { λ r. ⌜ SameReply r (record { code = code; place = 0; orders = 0; accepted = 0; cause = 0 }) ⌝ }
 {
     FlowReply {
         code,
         place: 0,
         orders: 0,
         accepted: 0,
+        cause: 0,
     }
 }
 
@@ -154,11 +157,12 @@ pub fn reply_of(a: FlowAnswer) -> FlowReply
         FlowAnswer::TooLong => refusal(2),
         FlowAnswer::BrokenMarkup => refusal(3),
         FlowAnswer::BrokenStructure => refusal(4),
-        FlowAnswer::BrokenField(p) => FlowReply {
+        FlowAnswer::BrokenField(p, x) => FlowReply {
             code: 5,
             place: p as u64,
             orders: 0,
             accepted: 0,
+            cause: fields::cause_number(x),
         },
         FlowAnswer::OtherBank => refusal(6),
         FlowAnswer::UnknownBody => refusal(7),
@@ -168,6 +172,7 @@ pub fn reply_of(a: FlowAnswer) -> FlowReply
             place: 0,
             orders: n as u64,
             accepted: k as u64,
+            cause: 0,
         },
     }
 }

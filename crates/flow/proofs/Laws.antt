@@ -1,5 +1,5 @@
 -- What a flow's verdict says of it: one law for each way out of the code, and what a flow that stands satisfies.
-use mathlib.Core.Path.{_≡_, refl}
+use mathlib.Core.Path.{_≡_, refl, _∙_}
 use mathlib.Core.List.{List}
 use mathlib.Core.Bool.{Bool, true, false, cond, _&&_}
 use Prim.Native.Nat.{ℕ, _+_, _≤_}
@@ -18,6 +18,7 @@ use Rattle.rows.specs.Table.{nameIs}
 use Rattle.children.proofs.Laws.{child-lies}
 use Rattle.children.proofs.Whole.{root-child}
 use Rattle.structure.specs.Structure.{fitsAt}
+use Rattle.fields.specs.declared.Cause.{Cause}
 use Rattle.standing.specs.declared.Standing.{Standing}
 use Rattle.standing.specs.declared.Standing.the-variants as standing
 use Rattle.standing.specs.Readings.{Bad, Place, Nowhere, fieldsAt, firstBad}
@@ -46,11 +47,11 @@ root-within s r e = let k = root-child s r e in let l = child-lies s r (k .0) (k
 -- what the root's content comes to, as the flow's verdict
 abbrev pub byStanding : ℕ → Standing → Verdict
 byStanding at standing.StructureBreaks = StructureBreaks
-byStanding at (standing.FieldBreaks p) = FieldBreaks p
+byStanding at (standing.FieldBreaks p c) = FieldBreaks p c
 byStanding at standing.Stands = Stands at
 
 by-fields : (at : ℕ) (f : Bool) (b : Bad) → cond f (byFields at b) StructureBreaks ≡ byStanding at (standingBy f b)
-by-fields at true (Place p) = refl
+by-fields at true (Place p c) = refl
 by-fields at true Nowhere = refl
 by-fields at false b = refl
 
@@ -86,7 +87,7 @@ unfolding verdictOf
 flow-stood s at e = walk (markupOf s) e
   where
     fields : (x : ℕ) (b : Bad) → badOf s x ≡ b → x ≤ length s → fitsFlow s x ≡ true → byFields x b ≡ Stands at → Stood s at
-    fields x (Place p) h l f e = let z : _≡_ {A = ℕ} 0 1 = cc in absurd (omega arith)
+    fields x (Place p c) h l f e = let z : _≡_ {A = ℕ} 0 1 = cc in absurd (omega arith)
     fields x Nowhere h l f e = let z : x ≡ at = cc in rw (← z) (record { within = l; fits = f; fields = h })
 
     cut : (x : ℕ) (n f : Bool) → fitsFlow s x ≡ f → x ≤ length s → cond (n && f) (byFields x (badOf s x)) StructureBreaks ≡ Stands at → Stood s at
@@ -103,22 +104,22 @@ flow-stood s at e = walk (markupOf s) e
     walk (Broken p) e = let z : _≡_ {A = ℕ} 0 1 = cc in absurd (omega arith)
 
 -- A FIELD THAT BREAKS is shown by its place
-pub flow-shown : (s : List ℕ) (q : ℕ) → verdictOf s ≡ FieldBreaks q → Shown s q
+pub flow-shown : (s : List ℕ) (q : ℕ) (y : Cause) → verdictOf s ≡ FieldBreaks q y → Shown s q y
 unfolding verdictOf
-flow-shown s q e = walk (markupOf s) e
+flow-shown s q y e = walk (markupOf s) e
   where
-    fields : (x : ℕ) (b : Bad) → badOf s x ≡ b → byFields x b ≡ FieldBreaks q → Shown s q
-    fields x (Place p) h e = let z : p ≡ q = cc in bad-shown 4 FlussoOrdinativi s x q (rw z at h)
+    fields : (x : ℕ) (b : Bad) → badOf s x ≡ b → byFields x b ≡ FieldBreaks q y → Shown s q y
+    fields x (Place p c) h e = let z : Place p c ≡ Place q y = cc in bad-shown 4 FlussoOrdinativi s x q y (h ∙ z)
     fields x Nowhere h e = let z : _≡_ {A = ℕ} 0 1 = cc in absurd (omega arith)
 
-    cut : (x : ℕ) (n : Bool) → cond n (byFields x (badOf s x)) StructureBreaks ≡ FieldBreaks q → Shown s q
+    cut : (x : ℕ) (n : Bool) → cond n (byFields x (badOf s x)) StructureBreaks ≡ FieldBreaks q y → Shown s q y
     cut x true e = fields x (badOf s x) refl e
     cut x false e = let z : _≡_ {A = ℕ} 0 1 = cc in absurd (omega arith)
 
-    root : (w : Step) → byRoot s w ≡ FieldBreaks q → Shown s q
+    root : (w : Step) → byRoot s w ≡ FieldBreaks q y → Shown s q y
     root (One c) e = cut (c .gt + 1) (isFlow s c && fitsFlow s (c .gt + 1)) e
     root End e = let z : _≡_ {A = ℕ} 0 1 = cc in absurd (omega arith)
 
-    walk : (w : Walk) → byMarkup s w ≡ FieldBreaks q → Shown s q
+    walk : (w : Walk) → byMarkup s w ≡ FieldBreaks q y → Shown s q y
     walk (Past r) e = root (childAt s r) e
     walk (Broken p) e = let z : _≡_ {A = ℕ} 0 1 = cc in absurd (omega arith)

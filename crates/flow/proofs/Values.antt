@@ -12,6 +12,7 @@ use Rattle.scan.specs.Bytes.{isWhite}
 use Rattle.scan.proofs.Laws.{run-within}
 use Rattle.tokens.specs.Tokens.{whiteAt}
 use Rattle.calendar.specs.Calendar.{isDate}
+use Rattle.fields.specs.declared.Cause.{Cause}
 use Rattle.fields.specs.declared.Form.{Form}
 use Rattle.fields.specs.declared.Form.the-variants.{CodiceAbi, Identificativo, DataOra, CodiceEnte, Esercizio, TipoOperazione, Numero, Data, Importo, Progressivo}
 use Rattle.fields.specs.declared.Judged.{Judged}
@@ -23,6 +24,7 @@ use Rattle.dates.specs.declared.Day.the-variants.{On, NoDay}
 use Rattle.codes.specs.Codes.{codiceAbi, codiceEnte}
 use Rattle.digits.specs.Digits.{esercizio, numero, importo}
 use Rattle.dates.specs.Dates.{dataOf}
+use Rattle.fields.specs.Causes.{causeOf}
 use Rattle.fields.specs.Fields.{judged, isNumber, isDay, fieldStands}
 use Rattle.digits.proofs.Laws.{esercizio-range, numero-range, importo-range}
 use Rattle.dates.proofs.Laws.{data-real}
@@ -77,7 +79,7 @@ day-there (On d) e = refl
 day-there NoDay e = let z : _≡_ {A = ℕ} 0 1 = cc in absurd (omega arith)
 
 abbrev isNowhere : Bad → Bool
-isNowhere (Place p) = false
+isNowhere (Place p c) = false
 isNowhere Nowhere = true
 
 -- no field of a named child breaks
@@ -90,21 +92,21 @@ each-stands d s [] e = refl
 each-stands d s (k ∷ ks) e = go (firstBad (fieldsIn (λ q a. fieldsAt d q s a) s k (k .holds))) (sym (bad-append (fieldsIn (λ q a. fieldsAt d q s a) s k (k .holds)) (fieldsBy (λ q a. fieldsAt d q s a) s ks)) ∙ e) (each-stands d s ks)
   where
     go : (b : Bad) → orBad b (firstBad (fieldsBy (λ q a. fieldsAt d q s a) s ks)) ≡ Nowhere → (firstBad (fieldsBy (λ q a. fieldsAt d q s a) s ks) ≡ Nowhere → allKept (standsIn d s) ks ≡ true) → (isNowhere b && allKept (standsIn d s) ks) ≡ true
-    go (Place p) e ih = let z : _≡_ {A = ℕ} 0 1 = cc in absurd (omega arith)
+    go (Place p c) e ih = let z : _≡_ {A = ℕ} 0 1 = cc in absurd (omega arith)
     go Nowhere e ih = ih e
 
 nowhere : (b : Bad) → isNowhere b ≡ true → b ≡ Nowhere
-nowhere (Place p) e = let z : _≡_ {A = ℕ} 0 1 = cc in absurd (omega arith)
+nowhere (Place p c) e = let z : _≡_ {A = ℕ} 0 1 = cc in absurd (omega arith)
 nowhere Nowhere e = refl
 
 -- a field's own
 text-stands : (d : ℕ) (s : List ℕ) (k : Kept) (f : Form) → k .holds ≡ Text f → standsIn d s k ≡ true → fieldStands f (textOf s k) ≡ Stands
 unfolding firstBad
-text-stands d s k f h e = go (fieldStands f (textOf s k)) (rw h at e)
+text-stands d s k f h e = go (causeOf f (textOf s k)) (fieldStands f (textOf s k)) (rw h at e)
   where
-    go : (j : Judged) → isNowhere (badOr (k .child .lt) Nowhere j) ≡ true → j ≡ Stands
-    go Stands e = refl
-    go Breaks e = let z : _≡_ {A = ℕ} 0 1 = cc in absurd (omega arith)
+    go : (c : Cause) (j : Judged) → isNowhere (badOr (k .child .lt) c Nowhere j) ≡ true → j ≡ Stands
+    go c Stands e = refl
+    go c Breaks e = let z : _≡_ {A = ℕ} 0 1 = cc in absurd (omega arith)
 
 -- ROWS IN ORDER whose fields stand
 record Well (rs : List Range) (d : ℕ) (p : Parent) (s : List ℕ) (n i : ℕ) : Type 0 where

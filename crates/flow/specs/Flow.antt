@@ -21,9 +21,9 @@ use Rattle.orders.specs.Orders.{Header, headerIn, ordersIn}
 use Rattle.flow.specs.declared.Verdict.{Verdict}
 use Rattle.flow.specs.declared.Verdict.the-variants.{MarkupBreaks, StructureBreaks, FieldBreaks, Stands}
 
--- "a field breaks; place is the byte of < of the first such element"; where none does, the root's content begins at `at`
+-- "a field breaks; place is the byte of < of the first such element", with the cause of that field; where none does, the root's content begins at `at`
 abbrev pub byFields : ℕ → Bad → Verdict
-byFields at (Place p) = FieldBreaks p
+byFields at (Place p c) = FieldBreaks p c
 byFields at Nowhere = Stands at
 
 -- the root is flusso_ordinativi and has the structure of its table

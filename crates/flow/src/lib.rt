@@ -1,5 +1,6 @@
 // A whole flow: markup, then structure, then fields, each over all of it.
 use children::Step;
+use fields::Cause;
 use rows::Parent;
 use scan::Walk;
 use standing::Standing;
@@ -10,11 +11,11 @@ ghost use Rattle.markup.specs.Noted.{Noted};
 ghost use Rattle.children.specs.Child.{childAt};
 ghost use Rattle.flow.specs.Flow.{byRoot, verdictOf};
 
-// What a flow's reading comes to: what breaks, with its place, or where the root's content begins.
+// What a flow's reading comes to: what breaks, with its place and a field's cause, or where the root's content begins.
 pub enum Verdict {
     MarkupBreaks(usize),
     StructureBreaks,
-    FieldBreaks(usize),
+    FieldBreaks(usize, Cause),
     Stands(usize),
 }
 
@@ -34,7 +35,7 @@ fn verdict_at(s: &[u8], root: usize, past: &[u32]) -> Verdict
     let at = e + 1;
     match standing::judge(s, at, Parent::FlussoOrdinativi, 4, past) {
         Standing::StructureBreaks => Verdict::StructureBreaks,
-        Standing::FieldBreaks(p) => Verdict::FieldBreaks(p),
+        Standing::FieldBreaks(p, x) => Verdict::FieldBreaks(p, x),
         Standing::Stands => Verdict::Stands(at),
     }
 }

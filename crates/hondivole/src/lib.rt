@@ -26,14 +26,17 @@ pub extern "C" fn hondivole_flow(
     place: &mut u64,
     orders: &mut u64,
     accepted: &mut u64,
+    cause: &mut u64,
 ) -> u64
     ensures { λ r. ⌜ FlowReplies (now (table .entry)) (now (flow .entry)) (now (outcomes .entry))
-        (record { code = r; place = now (place .exit); orders = now (orders .exit); accepted = now (accepted .exit) }) (now (table .exit)) (now (outcomes .exit)) ⌝ }
+        (record { code = r; place = now (place .exit); orders = now (orders .exit); accepted = now (accepted .exit); cause = now (cause .exit) })
+        (now (table .exit)) (now (outcomes .exit)) ⌝ }
 {
     let a = desk::reply_of(desk::take_flow(table, flow, outcomes));
     *place = a.place;
     *orders = a.orders;
     *accepted = a.accepted;
+    *cause = a.cause;
     a.code
 }
 

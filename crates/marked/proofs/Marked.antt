@@ -9,7 +9,7 @@ use Rattle.calendar.specs.Calendar.{leap, monthLength, isDate}
 use Rattle.ranges.specs.Ranges.{zeros, isIdentifying}
 use Rattle.codes.specs.Codes.{codiceAbi, identificativo, codiceEnte, tipoOperazione}
 use Rattle.digits.specs.Digits.{digitsAfter, digits, esercizio, numero, zeroInFront, importo, progressivo}
-use Rattle.dates.specs.Dates.{dataOf, clock, dataOra}
+use Rattle.dates.specs.Dates.{dataOf, clock, signs, dataOraWritten, dataOraWithin, dataOra}
 use Rattle.names.specs.Names.{replacedAfter, charactersAfter, anagrafica}
 use Rattle.fields.specs.Fields.{fieldStands}
 use Rattle.tokens.specs.Tokens.{repeat, until, nameAt, pieceAt, textAt, endTagAt, optionalAt}
@@ -41,5 +41,5 @@ use Rattle.desk.specs.Desk.{flowReads}
 use Rattle.marked.specs.Marked.{allHold, marked}
 
 pub all-hold : allHold marked ≡ true
-unfolding isLetter isDigit isAlnum isNameByte isWhite allBytes run runEnd startsWith hasAt textIs isChar sized isTail charSize pastOr charAt be2 be4 be8 put leap monthLength isDate zeros isIdentifying codiceAbi identificativo codiceEnte tipoOperazione digitsAfter digits esercizio numero zeroInFront importo progressivo dataOf clock dataOra whichAt replacedAfter charactersAfter anagrafica fieldStands repeat until nameAt pieceAt textAt endTagAt optionalAt elementBy childBy childrenBy contentBy elementAt contentAt rootAt markupOf childAt childrenChildrenBy childrenFrom keep keptFrom nameIs allKept rowsOf inOrder textOnly fitBy fitsAt fieldsBy fieldsAt firstBad inRow ordersTextIn inside lineOf linesOf eight linesIn orderOf ordersOf verdictOf recordAt restZero flat8 recordBytes keyIs lineThere lineAbsent lineOk allFrom sum rangesOk recordOk usedAt slotsAt findIn distinct slotOk slotsOk bodyOk codeAt slotsOf placeOf formOk codesFrom findCode distinctCodes headOk entryOk layoutOk bodiesOk tableOk asked slotsAsked needed headAsked entryBytes entriesBytes opened numberedFrom sumOf lineCode amountsOf anyExecuted situationIn situationOf placed stepped judgeOrder written lineMoves noticeIn noticeAt judgeNotice orderComes orderStored outcomeBytes allLeave allOutcomes noticeComes addressed noticeBy targetCode served closing closesOn weekend fixedClosing marchDay easter sundayAfter fullMoon paschal weekday numberOf monthOf startOf lengthAt flowReads
+unfolding isLetter isDigit isAlnum isNameByte isWhite allBytes run runEnd startsWith hasAt textIs isChar sized isTail charSize pastOr charAt be2 be4 be8 put leap monthLength isDate zeros isIdentifying codiceAbi identificativo codiceEnte tipoOperazione digitsAfter digits esercizio numero zeroInFront importo progressivo dataOf clock signs dataOraWritten dataOraWithin dataOra whichAt replacedAfter charactersAfter anagrafica fieldStands repeat until nameAt pieceAt textAt endTagAt optionalAt elementBy childBy childrenBy contentBy elementAt contentAt rootAt markupOf childAt childrenChildrenBy childrenFrom keep keptFrom nameIs allKept rowsOf inOrder textOnly fitBy fitsAt fieldsBy fieldsAt firstBad inRow ordersTextIn inside lineOf linesOf eight linesIn orderOf ordersOf verdictOf recordAt restZero flat8 recordBytes keyIs lineThere lineAbsent lineOk allFrom sum rangesOk recordOk usedAt slotsAt findIn distinct slotOk slotsOk bodyOk codeAt slotsOf placeOf formOk codesFrom findCode distinctCodes headOk entryOk layoutOk bodiesOk tableOk asked slotsAsked needed headAsked entryBytes entriesBytes opened numberedFrom sumOf lineCode amountsOf anyExecuted situationIn situationOf placed stepped judgeOrder written lineMoves noticeIn noticeAt judgeNotice orderComes orderStored outcomeBytes allLeave allOutcomes noticeComes addressed noticeBy targetCode served closing closesOn weekend fixedClosing marchDay easter sundayAfter fullMoon paschal weekday numberOf monthOf startOf lengthAt flowReads
 all-hold = refl

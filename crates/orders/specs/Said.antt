@@ -19,7 +19,7 @@ numberSaid (Operation o) = 0
 
 abbrev pub numberOf : FieldRead → ℕ
 numberOf (Said v i) = numberSaid v
-numberOf (Broken p) = 0
+numberOf (Broken p x) = 0
 
 abbrev pub daySaid : Value → Date
 daySaid Text = noDate
@@ -29,7 +29,7 @@ daySaid (Operation o) = noDate
 
 abbrev pub dayOf : FieldRead → Date
 dayOf (Said v i) = daySaid v
-dayOf (Broken p) = noDate
+dayOf (Broken p x) = noDate
 
 abbrev pub operationSaid : Value → Operazione
 operationSaid Text = Sostituzione
@@ -39,4 +39,4 @@ operationSaid (Operation o) = o
 
 abbrev pub saidOperation : FieldRead → Operazione
 saidOperation (Said v i) = operationSaid v
-saidOperation (Broken p) = Sostituzione
+saidOperation (Broken p x) = Sostituzione

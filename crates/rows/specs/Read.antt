@@ -12,8 +12,9 @@ use Rattle.rows.specs.declared.FieldRead.the-variants.{Said, Broken}
 
 abbrev pub readAt : Child → Reading → FieldRead
 readAt c (Holds v) = Said v (c .after)
-readAt c Breaks = Broken (c .lt)
+readAt c (Breaks x) = Broken (c .lt) x
 
--- the text of an element, read by a form: its value and the place after it, or the place of its <
+-- the text of an element, read by a form: its value and the place after it, or the place of its < and what is wrong with it ("Every field reading
+-- tells one", document 02, Req 03)
 unfoldable pub fieldRead : List ℕ → Form → Child → FieldRead
 fieldRead s f c = readAt c (readingOf f (part s (c .gt + 1) (c .to)))

@@ -1,6 +1,7 @@
 // The rows of document 01's structure table: which of an element's children its parent names.
 use children::Child;
 use children::Step;
+use fields::Cause;
 use fields::Form;
 use fields::Reading;
 use fields::Value;
@@ -47,10 +48,10 @@ pub enum Next {
     Done,
 }
 
-// A field of the flow, read by its form: its value and the place after it, or the place of the `<` of one that breaks.
+// A field of the flow, read by its form: its value and the place after it, or the place of the `<` of one that breaks, and its cause.
 pub enum FieldRead {
     Said(Value, usize),
-    Broken(usize),
+    Broken(usize, Cause),
 }
 
 // Whether the name from a up to e is x.
@@ -240,6 +241,6 @@ pub fn read_field(s: &[u8], c: Child, f: Form) -> FieldRead
     let to = c.to;
     match fields::field_of(f, &s[from..to]) {
         Reading::Holds(v) => FieldRead::Said(v, c.after),
-        Reading::Breaks => FieldRead::Broken(c.lt),
+        Reading::Breaks(x) => FieldRead::Broken(c.lt, x),
     }
 }

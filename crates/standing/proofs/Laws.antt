@@ -8,9 +8,9 @@ use lib.ListN.{length}
 use Rattle.scan.specs.Bytes.{part}
 use Rattle.tokens.specs.Tokens.{whiteAt}
 use Rattle.fields.specs.declared.Form.{Form}
-use Rattle.fields.specs.declared.Reading.{Reading}
-use Rattle.fields.specs.declared.Reading.the-variants.{Holds, Breaks}
-use Rattle.fields.specs.Fields.{readingOf, standsBy, fieldStands}
+use Rattle.fields.specs.declared.Cause.{Cause}
+use Rattle.fields.specs.Causes.{causeOf}
+use Rattle.fields.specs.Fields.{Valued, some, none, fieldValue, told, standsBy, fieldStands}
 use Rattle.rows.specs.declared.FieldRead.{FieldRead}
 use Rattle.rows.specs.declared.FieldRead.the-variants.{Said, Broken}
 use Rattle.rows.specs.Read.{readAt, fieldRead}
@@ -37,43 +37,43 @@ use Rattle.standing.proofs.Readings.{orBad, bad-append, below, fields-l
 -- ONE PART AFTER THE OTHER
 pub after-breaks : (x : Standing) → StructureBreaks ≡ after x StructureBreaks
 after-breaks StructureBreaks = refl
-after-breaks (FieldBreaks p) = refl
+after-breaks (FieldBreaks p a) = refl
 after-breaks Stands = refl
 
 pub after-stands : (x : Standing) → x ≡ after x Stands
 after-stands StructureBreaks = refl
-after-stands (FieldBreaks p) = refl
+after-stands (FieldBreaks p a) = refl
 after-stands Stands = refl
 
 after-after : (x y z : Standing) → after (after x y) z ≡ after x (after y z)
 after-after StructureBreaks y z = refl
-after-after (FieldBreaks p) StructureBreaks z = refl
-after-after (FieldBreaks p) (FieldBreaks q) StructureBreaks = refl
-after-after (FieldBreaks p) (FieldBreaks q) (FieldBreaks r) = refl
-after-after (FieldBreaks p) (FieldBreaks q) Stands = refl
-after-after (FieldBreaks p) Stands z = refl
+after-after (FieldBreaks p a) StructureBreaks z = refl
+after-after (FieldBreaks p a) (FieldBreaks q b) StructureBreaks = refl
+after-after (FieldBreaks p a) (FieldBreaks q b) (FieldBreaks r c) = refl
+after-after (FieldBreaks p a) (FieldBreaks q b) Stands = refl
+after-after (FieldBreaks p a) Stands z = refl
 after-after Stands y z = refl
 
 pub not-structured : (x y : Standing) → structured x ≡ false → StructureBreaks ≡ after x y
 not-structured StructureBreaks y e = refl
-not-structured (FieldBreaks p) y e = let z : _≡_ {A = ℕ} 0 1 = cc in absurd (omega arith)
+not-structured (FieldBreaks p a) y e = let z : _≡_ {A = ℕ} 0 1 = cc in absurd (omega arith)
 not-structured Stands y e = let z : _≡_ {A = ℕ} 0 1 = cc in absurd (omega arith)
 
-pub after-field : (x y : Standing) (p : ℕ) → x ≡ FieldBreaks p → structured y ≡ true → FieldBreaks p ≡ after x y
-after-field x y p e f = rw (e, f)
+pub after-field : (x y : Standing) (p : ℕ) (a : Cause) → x ≡ FieldBreaks p a → structured y ≡ true → FieldBreaks p a ≡ after x y
+after-field x y p a e f = rw (e, f)
 
 both-parts : (a b : Bool) (x y : Bad) → standingBy (a && b) (orBad x y) ≡ after (standingBy a x) (standingBy b y)
-both-parts true true (Place p) (Place q) = refl
-both-parts true true (Place p) Nowhere = refl
+both-parts true true (Place p c) (Place q d) = refl
+both-parts true true (Place p c) Nowhere = refl
 both-parts true true Nowhere y = refl
-both-parts true false (Place p) y = refl
+both-parts true false (Place p c) y = refl
 both-parts true false Nowhere y = refl
 both-parts false b x y = refl
 
 -- ONE FIELD, as its reading says
 abbrev pub readStanding : FieldRead → Standing
 readStanding (Said v i) = Stands
-readStanding (Broken p) = FieldBreaks p
+readStanding (Broken p a) = FieldBreaks p a
 
 module _ (s : List ℕ) (f : Form) (c : Child) where
   pub field-other : textOnly s (c .gt + 1) ≡ false → StructureBreaks ≡ fieldStanding s f c
@@ -82,11 +82,11 @@ module _ (s : List ℕ) (f : Form) (c : Child) where
 
   pub field-judged : (r : FieldRead) → textOnly s (c .gt + 1) ≡ true → fieldRead s f c ≡ r → readStanding r ≡ fieldStanding s f c
   unfolding fieldStanding fieldRead fieldStands
-  field-judged r e g = rw (e, ← g) (go (readingOf f (part s (c .gt + 1) (c .to))))
+  field-judged r e g = rw (e, ← g) (go (fieldValue f (part s (c .gt + 1) (c .to))))
     where
-      go : (w : Reading) → readStanding (readAt c w) ≡ byFields (badOr (c .lt) Nowhere (standsBy w))
-      go (Holds v) = refl
-      go Breaks = refl
+      go : (w : Valued) → readStanding (readAt c (told (causeOf f (part s (c .gt + 1) (c .to))) w)) ≡ byFields (badOr (c .lt) (causeOf f (part s (c .gt + 1) (c .to))) Nowhere (standsBy w))
+      go (some v) = refl
+      go none = refl
 
 -- what a named child holds
 abbrev pub heldStanding : ℕ → List ℕ → Child → held.Holds → Standing

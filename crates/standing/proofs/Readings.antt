@@ -4,8 +4,10 @@ use mathlib.Core.List.{List, [], _∷_, _++_}
 use Prim.Native.Nat.{ℕ, zero, suc, _-_}
 use native.Mathlib.Omega.{arith}
 use Rattle.tokens.specs.Tokens.{whiteAt}
+use Rattle.fields.specs.declared.Cause.{Cause}
 use Rattle.fields.specs.declared.Judged.{Judged}
 use Rattle.fields.specs.declared.Judged.the-variants.{Stands, Breaks}
+use Rattle.fields.specs.Causes.{causeOf}
 use Rattle.fields.specs.Fields.{fieldStands}
 use Rattle.rows.specs.declared.Parent.{Parent}
 use Rattle.rows.specs.Kept.{keptFrom}
@@ -13,17 +15,17 @@ use Rattle.standing.specs.Readings.{Field, Bad, Place, Nowhere, fieldsBy
 
 -- the first place, else the second
 abbrev pub orBad : Bad → Bad → Bad
-orBad (Place p) b = Place p
+orBad (Place p c) b = Place p c
 orBad Nowhere b = b
 
 pub bad-append : (xs ys : List Field) → firstBad (xs ++ ys) ≡ orBad (firstBad xs) (firstBad ys)
 unfolding firstBad
 bad-append [] ys = refl
-bad-append (f ∷ xs) ys = go (fieldStands (f .form) (f .text)) (bad-append xs ys)
+bad-append (f ∷ xs) ys = go (causeOf (f .form) (f .text)) (fieldStands (f .form) (f .text)) (bad-append xs ys)
   where
-    go : (j : Judged) → firstBad (xs ++ ys) ≡ orBad (firstBad xs) (firstBad ys) → badOr (f .lt) (firstBad (xs ++ ys)) j ≡ orBad (badOr (f .lt) (firstBad xs) j) (firstBad ys)
-    go Stands e = e
-    go Breaks e = refl
+    go : (c : Cause) (j : Judged) → firstBad (xs ++ ys) ≡ orBad (firstBad xs) (firstBad ys) → badOr (f .lt) c (firstBad (xs ++ ys)) j ≡ orBad (badOr (f .lt) c (firstBad xs) j) (firstBad ys)
+    go c Stands e = e
+    go c Breaks e = refl
 
 -- the level below
 abbrev pub below : ℕ → List ℕ → Parent → ℕ → List Field

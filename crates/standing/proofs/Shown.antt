@@ -11,9 +11,11 @@ use Rattle.children.specs.declared.Step.{Step}
 use Rattle.children.specs.declared.Step.the-variants.{One, End}
 use Rattle.children.specs.Child.{childAt, thenFrom, childrenBy, childrenFrom, fieldAt, ownText}
 use Rattle.children.proofs.Laws.{child-lies, field-one}
+use Rattle.fields.specs.declared.Cause.{Cause}
 use Rattle.fields.specs.declared.Form.{Form}
 use Rattle.fields.specs.declared.Judged.{Judged}
 use Rattle.fields.specs.declared.Judged.the-variants.{Stands, Breaks}
+use Rattle.fields.specs.Causes.{causeOf}
 use Rattle.fields.specs.Fields.{fieldStands}
 use Rattle.rows.specs.declared.Parent.{Parent}
 use Rattle.rows.specs.declared.Holds.{Holds}
@@ -27,7 +29,7 @@ use Rattle.standing.specs.Readings.{Field, Bad, Place, Nowhere, textOf, 
 use Rattle.standing.specs.Shown.{Shown}
 use Rattle.standing.proofs.Readings.{orBad, bad-append}
 
-none : {q : ℕ} {A : Type 0} → Nowhere ≡ Place q → A
+none : {q : ℕ} {x : Cause} {A : Type 0} → Nowhere ≡ Place q x → A
 none e = let z : _≡_ {A = ℕ} 0 1 = cc in absurd (omega arith)
 
 -- ONE FIELD
@@ -38,11 +40,12 @@ module _ (s : List ℕ) (c : Child) (e : childAt s (c .lt) ≡ One c) where
   text-there : ownText s (c .lt) ≡ part s (c .gt + 1) (c .to)
   text-there = let l = child-lies s (c .lt) c e .1 in let z : c .gt + 1 + (c .to - (c .gt + 1)) ≡ c .to = omega arith in rw (← field-one s (c .lt) c e, z)
 
-  shown-one : (p : Parent) (row : ℕ) (f : Form) → spotIn (table p) 0 s (c .lt + 1) (c .gt) ≡ At row (Text f) → fieldStands f (part s (c .gt + 1) (c .to)) ≡ Breaks → Shown s (c .lt)
+  shown-one : (p : Parent) (row : ℕ) (f : Form) → spotIn (table p) 0 s (c .lt + 1) (c .gt) ≡ At row (Text f) → fieldStands f (part s (c .gt + 1) (c .to)) ≡ Breaks
+      → Shown s (c .lt) (causeOf f (part s (c .gt + 1) (c .to)))
   shown-one p row f n b =
       let l = child-lies s (c .lt) c e .1 in
       let z : c .lt + 1 + (c .gt - (c .lt + 1)) ≡ c .gt = omega arith in
-      record { parent = p; row = row; form = f; named = rw (name-there .0, name-there .1, z) n; breaks = rw text-there b }
+      record { parent = p; row = row; form = f; named = rw (name-there .0, name-there .1, z) n; breaks = rw text-there b; told = rw text-there }
 
 -- EACH NAMED CHILD stands at its place, and its row and what it holds are its name's
 abbrev EachChild : List ℕ → List Child → Type 0
@@ -79,33 +82,33 @@ unfolding keptFrom childrenFrom
 kept-each p s i = keep-each p s (childrenFrom s i) (children-each (suc (length s)) s i)
 
 -- THE FIRST FIELD THAT BREAKS
-field-shown : (p : Parent) (s : List ℕ) (k : Kept) (f : Form) (q : ℕ) → IsKept p s k → k .holds ≡ Text f → badOr (k .child .lt) Nowhere (fieldStands f (textOf s k)) ≡ Place q → Shown s q
-field-shown p s k f q w h e = go (fieldStands f (textOf s k)) refl e
+field-shown : (p : Parent) (s : List ℕ) (k : Kept) (f : Form) (q : ℕ) (x : Cause) → IsKept p s k → k .holds ≡ Text f → badOr (k .child .lt) (causeOf f (textOf s k)) Nowhere (fieldStands f (textOf s k)) ≡ Place q x → Shown s q x
+field-shown p s k f q x w h e = go (fieldStands f (textOf s k)) refl e
   where
-    go : (j : Judged) → fieldStands f (textOf s k) ≡ j → badOr (k .child .lt) Nowhere j ≡ Place q → Shown s q
+    go : (j : Judged) → fieldStands f (textOf s k) ≡ j → badOr (k .child .lt) (causeOf f (textOf s k)) Nowhere j ≡ Place q x → Shown s q x
     go Stands b e = none e
-    go Breaks b e = let z : k .child .lt ≡ q = cc in rw (← z) (shown-one s (k .child) (w .0) p (k .row) f (rw h at (w .1)) b)
+    go Breaks b e = let z : k .child .lt ≡ q = cc in let y : causeOf f (textOf s k) ≡ x = cc in rw (← z, ← y) (shown-one s (k .child) (w .0) p (k .row) f (rw h at (w .1)) b)
 
 -- of the named children of one level, where `below` says it of those they hold
-level-shown : (d : ℕ) (p : Parent) (s : List ℕ) (q : ℕ) → ((r : Parent) (a : ℕ) → firstBad (fieldsAt d r s a) ≡ Place q → Shown s q)
-    → (ks : List Kept) → EachKept p s ks → firstBad (fieldsBy (λ r a. fieldsAt d r s a) s ks) ≡ Place q → Shown s q
+level-shown : (d : ℕ) (p : Parent) (s : List ℕ) (q : ℕ) (x : Cause) → ((r : Parent) (a : ℕ) → firstBad (fieldsAt d r s a) ≡ Place q x → Shown s q x)
+    → (ks : List Kept) → EachKept p s ks → firstBad (fieldsBy (λ r a. fieldsAt d r s a) s ks) ≡ Place q x → Shown s q x
 unfolding fieldsBy firstBad
-level-shown d p s q below [] w e = none e
-level-shown d p s q below (k ∷ ks) w e =
+level-shown d p s q x below [] w e = none e
+level-shown d p s q x below (k ∷ ks) w e =
     or (firstBad (fieldsIn (λ r a. fieldsAt d r s a) s k (k .holds))) refl
     (sym (bad-append (fieldsIn (λ r a. fieldsAt d r s a) s k (k .holds)) (fieldsBy (λ r a. fieldsAt d r s a) s ks)) ∙ e)
-    (level-shown d p s q below ks (w .1))
+    (level-shown d p s q x below ks (w .1))
   where
-    held : (h : Holds) → k .holds ≡ h → firstBad (fieldsIn (λ r a. fieldsAt d r s a) s k h) ≡ Place q → Shown s q
-    held (Text f) h e = field-shown p s k f q (w .0) h e
+    held : (h : Holds) → k .holds ≡ h → firstBad (fieldsIn (λ r a. fieldsAt d r s a) s k h) ≡ Place q x → Shown s q x
+    held (Text f) h e = field-shown p s k f q x (w .0) h e
     held (Rows r) h e = below r (k .child .gt + 1) e
 
-    or : (b : Bad) → firstBad (fieldsIn (λ r a. fieldsAt d r s a) s k (k .holds)) ≡ b → orBad b (firstBad (fieldsBy (λ r a. fieldsAt d r s a) s ks)) ≡ Place q
-        → (firstBad (fieldsBy (λ r a. fieldsAt d r s a) s ks) ≡ Place q → Shown s q) → Shown s q
-    or (Place x) h e more = let z : x ≡ q = cc in held (k .holds) refl (rw z at h)
+    or : (b : Bad) → firstBad (fieldsIn (λ r a. fieldsAt d r s a) s k (k .holds)) ≡ b → orBad b (firstBad (fieldsBy (λ r a. fieldsAt d r s a) s ks)) ≡ Place q x
+        → (firstBad (fieldsBy (λ r a. fieldsAt d r s a) s ks) ≡ Place q x → Shown s q x) → Shown s q x
+    or (Place r c) h e more = held (k .holds) refl (h ∙ e)
     or Nowhere h e more = more e
 
-pub bad-shown : (d : ℕ) (p : Parent) (s : List ℕ) (at q : ℕ) → firstBad (fieldsAt d p s at) ≡ Place q → Shown s q
+pub bad-shown : (d : ℕ) (p : Parent) (s : List ℕ) (at q : ℕ) (x : Cause) → firstBad (fieldsAt d p s at) ≡ Place q x → Shown s q x
 unfolding fieldsAt firstBad
-bad-shown zero p s at q e = none e
-bad-shown (suc d) p s at q e = level-shown d p s q (λ r a. bad-shown d r s a q) (keptFrom p s (whiteAt s at)) (kept-each p s (whiteAt s at)) e
+bad-shown zero p s at q x e = none e
+bad-shown (suc d) p s at q x e = level-shown d p s q x (λ r a. bad-shown d r s a q x) (keptFrom p s (whiteAt s at)) (kept-each p s (whiteAt s at)) e

@@ -3,9 +3,11 @@ use Prim.Native.Nat.{ℕ, zero, suc, _+_}
 use mathlib.Core.List.{List, [], _∷_, _++_}
 use Rattle.scan.specs.Bytes.{part}
 use Rattle.tokens.specs.Tokens.{whiteAt}
+use Rattle.fields.specs.declared.Cause.{Cause}
 use Rattle.fields.specs.declared.Form.{Form}
 use Rattle.fields.specs.declared.Judged.{Judged}
 use Rattle.fields.specs.declared.Judged.the-variants.{Stands, Breaks}
+use Rattle.fields.specs.Causes.{causeOf}
 use Rattle.fields.specs.Fields.{fieldStands}
 use Rattle.rows.specs.declared.Parent.{Parent}
 use Rattle.rows.specs.declared.Holds.{Holds}
@@ -37,16 +39,16 @@ unfoldable pub fieldsAt : ℕ → Parent → List ℕ → ℕ → List Field
 fieldsAt zero p s at = []
 fieldsAt (suc d) p s at = fieldsBy (λ q a. fieldsAt d q s a) s (keptFrom p s (whiteAt s at))
 
--- the `<` of a field that breaks, or none does
+-- the `<` of a field that breaks and its cause, or none does
 pub data Bad : Type 0 where
-  Place : ℕ → Bad
+  Place : ℕ → Cause → Bad
   Nowhere : Bad
 
-abbrev pub badOr : ℕ → Bad → Judged → Bad
-badOr lt rest Stands = rest
-badOr lt rest Breaks = Place lt
+abbrev pub badOr : ℕ → Cause → Bad → Judged → Bad
+badOr lt cause rest Stands = rest
+badOr lt cause rest Breaks = Place lt cause
 
--- the place of the first field that hasn't its form
+-- the place of the first field that hasn't its form, and what is wrong with that field
 unfoldable pub firstBad : List Field → Bad
 firstBad [] = Nowhere
-firstBad (f ∷ fs) = badOr (f .lt) (firstBad fs) (fieldStands (f .form) (f .text))
+firstBad (f ∷ fs) = badOr (f .lt) (causeOf (f .form) (f .text)) (firstBad fs) (fieldStands (f .form) (f .text))

@@ -5,6 +5,7 @@ use mathlib.Core.Bool.{Bool, true, false, cond}
 use Rattle.scan.specs.Bytes.{part}
 use Rattle.children.specs.declared.Child.{Child}
 use Rattle.fields.specs.declared.Form.{Form}
+use Rattle.fields.specs.Causes.{causeOf}
 use Rattle.fields.specs.Fields.{fieldStands}
 use Rattle.rows.specs.declared.Parent.{Parent}
 use Rattle.structure.specs.Structure.{textOnly, fitsAt}
@@ -14,7 +15,7 @@ use Rattle.standing.specs.Readings.{Bad, Place, Nowhere, badOr, fieldsAt
 
 -- "Checked in that order": a structure that breaks is said before any field
 abbrev pub byFields : Bad → Standing
-byFields (Place p) = FieldBreaks p
+byFields (Place p c) = FieldBreaks p c
 byFields Nowhere = Stands
 
 abbrev pub standingBy : Bool → Bad → Standing
@@ -28,15 +29,17 @@ standingAt d p s at = standingBy (fitsAt d p s at) (firstBad (fieldsAt d p s at)
 
 -- a field by itself: it holds text only, and has its form
 unfoldable pub fieldStanding : List ℕ → Form → Child → Standing
-fieldStanding s f c = standingBy (textOnly s (c .gt + 1)) (badOr (c .lt) Nowhere (fieldStands f (part s (c .gt + 1) (c .to))))
+fieldStanding s f c =
+    let t = part s (c .gt + 1) (c .to) in
+    standingBy (textOnly s (c .gt + 1)) (badOr (c .lt) (causeOf f t) Nowhere (fieldStands f t))
 
 abbrev pub structured : Standing → Bool
 structured StructureBreaks = false
-structured (FieldBreaks p) = true
+structured (FieldBreaks p c) = true
 structured Stands = true
 
 -- one part after the other: the structure of either is said first, then the first field
 abbrev pub after : Standing → Standing → Standing
 after StructureBreaks y = StructureBreaks
-after (FieldBreaks p) y = cond (structured y) (FieldBreaks p) StructureBreaks
+after (FieldBreaks p c) y = cond (structured y) (FieldBreaks p c) StructureBreaks
 after Stands y = y

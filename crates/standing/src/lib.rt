@@ -1,5 +1,6 @@
 // What a flow's content comes to, in one walk: its structure breaks, or a field does, or it stands.
 use children::Child;
+use fields::Cause;
 use fields::Form;
 use rows::FieldRead;
 use rows::Holds;
@@ -11,10 +12,10 @@ ghost use lib.ListN.{length};
 ghost use Rattle.markup.specs.Noted.{Noted};
 ghost use Rattle.standing.specs.Standing.{fieldStanding, standingAt, after, structured};
 
-// What content comes to; a field that breaks is named by its `<`.
+// What content comes to; a field that breaks is named by its `<`, with its cause.
 pub enum Standing {
     StructureBreaks,
-    FieldBreaks(usize),
+    FieldBreaks(usize, Cause),
     Stands,
 }
 
@@ -24,7 +25,7 @@ fn has_structure(w: Standing) -> bool
 {
     match w {
         Standing::StructureBreaks => false,
-        Standing::FieldBreaks(_) => true,
+        Standing::FieldBreaks(_, _) => true,
         Standing::Stands => true,
     }
 }
@@ -35,9 +36,9 @@ fn then(first: Standing, next: Standing) -> Standing
 {
     match first {
         Standing::StructureBreaks => Standing::StructureBreaks,
-        Standing::FieldBreaks(p) => {
+        Standing::FieldBreaks(p, x) => {
             if has_structure(next) {
-                Standing::FieldBreaks(p)
+                Standing::FieldBreaks(p, x)
             } else {
                 Standing::StructureBreaks
             }
@@ -56,7 +57,7 @@ fn field_standing(s: &[u8], c: Child, f: Form, past: &[u32]) -> Standing
     }
     match rows::read_field(s, c, f) {
         FieldRead::Said(_, _) => Standing::Stands,
-        FieldRead::Broken(p) => Standing::FieldBreaks(p),
+        FieldRead::Broken(p, x) => Standing::FieldBreaks(p, x),
     }
 }
 

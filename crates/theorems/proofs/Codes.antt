@@ -11,6 +11,7 @@ use Rattle.ranges.specs.declared.Found.{Found}
 use Rattle.ranges.specs.declared.Found.the-variants.{At, Nothing}
 use Rattle.codes.specs.declared.Operation.{Operation}
 use Rattle.codes.specs.declared.Operation.the-variants.{Inserimento, Variazione, Annullo, Sostituzione}
+use Rattle.fields.specs.declared.Cause.the-variants.{Empty, Long, Misformed, OutOfRange}
 use Rattle.order.specs.declared.Line.{Line}
 use Rattle.order.specs.Ordinativo.{Ordinativo}
 use Rattle.calendar.specs.declared.Date.{Date}
@@ -43,9 +44,9 @@ use Rattle.opening.specs.declared.Opened.the-variants.{Open, WrongRequest, Wron
 use Rattle.opening.specs.Opening.{openCode}
 use Rattle.desk.specs.declared.FlowAnswer.{FlowAnswer}
 use Rattle.desk.specs.declared.FlowAnswer.the-variants.{InvalidTable, TooLong, BrokenMarkup, BrokenStructure, BrokenField, OtherBank, UnknownBody, NoRoom, Taken}
-use Rattle.desk.specs.Desk.{flowReply}
+use Rattle.desk.specs.Desk.{flowReply, flowCode}
 use Rattle.theorems.specs.Engine.{Call, flow, execute, reverse, totals, Answer, answerCode, Step}
-use Rattle.theorems.specs.Codes.{oneOf, openCodes, noticeCodes, callCodes, orderRefusals, orderCodes}
+use Rattle.theorems.specs.Codes.{oneOf, openCodes, noticeCodes, callCodes, causesWith, orderRefusals, orderCodes}
 
 -- 0, or one of these
 abbrev pub Or : List ℕ → ℕ → Type 0
@@ -238,11 +239,25 @@ flow-codes f out InvalidTable = refl
 flow-codes f out TooLong = refl
 flow-codes f out BrokenMarkup = refl
 flow-codes f out BrokenStructure = refl
-flow-codes f out (BrokenField p) = refl
+flow-codes f out (BrokenField p c) = refl
 flow-codes f out OtherBank = refl
 flow-codes f out UnknownBody = refl
 flow-codes f out NoRoom = refl
 flow-codes f out (Taken n m) = refl
+
+pub flow-causes : (a : FlowAnswer) → oneOf (causesWith (flowCode a)) (flowReply a .cause) ≡ true
+flow-causes InvalidTable = refl
+flow-causes TooLong = refl
+flow-causes BrokenMarkup = refl
+flow-causes BrokenStructure = refl
+flow-causes (BrokenField p Empty) = refl
+flow-causes (BrokenField p Long) = refl
+flow-causes (BrokenField p Misformed) = refl
+flow-causes (BrokenField p OutOfRange) = refl
+flow-causes OtherBank = refl
+flow-causes UnknownBody = refl
+flow-causes NoRoom = refl
+flow-causes (Taken n m) = refl
 
 totals-codes : (t code : List ℕ) (b : Addressed) → oneOf (callCodes (totals code)) (totalsBy t b .code) ≡ true
 unfolding bodyTotals

@@ -22,7 +22,7 @@ use Rattle.opening.specs.Opening.{openCode, openTable}
 use Rattle.desk.proofs.Refusals.{code-keeps}
 use Rattle.theorems.specs.Condition1.{Condition1}
 use Rattle.theorems.proofs.Steps.{answer, after, steps}
-use Rattle.theorems.proofs.Codes.{open-codes, call-codes}
+use Rattle.theorems.proofs.Codes.{open-codes, call-codes, flow-causes}
 use Rattle.theorems.proofs.Accepted.{outcomes-coded}
 
 stored : (t : List ℕ) (base year : ℕ) (o : Ordinativo) (j : Ruling) → (orderCode j ≡ 0 → ⊥) → orderStored t base year o j ≡ t
@@ -57,6 +57,7 @@ condition1 = record {
   opening-numbered = λ q t a t′ p. open-codes a;
   call-numbered = call-codes;
   orders-numbered = outcomes-coded;
+  cause-numbered = λ t f out a t′ out′ p. flow-causes a;
   answered = λ c t. (answer c t, after c t, steps c t);
   refused-flow = λ t f out a t′ out′ p h. code-keeps t f out h p;
   refused-order = λ t base n year o. stored t base year o (orderComes t base n year o);

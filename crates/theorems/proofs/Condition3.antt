@@ -97,7 +97,7 @@ module _ (E : Engine) (t₀ : List ℕ) (r : tableOk t₀ ≡ true) where
     by-verdict : (f : List ℕ) (v : Verdict) → namesIn now f v ≡ namesIn t₀ f v
     by-verdict f (MarkupBreaks p) = refl
     by-verdict f StructureBreaks = refl
-    by-verdict f (FieldBreaks p) = refl
+    by-verdict f (FieldBreaks p c) = refl
     by-verdict f (Stands at) = ap (λ (a : List ℕ). cond (textIs a (headerOf f at .abi)) (some (headerOf f at .ente)) none) (abi-is t₀ r now good)
 
     named : (c : Call) → names now c ≡ names t₀ c

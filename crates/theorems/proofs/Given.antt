@@ -21,7 +21,7 @@ use Rattle.address.specs.Address.{bodyAt}
 use Rattle.desk.specs.declared.FlowAnswer.{FlowAnswer}
 use Rattle.desk.specs.declared.FlowAnswer.the-variants.{InvalidTable, TooLong, OtherBank, NoRoom}
 use Rattle.desk.specs.Desk.{Reading, refused, served, forBody, forFlow, maxFlow, flowReads, flowAnswer, FlowPromise, flowReply, flowCode}
-use Rattle.theorems.specs.Given.{breaksAt, flowRefusals, firstOf}
+use Rattle.theorems.specs.Given.{breaksAt, breaksBy, flowRefusals, firstOf}
 
 -- a reading that refuses has a code other than 0
 abbrev pub Coding : Reading → Type 0
@@ -29,47 +29,49 @@ Coding (refused a) = flowCode a ≡ 0 → ⊥
 Coding (served base n year os) = Unit
 
 module _ (t f : List ℕ) (room : ℕ) where
-  -- a reading's code, and its place
-  pub record Given (c p : ℕ) (g : Reading) : Type 0 where
+  -- a reading's code, its place and its cause
+  pub record Given (c p x : ℕ) (g : Reading) : Type 0 where
     pub code : flowCode (flowAnswer t g) ≡ c
     pub place : flowReply (flowAnswer t g) .place ≡ cond (eqb (flowCode (flowAnswer t g)) 5) p 0
+    pub cause : flowReply (flowAnswer t g) .cause ≡ cond (eqb (flowCode (flowAnswer t g)) 5) x 0
     pub coding : Coding g
 
-  by-room : (base n year : ℕ) (os : List Ordinativo) (u : Bool) → Given (firstOf ((8, not u) ∷ [])) 0 (cond u (served base n year os) (refused NoRoom))
-  by-room base n year os true = record { code = refl; place = refl; coding = tt }
-  by-room base n year os false = record { code = refl; place = refl; coding = λ e. omega arith }
+  by-room : (base n year : ℕ) (os : List Ordinativo) (u : Bool) → Given (firstOf ((8, not u) ∷ [])) 0 0 (cond u (served base n year os) (refused NoRoom))
+  by-room base n year os true = record { code = refl; place = refl; cause = refl; coding = tt }
+  by-room base n year os false = record { code = refl; place = refl; cause = refl; coding = λ e. omega arith }
 
   by-body : (year : ℕ) (os : List Ordinativo) (x : Found)
-      → Given (firstOf ((7, isNothing x) ∷ (8, not (leb (16 * length os) room)) ∷ [])) 0 (forBody room year os (bodyAt t x))
-  by-body year os Nothing = record { code = refl; place = refl; coding = λ e. omega arith }
+      → Given (firstOf ((7, isNothing x) ∷ (8, not (leb (16 * length os) room)) ∷ [])) 0 0 (forBody room year os (bodyAt t x))
+  by-body year os Nothing = record { code = refl; place = refl; cause = refl; coding = λ e. omega arith }
   by-body year os (At b) = by-room (placeOf t (entryOf b)) (slotsOf t (entryOf b)) year os (leb (16 * length os) room)
 
   by-bank : (h : Header) (os : List Ordinativo) (u : Bool)
-      → Given (firstOf ((6, not u) ∷ (7, isNothing (bodyOf t (h .ente))) ∷ (8, not (leb (16 * length os) room)) ∷ [])) 0
+      → Given (firstOf ((6, not u) ∷ (7, isNothing (bodyOf t (h .ente))) ∷ (8, not (leb (16 * length os) room)) ∷ [])) 0 0
       (cond u (forBody room (h .esercizio) os (bodyAt t (bodyOf t (h .ente)))) (refused OtherBank))
   by-bank h os true = by-body (h .esercizio) os (bodyOf t (h .ente))
-  by-bank h os false = record { code = refl; place = refl; coding = λ e. omega arith }
+  by-bank h os false = record { code = refl; place = refl; cause = refl; coding = λ e. omega arith }
 
   -- on a table that is valid or not, of a flow that is short or not
   abbrev Read : Bool → Bool → Verdict → Type 0
   Read u w v = tableOk t ≡ u → leb (length f) maxFlow ≡ w
-      → Given (firstOf (flowRefusals t f room v)) (breaksAt v) (cond u (cond w (forFlow t f room v) (refused TooLong)) (refused InvalidTable))
+      → Given (firstOf (flowRefusals t f room v)) (breaksAt v) (breaksBy v) (cond u (cond w (forFlow t f room v) (refused TooLong)) (refused InvalidTable))
 
   by-verdict : (v : Verdict) → Read true true v
-  by-verdict (MarkupBreaks p) e d = rw (e, d) (record { code = refl; place = refl; coding = λ z. omega arith })
-  by-verdict StructureBreaks e d = rw (e, d) (record { code = refl; place = refl; coding = λ z. omega arith })
-  by-verdict (FieldBreaks p) e d = rw (e, d) (record { code = refl; place = refl; coding = λ z. omega arith })
+  by-verdict (MarkupBreaks p) e d = rw (e, d) (record { code = refl; place = refl; cause = refl; coding = λ z. omega arith })
+  by-verdict StructureBreaks e d = rw (e, d) (record { code = refl; place = refl; cause = refl; coding = λ z. omega arith })
+  by-verdict (FieldBreaks p c) e d = rw (e, d) (record { code = refl; place = refl; cause = refl; coding = λ z. omega arith })
   by-verdict (Stands at) e d = rw (e, d) (by-bank (headerOf f at) (flowOrders f at) (textIs (abiOf t) (headerOf f at .abi)))
 
   by-table : (u w : Bool) (v : Verdict) → Read u w v
-  by-table false w v e d = rw e (record { code = refl; place = refl; coding = λ z. omega arith })
-  by-table true false v e d = rw (e, d) (record { code = refl; place = refl; coding = λ z. omega arith })
+  by-table false w v e d = rw e (record { code = refl; place = refl; cause = refl; coding = λ z. omega arith })
+  by-table true false v e d = rw (e, d) (record { code = refl; place = refl; cause = refl; coding = λ z. omega arith })
   by-table true true v e d = by-verdict v e d
 
-  pub read : Given (firstOf (flowRefusals t f room (verdictOf f))) (breaksAt (verdictOf f)) (flowReads t f room)
+  pub read : Given (firstOf (flowRefusals t f room (verdictOf f))) (breaksAt (verdictOf f)) (breaksBy (verdictOf f)) (flowReads t f room)
   unfolding flowReads
   read = by-table (tableOk t) (leb (length f) maxFlow) (verdictOf f) refl refl
 
 pub given-when : (t f out : List ℕ) (a : FlowAnswer) (t′ out′ : List ℕ) → FlowPromise t f out a t′ out′
     → (flowCode a ≡ firstOf (flowRefusals t f (length out) (verdictOf f))) × (flowReply a .place ≡ cond (eqb (flowCode a) 5) (breaksAt (verdictOf f)) 0)
-given-when t f out a t′ out′ p = let g = read t f (length out) in rw (p .0) (g .code, g .place)
+    × (flowReply a .cause ≡ cond (eqb (flowCode a) 5) (breaksBy (verdictOf f)) 0)
+given-when t f out a t′ out′ p = let g = read t f (length out) in rw (p .0) (g .code, g .place, g .cause)

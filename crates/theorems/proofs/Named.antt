@@ -136,7 +136,7 @@ module _ (t₀ : List ℕ) (r : tableOk t₀ ≡ true) where
       by-verdict : (v : Verdict) → verdictOf f ≡ v → Reads t₀ f out (position t₀ (namesIn t₀ f v))
       by-verdict (MarkupBreaks p) e = refuses BrokenMarkup refl (verdict-reads (MarkupBreaks p) e)
       by-verdict StructureBreaks e = refuses BrokenStructure refl (verdict-reads StructureBreaks e)
-      by-verdict (FieldBreaks p) e = refuses (BrokenField p) refl (verdict-reads (FieldBreaks p) e)
+      by-verdict (FieldBreaks p c) e = refuses (BrokenField p c) refl (verdict-reads (FieldBreaks p c) e)
       by-verdict (Stands at) e = by-bank at e (textIs (abiOf t₀) (headerOf f at .abi)) refl
 
     by-length : (u : Bool) → leb (length f) maxFlow ≡ u → Reads t₀ f out (position t₀ (cond u (namesIn t₀ f (verdictOf f)) none))

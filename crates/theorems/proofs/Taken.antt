@@ -107,7 +107,7 @@ module _ (t f out : List ℕ) (a : FlowAnswer) (t′ out′ : List ℕ) (p : Flo
   unfolding flowReads
   by-verdict ok l (MarkupBreaks q) s = not-refused BrokenMarkup (λ q. omega arith) (rw (ok, l, s))
   by-verdict ok l StructureBreaks s = not-refused BrokenStructure (λ q. omega arith) (rw (ok, l, s))
-  by-verdict ok l (FieldBreaks q) s = not-refused (BrokenField q) (λ q. omega arith) (rw (ok, l, s))
+  by-verdict ok l (FieldBreaks q c) s = not-refused (BrokenField q c) (λ q. omega arith) (rw (ok, l, s))
   by-verdict ok l (Stands at) s = by-bank at ok l s (textIs (abiOf t) (headerOf f at .abi)) refl
 
   by-length : tableOk t ≡ true → (u : Bool) → leb (length f) maxFlow ≡ u → Taken t f a t′ out′

@@ -43,6 +43,11 @@ bodyCodes (totals code) = 0 ∷ []
 abbrev pub callCodes : Call → List ℕ
 callCodes c = 1 ∷ (strayCodes c ++ bodyCodes c)
 
+-- THE CAUSE that goes with a flow's code (document 02, Req 03): "1 empty, 2 longer than the longest allowed text, 3 wrong form, 4 right form but a
+-- value outside its range"; "All other answers carry cause 0"
+abbrev pub causesWith : ℕ → List ℕ
+causesWith code = cond (eqb code 5) (1 ∷ 2 ∷ 3 ∷ 4 ∷ []) (0 ∷ [])
+
 -- AN ORDER: "11 SOSTITUZIONE; 12 ..; 13 ..; then the step table ..; then 19 .. or 15 ..; else 0"
 abbrev pub orderRefusals : List ℕ
 orderRefusals = 11 ∷ 12 ∷ 13 ∷ 14 ∷ 15 ∷ 16 ∷ 17 ∷ 18 ∷ 19 ∷ []

@@ -15,7 +15,7 @@ use Rattle.notices.specs.Notices.{noticeCodeOf, NoticePromise}
 use Rattle.desk.specs.declared.FlowAnswer.{FlowAnswer}
 use Rattle.desk.specs.Desk.{FlowPromise, flowCode, flowReply}
 use Rattle.theorems.specs.Engine.{Call, Answer, Step, answerCode}
-use Rattle.theorems.specs.Codes.{oneOf, each, openCodes, callCodes, orderCodes, outcomeCodes}
+use Rattle.theorems.specs.Codes.{oneOf, each, openCodes, callCodes, causesWith, orderCodes, outcomeCodes}
 
 pub record Condition1 : Type 0 where
   -- "Every call, on arbitrary flow, table or notice, ends with one of the numbered answers in document 01."
@@ -24,6 +24,8 @@ pub record Condition1 : Type 0 where
   -- and so does every order of a flow taken
   pub orders-numbered : (t f out : List ℕ) (a : FlowAnswer) (t′ out′ : List ℕ) → FlowPromise t f out a t′ out′ → flowCode a ≡ 0
       → each (oneOf orderCodes) (outcomeCodes (flowReply a .orders) out′) ≡ true
+  -- a flow's cause is a numbered one too: 1 to 4 with code 5, and 0 with every other
+  pub cause-numbered : (t f out : List ℕ) (a : FlowAnswer) (t′ out′ : List ℕ) → FlowPromise t f out a t′ out′ → oneOf (causesWith (flowCode a)) (flowReply a .cause) ≡ true
   -- "It checks its own inputs." There is an answer for every input
   pub answered : (c : Call) (t : List ℕ) → (a : Answer) × (t′ : List ℕ) × Step c t a t′
   -- "A refused flow changes neither table nor outcome buffer;"

@@ -36,7 +36,7 @@ use Rattle.opening.specs.Opening.{openCode, OpenPromise}
 use Rattle.desk.specs.declared.FlowAnswer.{FlowAnswer}
 use Rattle.desk.specs.Desk.{FlowPromise, flowCode, flowReply}
 use Rattle.theorems.specs.Engine.{recordsOf}
-use Rattle.theorems.specs.Given.{breaksAt, flowRefusals, firstOf}
+use Rattle.theorems.specs.Given.{breaksAt, breaksBy, flowRefusals, firstOf}
 use Rattle.theorems.specs.Codes.{outcomeCodes, zeroCodes}
 
 -- the codes that the rules give a flow's orders, "each on the table the one before left", over a body's records
@@ -98,9 +98,11 @@ pub record Taken (t f : List ℕ) (a : FlowAnswer) (t′ out′ : List ℕ) : Ty
 pub record Condition2 : Type 0 where
   -- "A flow is read as the profile in document 01 says": of any bytes, by grammar, tree, schema and fields alone (crates/tree/specs/Flow)
   pub reading : (s : List ℕ) → Answered s
-  -- and each refusal of a flow is given exactly when document 01 says, with "place .. 0 but for code 5"
+  -- and each refusal of a flow is given exactly when document 01 says, with "place .. 0 but for code 5"; document 02, Req 03: "All other answers
+  -- carry cause 0"
   pub refusals : (t f out : List ℕ) (a : FlowAnswer) (t′ out′ : List ℕ) → FlowPromise t f out a t′ out′
       → (flowCode a ≡ firstOf (flowRefusals t f (length out) (verdictOf f))) × (flowReply a .place ≡ cond (eqb (flowCode a) 5) (breaksAt (verdictOf f)) 0)
+      × (flowReply a .cause ≡ cond (eqb (flowCode a) 5) (breaksBy (verdictOf f)) 0)
   -- "each order .. is answered by the step table", and accepted "exactly when no listed refusal applies": of a flow with code 0
   pub taken : (t f out : List ℕ) (a : FlowAnswer) (t′ out′ : List ℕ) → FlowPromise t f out a t′ out′ → flowCode a ≡ 0 → Taken t f a t′ out′
   -- and `accepted` is "how many of them got outcome code 0"

@@ -74,7 +74,7 @@ answerCode (ofTotals a) = a .code
 abbrev pub namesIn : List ℕ → List ℕ → Verdict → Option (List ℕ)
 namesIn t₀ f (MarkupBreaks p) = none
 namesIn t₀ f StructureBreaks = none
-namesIn t₀ f (FieldBreaks p) = none
+namesIn t₀ f (FieldBreaks p c) = none
 namesIn t₀ f (Stands at) = cond (textIs (abiOf t₀) (headerOf f at .abi)) (some (headerOf f at .ente)) none
 
 -- a notice names a body when its date is a TARGET day: by its code

@@ -6,6 +6,7 @@ use lib.ListN.{length}
 use lib.Dec.{leb}
 use Rattle.scan.specs.Bytes.{textIs}
 use Rattle.ranges.specs.Ranges.{isNothing}
+use Rattle.fields.specs.Causes.{causeNumber}
 use Rattle.table.specs.Table.{tableOk, abiOf, bodyOf}
 use Rattle.flow.specs.declared.Verdict.{Verdict}
 use Rattle.flow.specs.declared.Verdict.the-variants.{MarkupBreaks, StructureBreaks, FieldBreaks, Stands}
@@ -17,32 +18,38 @@ use Rattle.desk.specs.Desk.{maxFlow}
 abbrev pub isMarkup : Verdict → Bool
 isMarkup (MarkupBreaks p) = true
 isMarkup StructureBreaks = false
-isMarkup (FieldBreaks p) = false
+isMarkup (FieldBreaks p c) = false
 isMarkup (Stands at) = false
 
 abbrev pub isStructure : Verdict → Bool
 isStructure (MarkupBreaks p) = false
 isStructure StructureBreaks = true
-isStructure (FieldBreaks p) = false
+isStructure (FieldBreaks p c) = false
 isStructure (Stands at) = false
 
 abbrev pub isField : Verdict → Bool
 isField (MarkupBreaks p) = false
 isField StructureBreaks = false
-isField (FieldBreaks p) = true
+isField (FieldBreaks p c) = true
 isField (Stands at) = false
 
--- where a field breaks, and where the content of a flow that stands begins
+-- where a field breaks and why, and where the content of a flow that stands begins
 abbrev pub breaksAt : Verdict → ℕ
 breaksAt (MarkupBreaks p) = 0
 breaksAt StructureBreaks = 0
-breaksAt (FieldBreaks p) = p
+breaksAt (FieldBreaks p c) = p
 breaksAt (Stands at) = 0
+
+abbrev pub breaksBy : Verdict → ℕ
+breaksBy (MarkupBreaks p) = 0
+breaksBy StructureBreaks = 0
+breaksBy (FieldBreaks p c) = causeNumber c
+breaksBy (Stands at) = 0
 
 abbrev pub standsAt : Verdict → ℕ
 standsAt (MarkupBreaks p) = 0
 standsAt StructureBreaks = 0
-standsAt (FieldBreaks p) = 0
+standsAt (FieldBreaks p c) = 0
 standsAt (Stands at) = at
 
 -- of the flow f, whose verdict is v, on the table t with an outcome buffer of so many bytes

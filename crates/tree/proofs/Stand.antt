@@ -5,8 +5,10 @@ use mathlib.Core.Bool.{Bool, true, false, _&&_}
 use Prim.Native.Nat.{ℕ}
 use native.Mathlib.Omega.{arith}
 use Rattle.scan.proofs.Laws.{both}
+use Rattle.fields.specs.declared.Cause.{Cause}
 use Rattle.fields.specs.declared.Judged.{Judged}
 use Rattle.fields.specs.declared.Judged.the-variants.{Stands, Breaks}
+use Rattle.fields.specs.Causes.{causeOf}
 use Rattle.fields.specs.Fields.{fieldStands}
 use Rattle.rows.specs.declared.Parent.{Parent}
 use Rattle.standing.specs.Readings.{Field, firstBad, badOr, Place, Nowhere}
@@ -55,24 +57,25 @@ unfolding firstBad
 bad-none [] e = all-none
 bad-none (f ∷ fs) e = go (fieldStands (f .form) (f .text)) refl e (bad-none fs)
   where
-    go : (w : Judged) → fieldStands (f .form) (f .text) ≡ w → badOr (f .lt) (firstBad fs) w ≡ Nowhere → (firstBad fs ≡ Nowhere → AllStand fs) → AllStand (f ∷ fs)
+    go : (w : Judged) → fieldStands (f .form) (f .text) ≡ w → badOr (f .lt) (causeOf (f .form) (f .text)) (firstBad fs) w ≡ Nowhere → (firstBad fs ≡ Nowhere → AllStand fs) → AllStand (f ∷ fs)
     go Stands z h i = all-next z (i h)
     go Breaks z h i = let y : _≡_ {A = ℕ} 0 1 = cc in absurd (omega arith)
 
 -- the first that breaks
-pub bad-first : (fs : List Field) (p : ℕ) → firstBad fs ≡ Place p → FirstBreaks fs p
+pub bad-first : (fs : List Field) (p : ℕ) (c : Cause) → firstBad fs ≡ Place p c → FirstBreaks fs p c
 unfolding firstBad
-bad-first [] p e = let z : _≡_ {A = ℕ} 0 1 = cc in absurd (omega arith)
-bad-first (f ∷ fs) p e = go (fieldStands (f .form) (f .text)) refl e (bad-first fs p)
+bad-first [] p c e = let z : _≡_ {A = ℕ} 0 1 = cc in absurd (omega arith)
+bad-first (f ∷ fs) p c e = go (fieldStands (f .form) (f .text)) refl e (bad-first fs p c)
   where
-    go : (w : Judged) → fieldStands (f .form) (f .text) ≡ w → badOr (f .lt) (firstBad fs) w ≡ Place p → (firstBad fs ≡ Place p → FirstBreaks fs p) → FirstBreaks (f ∷ fs) p
+    go : (w : Judged) → fieldStands (f .form) (f .text) ≡ w → badOr (f .lt) (causeOf (f .form) (f .text)) (firstBad fs) w ≡ Place p c → (firstBad fs ≡ Place p c → FirstBreaks fs p c)
+        → FirstBreaks (f ∷ fs) p c
     go Stands z h i = later z (i h)
-    go Breaks z h i = let y : f .lt ≡ p = cc in here z y
+    go Breaks z h i = let y : f .lt ≡ p = cc in let x : causeOf (f .form) (f .text) ≡ c = cc in here z y x
 
-pub first-bad : (fs : List Field) (p : ℕ) → FirstBreaks fs p → firstBad fs ≡ Place p
+pub first-bad : (fs : List Field) (p : ℕ) (c : Cause) → FirstBreaks fs p c → firstBad fs ≡ Place p c
 unfolding firstBad
-first-bad fs p (here {f = f} e z) = rw (e, z)
-first-bad fs p (later {fs = gs} e b) = rw (e, first-bad gs p b)
+first-bad fs p c (here {f = f} e z y) = rw (e, z, y)
+first-bad fs p c (later {fs = gs} e b) = rw (e, first-bad gs p c b)
 
 -- of two lists
 and-assoc : (a b c : Bool) → (a && (b && c)) ≡ ((a && b) && c)

@@ -8,6 +8,7 @@ use mathlib.Core.Bool.{true}
 use lib.ListN.{length}
 use Rattle.scan.specs.Bytes.{bytes}
 use Rattle.grammar.specs.Grammar.{startTag}
+use Rattle.fields.specs.declared.Cause.{Cause}
 use Rattle.rows.specs.declared.Parent.{Parent}
 use Rattle.rows.specs.declared.Parent.the-variants.{FlussoOrdinativi}
 use Rattle.rows.specs.declared.Holds.the-variants.{Rows}
@@ -36,7 +37,7 @@ contentPlace t = placeOf t + length (startTag (nameOf t))
 -- "Checked in that order, each over the whole flow"
 pub data VerdictOn (x : String) (p : Parent) (t : Tree) : Verdict → Type 0 where
   structure-breaks : ¬ (Structured x p t) → VerdictOn x p t StructureBreaks
-  field-breaks : {q : ℕ} → Structured x p t → FirstBreaks (fieldsOf p t) q → VerdictOn x p t (FieldBreaks q)
+  field-breaks : {q : ℕ} {c : Cause} → Structured x p t → FirstBreaks (fieldsOf p t) q c → VerdictOn x p t (FieldBreaks q c)
   stands : Structured x p t → AllStand (fieldsOf p t) → VerdictOn x p t (Stands (contentPlace t))
 
 -- A FLOW is the document whose root is flusso_ordinativi

@@ -21,7 +21,7 @@ use Rattle.calendar.specs.Calendar.{leap, monthLength, isDate}
 use Rattle.ranges.specs.Ranges.{isIdentifying}
 use Rattle.codes.specs.Codes.{codiceAbi, identificativo, codiceEnte, tipoOperazione}
 use Rattle.digits.specs.Digits.{digitsAfter, digits, esercizio, numero, zeroInFront, importo, progressivo}
-use Rattle.dates.specs.Dates.{dataOf, clock, dataOra}
+use Rattle.dates.specs.Dates.{dataOf, clock, signs, dataOraWritten, dataOraWithin, dataOra}
 use Rattle.names.specs.Names.{replacedAfter, charactersAfter, anagrafica}
 use Rattle.fields.specs.Fields.{fieldStands}
 use Rattle.tokens.specs.Tokens.{repeat, until, nameAt, pieceAt, textAt, endTagAt, optionalAt}
@@ -46,7 +46,7 @@ pub record Flows : Type 0 where
   pub more : ReadAs two (headerFor "471") (order 1 ∷ order 2 ∷ [])
 
 pub flows : Flows
-unfolding isLetter isDigit isAlnum isNameByte isWhite all run runEnd startsWith hasAt textIs isChar sized isTail charSize pastOr charAt leap monthLength isDate isIdentifying codiceAbi identificativo codiceEnte tipoOperazione digitsAfter digits esercizio numero zeroInFront importo progressivo dataOf clock dataOra whichAt replacedAfter charactersAfter anagrafica fieldStands repeat until nameAt pieceAt textAt endTagAt optionalAt elementBy childBy childrenBy contentBy elementAt contentAt rootAt markupOf childAt childrenChildrenBy childrenFrom keep keptFrom nameIs allKept rowsOf inOrder textOnly fitBy fitsAt fieldsBy fieldsAt firstBad inRow ordersTextIn inside lineOf linesOf eight linesIn orderOf ordersOf verdictOf
+unfolding isLetter isDigit isAlnum isNameByte isWhite all run runEnd startsWith hasAt textIs isChar sized isTail charSize pastOr charAt leap monthLength isDate isIdentifying codiceAbi identificativo codiceEnte tipoOperazione digitsAfter digits esercizio numero zeroInFront importo progressivo dataOf clock signs dataOraWritten dataOraWithin dataOra whichAt replacedAfter charactersAfter anagrafica fieldStands repeat until nameAt pieceAt textAt endTagAt optionalAt elementBy childBy childrenBy contentBy elementAt contentAt rootAt markupOf childAt childrenChildrenBy childrenFrom keep keptFrom nameIs allKept rowsOf inOrder textOnly fitBy fitsAt fieldsBy fieldsAt firstBad inRow ordersTextIn inside lineOf linesOf eight linesIn orderOf ordersOf verdictOf
 flows = record {
   own = record { at = 19; short = refl; stands = refl; header = refl; orders = refl };
   other = record { at = 19; short = refl; stands = refl; header = refl; orders = refl };

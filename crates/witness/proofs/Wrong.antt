@@ -30,6 +30,7 @@ use Rattle.record.specs.declared.Record.{Record}
 use Rattle.table.proofs.Bodies.{body-at, found-body}
 use Rattle.order.specs.Ordinativo.{Ordinativo}
 use Rattle.flow.specs.declared.Verdict.{Verdict}
+use Rattle.fields.specs.declared.Cause.{Cause}
 use Rattle.flow.specs.declared.Verdict.the-variants.{FieldBreaks, Stands}
 use Rattle.flow.specs.Flow.{headerOf}
 use Rattle.rules.specs.Listed.{Has, Applies, sostituzione, misnumbered, missummed, present, full, absent, annulled, executed, differs}
@@ -62,7 +63,7 @@ one-place e d = cc
 one-body : {v : Found} {i j : ℕ} → v ≡ At i → v ≡ At j → i ≡ j
 one-body e d = cc
 
-breaks-stands : {v : Verdict} {p i : ℕ} → v ≡ FieldBreaks p → v ≡ Stands i → ⊥
+breaks-stands : {v : Verdict} {p i : ℕ} {c : Cause} → v ≡ FieldBreaks p c → v ≡ Stands i → ⊥
 breaks-stands e d = let z : _≡_ {A = ℕ} 0 1 = cc in omega arith
 
 -- "15 (INSERIMENTO: the body has no empty slot)"
@@ -122,10 +123,15 @@ module _ (a : FlowAnswer) (t′ out′ : List ℕ) (p : FlowPromise sampleTable 
 
 -- the same of the exported function, in document 01's numbers
 pub taken-reply : (n : FlowReply) (t′ out′ : List ℕ) → FlowReplies sampleTable (single "471") (room 1) n t′ out′
-    → (n .code ≡ 0) × (n .place ≡ 0) × (n .orders ≡ 1) × (n .accepted ≡ 1)
+    → (n .code ≡ 0) × (n .place ≡ 0) × (n .orders ≡ 1) × (n .accepted ≡ 1) × (n .cause ≡ 0)
 taken-reply n t′ out′ p =
-    let e = ap flowReply (taken (p .0) t′ out′ (p .1)) in
-    (p .2 .0 ∙ ap (λ (x : FlowReply). x .code) e, p .2 .1 ∙ ap (λ (x : FlowReply). x .place) e, p .2 .2 ∙ ap (λ (x : FlowReply). x .orders) e, p .2 .3 ∙ ap (λ (x : FlowReply). x .accepted) e)
+    let e = ap flowReply (taken (p .0) t′ out′ (p .1)) in (
+      p .2 .0 ∙ ap (λ (x : FlowReply). x .code) e,
+      p .2 .1 ∙ ap (λ (x : FlowReply). x .place) e,
+      p .2 .2 ∙ ap (λ (x : FlowReply). x .orders) e,
+      p .2 .3 ∙ ap (λ (x : FlowReply). x .accepted) e,
+      p .2 .4 ∙ ap (λ (x : FlowReply). x .cause) e,
+    )
 
 -- taken again on the table that it left: its order is refused (14)
 pub taken-again : (a : FlowAnswer) (t′ out′ : List ℕ) → FlowPromise second (single "471") (room 1) a t′ out′ → a ≡ Taken 1 0

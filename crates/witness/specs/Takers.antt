@@ -21,6 +21,7 @@ use Rattle.opening.specs.declared.Opened.{Opened}
 use Rattle.opening.specs.declared.Opened.the-variants.{WrongRequest}
 use Rattle.opening.specs.Opening.{OpenPromise}
 use Rattle.order.specs.Ordinativo.{Ordinativo}
+use Rattle.fields.specs.declared.Cause.{Cause}
 use Rattle.flow.specs.declared.Verdict.the-variants.{FieldBreaks, Stands}
 use Rattle.flow.specs.Flow.{verdictOf, headerOf, flowOrders}
 use Rattle.rules.specs.Rules.{keyFor, nth}
@@ -147,7 +148,8 @@ module _ (T : Taker) where
     pub flow : List ℕ
     pub lent : List ℕ
     pub place : ℕ
-    pub late : verdictOf flow ≡ FieldBreaks place
+    pub cause : Cause
+    pub late : verdictOf flow ≡ FieldBreaks place cause
     pub changed : T .table table flow lent ≡ table → ⊥
 
   -- a body served on another body's slots: somewhere a flow that names one body of a valid table changes what another body owns

@@ -3,9 +3,6 @@ use Rattle.rows.specs.Read.{readAt, fieldRead}
 use borrow.Author.Needs.{needs}
 use Rattle.rows.proofs.read_field.Statement.{statement}
 use Rattle.rows.proofs.read_field.Tie as tie
-use Rattle.rows.proofs.read_field.Reads as reads
-use Rattle.rows.proofs.read_field.Lts as lts
-use Rattle.fields.proofs.field_of.Reads as field-of-reads
 
 add-from : tie.Need-add-from
 add-from c = search needs
@@ -25,8 +22,8 @@ field-of-requires c κs = search needs
 enum-known-v : tie.Need-enum-known-v
 enum-known-v c = search needs
 
-enum-told : tie.Need-enum-told
-enum-told c = search needs
+enum-known-x : tie.Need-enum-known-x
+enum-known-x c = search needs
 
 returns : tie.Need-returns
 unfolding fieldRead
@@ -34,7 +31,7 @@ returns c = ap (readAt (c .before .before .before .before .before .before .befor
 
 returns-2 : tie.Need-returns-2
 unfolding fieldRead
-returns-2 c = ap (readAt (c .before .before .before .before .before .before .args .c)) (sym (c .enum-told .given .1) ∙ c .before .before .field-of .ensures)
+returns-2 c = ap (readAt (c .before .before .before .before .before .before .before .args .c)) (sym (c .before .x .given .1) ∙ c .before .before .before .field-of .ensures)
 
 pub read-field-spec : {M : Type 1} → statement M
 read-field-spec =
@@ -46,6 +43,6 @@ read-field-spec =
     part-field-of-end
     field-of-requires
     enum-known-v
-    enum-told
+    enum-known-x
     returns
     returns-2)

@@ -7,10 +7,6 @@ use Rattle.standing.proofs.Laws.{field-other, field-judged}
 use borrow.Author.Needs.{needs}
 use Rattle.standing.proofs.field_standing.Statement.{statement}
 use Rattle.standing.proofs.field_standing.Tie as tie
-use Rattle.standing.proofs.field_standing.Reads as reads
-use Rattle.standing.proofs.field_standing.Lts as lts
-use Rattle.rows.proofs.read_field.Reads as read-field-reads
-use Rattle.structure.proofs.text_only.Reads as text-only-reads
 
 add-text-only : tie.Need-add-text-only
 add-text-only c = search needs

@@ -3,9 +3,6 @@ use Rattle.standing.proofs.Laws.{after-field}
 use borrow.Author.Needs.{needs}
 use Rattle.standing.proofs.then.Statement.{statement}
 use Rattle.standing.proofs.then.Tie as tie
-use Rattle.standing.proofs.then.Reads as reads
-use Rattle.standing.proofs.then.Lts as lts
-use Rattle.standing.proofs.has_structure.Reads as has-structure-reads
 
 enum-told : tie.Need-enum-told
 enum-told c = search needs
@@ -23,7 +20,7 @@ returns : tie.Need-returns
 returns c = search needs
 
 returns-2 : tie.Need-returns-2
-returns-2 c = after-field _ _ _ (c .before .before .before .first .given .1) (sym (c .before .has-structure .ensures) ∙ c .if1 .taken)
+returns-2 c = after-field _ _ _ _ (c .before .before .before .first .given .1) (sym (c .before .has-structure .ensures) ∙ c .if1 .taken)
 
 returns-3 : tie.Need-returns-3
 returns-3 c = search needs
