@@ -89,7 +89,7 @@ module _ (s : List ℕ) (p : ℕ) where
   one-is : byteAt s p < 128 → Allowed 0 (byteAt s p) → charAt s p ≡ Past (p + 1)
   one-is h a = sized-at 0 0 (byteAt s p) a (size-one refl refl refl refl (omega arith))
 
-  char-is : {c : List ℕ} → Character c → hasAt c s p ≡ true → charAt s p ≡ Past (p + length c)
+  pub char-is : {c : List ℕ} → Character c → hasAt c s p ≡ true → charAt s p ≡ Past (p + length c)
   char-is (one {x = x} h a) e =
       let z = has-byte s x [] p e in
       one-is (omega arith) (rw z a)
@@ -119,7 +119,7 @@ module _ (s : List ℕ) (p : ℕ) where
       sized-at 3 65536 (x * 262144 + y * 4096 + v * 64 + w) a (size-four (sym z) (sym t) (sym u) (sym o) (omega arith) (omega arith) (tail-is y k) (omega arith) (tail-is v l) (omega arith) (tail-is w m) (omega arith) ∙ rw (q, r, i, j))
 
   -- an ASCII byte is a character by itself
-  char-alone : {c : List ℕ} → Character c → hasAt c s p ≡ true → byteAt s p < 128 → c ≡ byteAt s p ∷ []
+  pub char-alone : {c : List ℕ} → Character c → hasAt c s p ≡ true → byteAt s p < 128 → c ≡ byteAt s p ∷ []
   char-alone (one {x = x} h a) e l = rw (has-byte s x [] p e)
   char-alone (two {x = x} h k a) e l = let z = has-byte s (192 + x) _ p e in absurd (omega arith)
   char-alone (three {x = x} h k i a) e l = let z = has-byte s (224 + x) _ p e in absurd (omega arith)
