@@ -66,6 +66,15 @@ enum hondivole_code {
     HONDIVOLE_CLOSING_DAY = 28          /* the date is no TARGET day */
 };
 
+/* What is wrong with the field of code 5: the first of these that applies. */
+enum hondivole_cause {
+    HONDIVOLE_NO_CAUSE = 0,       /* every other code */
+    HONDIVOLE_EMPTY = 1,          /* empty */
+    HONDIVOLE_LONG = 2,           /* longer than the longest allowed text */
+    HONDIVOLE_MISFORMED = 3,      /* wrong form */
+    HONDIVOLE_OUT_OF_RANGE = 4    /* right form but a value outside its range */
+};
+
 enum {
     HONDIVOLE_MANDATO = 1,   /* the kind of a payment order */
     HONDIVOLE_REVERSALE = 2  /* the kind of a collection order */
@@ -103,16 +112,17 @@ enum {
 uint64_t hondivole_open(const uint8_t *request, size_t request_len, uint8_t *table, size_t table_len);
 
 /*
- * Takes a body's flow. It answers 0 when the flow is taken: its orders are then served as written, each on the table the one before
- * left; *orders is how many it holds (1 to 64) and *accepted how many of them got outcome code 0; *place is 0. Each order has written 16
- * outcome bytes: 0 kind, 1 operation (1 INSERIMENTO, 2 VARIAZIONE, 3 ANNULLO, 4 SOSTITUZIONE), 2 code (0, 11 to 19), 3 lines, 4-7 number,
- * 8-15 total, numbers with the highest byte first. Otherwise it answers the first code of 1 to 8 that applies, with *orders and
- * *accepted 0, and *place 0 but for code 5, where it is the byte of `<` of the first element whose field breaks, counted from 0. It
- * never changes table or outcomes with a code other than 0, never changes the record of a refused order or of another body, and never
- * writes outcome bytes past the last order's.
+ * Takes a body's flow. It answers 0 when the flow is taken: its orders are then served as written, each on the table the one before left;
+ * *orders is how many it holds (1 to 64) and *accepted how many of them got outcome code 0; *place and *cause are 0. Each order has written
+ * 16 outcome bytes: 0 kind, 1 operation (1 INSERIMENTO, 2 VARIAZIONE, 3 ANNULLO, 4 SOSTITUZIONE), 2 code (0, 11 to 19), 3 lines, 4-7
+ * number, 8-15 total, numbers with the highest byte first. Otherwise it answers the first code of 1 to 8 that applies, with *orders and
+ * *accepted 0, and *place and *cause 0 but for code 5, where *place is the byte of `<` of the first element whose field breaks, counted
+ * from 0, and *cause what is wrong with that field, 1 to 4: hondivole_cause_text says it in words. It never changes table or outcomes with
+ * a code other than 0, never changes the record of a refused order or of another body, and never writes outcome bytes past the last
+ * order's.
  */
 uint64_t hondivole_flow(uint8_t *table, size_t table_len, const uint8_t *flow, size_t flow_len, uint8_t *outcomes, size_t outcomes_len,
-                        uint64_t *place, uint64_t *orders, uint64_t *accepted);
+                        uint64_t *place, uint64_t *orders, uint64_t *accepted, uint64_t *cause);
 
 /*
  * Takes the bank's notice that a line is executed. It names the body by its code, the order by kind (1 mandato, 2 reversale), esercizio
@@ -199,6 +209,18 @@ static inline const char *hondivole_code_text(uint64_t code)
     case HONDIVOLE_NO_DATE_SERVED: return "no date of the years 2002 to 2099";
     case HONDIVOLE_CLOSING_DAY: return "the date is no TARGET day";
     default: return "no code of the order desk";
+    }
+}
+
+/* The words for each cause, and for a number that is none. */
+static inline const char *hondivole_cause_text(uint64_t cause)
+{
+    switch (cause) {
+    case HONDIVOLE_EMPTY: return "empty";
+    case HONDIVOLE_LONG: return "longer than the longest allowed text";
+    case HONDIVOLE_MISFORMED: return "wrong form";
+    case HONDIVOLE_OUT_OF_RANGE: return "right form but a value outside its range";
+    default: return "no cause";
     }
 }
 

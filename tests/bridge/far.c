@@ -118,13 +118,14 @@ uint64_t hondivole_open(const uint8_t *request, size_t request_len, uint8_t *tab
 }
 
 uint64_t hondivole_flow(uint8_t *table, size_t table_len, const uint8_t *flow, size_t flow_len, uint8_t *outcomes, size_t outcomes_len,
-                        uint64_t *place, uint64_t *orders, uint64_t *accepted)
+                        uint64_t *place, uint64_t *orders, uint64_t *accepted, uint64_t *cause)
 {
     struct call call = {.function = FLOW, .lengths = {table_len, flow_len, outcomes_len}};
     struct answer answer = forward(&call, table, flow, table, table_len, outcomes);
     *place = answer.results[0];
     *orders = answer.results[1];
     *accepted = answer.results[2];
+    *cause = answer.results[3];
     return answer.code;
 }
 

@@ -127,7 +127,8 @@ static void late_field(void)
 static void call_open(void) { code = hondivole_open(request, request_len, table, table_len); }
 static void call_flow(void)
 {
-    code = hondivole_flow(table, table_len, flow, flow_len, outcomes, sizeof outcomes, &results[0], &results[1], &results[2]);
+    code = hondivole_flow(table, table_len, flow, flow_len, outcomes, sizeof outcomes, &results[0], &results[1], &results[2],
+                          &results[3]);
 }
 static void call_execute(void)
 {

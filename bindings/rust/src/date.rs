@@ -33,7 +33,7 @@ impl Date {
         let (mut year, mut month, mut day) = (0, 0, 0);
         // SAFETY: the pointers are those of three local numbers.
         let code = unsafe { ffi::hondivole_first_target_day(self.year, self.month, self.day, &mut year, &mut month, &mut day) };
-        Refusal::answer(code, 0)?;
+        Refusal::answer(code, 0, 0)?;
         Ok(Date { year, month, day })
     }
 
@@ -47,7 +47,7 @@ impl Date {
         // SAFETY: the pointer is that of a local number.
         let code =
             unsafe { ffi::hondivole_days_between(self.year, self.month, self.day, other.year, other.month, other.day, &mut days) };
-        Refusal::answer(code, 0)?;
+        Refusal::answer(code, 0, 0)?;
         Ok(days)
     }
 }

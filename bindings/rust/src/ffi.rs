@@ -25,7 +25,7 @@ unsafe extern "C" {
     ///
     /// # Safety
     ///
-    /// Each pointer is good for its length, the last three for one number each; `table`, `outcomes` and the three numbers can be
+    /// Each pointer is good for its length, the last four for one number each; `table`, `outcomes` and the four numbers can be
     /// written, and no two of all these overlap.
     pub fn hondivole_flow(
         table: *mut u8,
@@ -37,6 +37,7 @@ unsafe extern "C" {
         place: *mut u64,
         orders: *mut u64,
         accepted: *mut u64,
+        cause: *mut u64,
     ) -> u64;
 
     /// Takes a notice of execution: see [`Table::execute`](crate::Table::execute).

@@ -1,5 +1,7 @@
 //! A field's own words.
 
+use std::fmt;
+
 use crate::{Refusal, ffi};
 
 /// An element of a flow: its name and its text, as the parts of the flow themselves. The text's references are not replaced.
@@ -58,8 +60,44 @@ impl Refusal {
     /// ```
     pub fn field<'f>(&self, flow: &'f [u8]) -> Option<Field<'f>> {
         match self {
-            Refusal::FieldBreaks { place } => field_at(flow, *place),
+            Refusal::FieldBreaks { place, .. } => field_at(flow, *place),
             _ => None,
+        }
+    }
+
+    /// The refusal in words, with the name, the text and the place of the field that the flow was refused for.
+    ///
+    /// ```
+    /// use hondivole::{Refusal, Table};
+    ///
+    /// # let run = include_str!("run.xml");
+    /// let flow = run.replace("<importo_mandato>150.00", "<importo_mandato>00150.00");
+    /// let mut table = Table::open("01234", &[("000471", 4)])?;
+    /// let refusal = table.flow(flow.as_bytes(), &mut [0; 32]).unwrap_err();
+    /// let place = flow.find("<importo_mandato>").unwrap();
+    /// assert_eq!(refusal.of_flow(flow.as_bytes()).to_string(), format!("importo_mandato \"00150.00\" at byte {place} breaks: wrong form"));
+    /// assert_eq!(Refusal::MarkupBreaks.of_flow(flow.as_bytes()).to_string(), "the flow's markup breaks");
+    /// # Ok::<(), Refusal>(())
+    /// ```
+    pub fn of_flow<'f>(&self, flow: &'f [u8]) -> InWords<'f> {
+        InWords { refusal: *self, field: self.field(flow) }
+    }
+}
+
+/// A flow's refusal, told with the field that it names: see [`Refusal::of_flow`].
+#[derive(Clone, Copy, Debug, PartialEq, Eq)]
+pub struct InWords<'f> {
+    refusal: Refusal,
+    field: Option<Field<'f>>,
+}
+
+impl fmt::Display for InWords<'_> {
+    fn fmt(&self, to: &mut fmt::Formatter) -> fmt::Result {
+        match (self.refusal, self.field) {
+            (Refusal::FieldBreaks { place, cause }, Some(Field { name, text })) => {
+                write!(to, "{name} {text:?} at byte {place} breaks: {cause}")
+            }
+            (refusal, _) => refusal.fmt(to),
         }
     }
 }

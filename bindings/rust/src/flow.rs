@@ -95,7 +95,7 @@ impl OrderOutcome {
             number: u32::from_be_bytes([n0, n1, n2, n3]),
             lines,
             total: u64::from_be_bytes(total),
-            verdict: Refusal::of_code(code.into(), 0)?,
+            verdict: Refusal::of_code(code.into(), 0, 0)?,
         })
     }
 }

@@ -43,9 +43,9 @@ mod refusal;
 mod table;
 
 pub use date::Date;
-pub use field::{Field, field_at};
+pub use field::{Field, InWords, field_at};
 pub use flow::{FlowAnswer, Kind, Operation, OrderOutcome};
-pub use refusal::Refusal;
+pub use refusal::{Cause, Refusal};
 pub use table::{Notice, Table, Totals, request};
 
 /// The outcome bytes of the most orders a flow can hold: 64 of 16 bytes.

@@ -3,6 +3,64 @@
 use std::error::Error;
 use std::fmt;
 
+/// What is wrong with a field that breaks: the first of these that applies.
+///
+/// ```
+/// use hondivole::Cause;
+///
+/// assert_eq!(Cause::Long.number(), 2);
+/// assert_eq!(Cause::Long.to_string(), "longer than the longest allowed text");
+/// ```
+#[derive(Clone, Copy, Debug, PartialEq, Eq, Hash)]
+pub enum Cause {
+    /// 1: empty.
+    Empty = 1,
+    /// 2: longer than the longest allowed text.
+    Long = 2,
+    /// 3: wrong form.
+    Misformed = 3,
+    /// 4: right form but a value outside its range.
+    OutOfRange = 4,
+}
+
+impl Cause {
+    /// The cause's number in a flow's answer.
+    ///
+    /// ```
+    /// use hondivole::Cause;
+    ///
+    /// assert_eq!(Cause::Empty.number(), 1);
+    /// ```
+    pub fn number(&self) -> u8 {
+        *self as u8
+    }
+
+    /// The cause with this number; `None` for 0, which goes with every code but 5, and for a number that is none.
+    ///
+    /// ```
+    /// use hondivole::Cause;
+    ///
+    /// assert_eq!(Cause::from_number(4), Some(Cause::OutOfRange));
+    /// assert_eq!(Cause::from_number(0), None);
+    /// ```
+    pub fn from_number(number: u64) -> Option<Cause> {
+        [Cause::Empty, Cause::Long, Cause::Misformed, Cause::OutOfRange]
+            .into_iter()
+            .find(|cause| u64::from(cause.number()) == number)
+    }
+}
+
+impl fmt::Display for Cause {
+    fn fmt(&self, to: &mut fmt::Formatter) -> fmt::Result {
+        to.write_str(match self {
+            Cause::Empty => "empty",
+            Cause::Long => "longer than the longest allowed text",
+            Cause::Misformed => "wrong form",
+            Cause::OutOfRange => "right form but a value outside its range",
+        })
+    }
+}
+
 /// Why something is refused: document 01's codes 1 to 22, and those of later requests.
 ///
 /// ```
@@ -29,6 +87,8 @@ pub enum Refusal {
     FieldBreaks {
         /// The byte of `<` of the first element that breaks, counted from 0 at the flow's first byte.
         place: usize,
+        /// What is wrong with that element's text.
+        cause: Cause,
     },
     /// 6: the flow's `codice_ABI_BT` isn't the table's.
     OtherBank,
@@ -108,29 +168,30 @@ impl Refusal {
         }
     }
 
-    /// The refusal that has this code; `None` for 0 and for a number that is no code. The place is told with code 5 only.
+    /// The refusal that has this code; `None` for 0 and for a number that is no code. Place and cause are told with code 5 only.
     ///
     /// ```
-    /// use hondivole::Refusal;
+    /// use hondivole::{Cause, Refusal};
     ///
-    /// assert_eq!(Refusal::from_code(7, 0), Some(Refusal::NoSuchBody));
-    /// assert_eq!(Refusal::from_code(5, 375), Some(Refusal::FieldBreaks { place: 375 }));
-    /// assert_eq!(Refusal::from_code(0, 0), None);
-    /// assert_eq!(Refusal::from_code(23, 0), None);
+    /// assert_eq!(Refusal::from_code(7, 0, 0), Some(Refusal::NoSuchBody));
+    /// assert_eq!(Refusal::from_code(5, 375, 3), Some(Refusal::FieldBreaks { place: 375, cause: Cause::Misformed }));
+    /// assert_eq!(Refusal::from_code(5, 375, 0), None);
+    /// assert_eq!(Refusal::from_code(0, 0, 0), None);
+    /// assert_eq!(Refusal::from_code(23, 0, 0), None);
     /// ```
-    pub fn from_code(code: u64, place: u64) -> Option<Refusal> {
-        Refusal::of_code(code, place)?.err()
+    pub fn from_code(code: u64, place: u64, cause: u64) -> Option<Refusal> {
+        Refusal::of_code(code, place, cause)?.err()
     }
 
-    /// What a code stands for: `Ok` for 0, and `None` for a code that document 01 doesn't have. The place is told with code 5 only.
-    pub(crate) fn of_code(code: u64, place: u64) -> Option<Result<(), Refusal>> {
+    /// What a code stands for: `Ok` for 0, and `None` for a code or a cause that there isn't. Place and cause are told with code 5 only.
+    pub(crate) fn of_code(code: u64, place: u64, cause: u64) -> Option<Result<(), Refusal>> {
         let refusal = match code {
             0 => return Some(Ok(())),
             1 => Refusal::TableNotValid,
             2 => Refusal::FlowTooLong,
             3 => Refusal::MarkupBreaks,
             4 => Refusal::StructureBreaks,
-            5 => Refusal::FieldBreaks { place: place as usize },
+            5 => Refusal::FieldBreaks { place: place as usize, cause: Cause::from_number(cause)? },
             6 => Refusal::OtherBank,
             7 => Refusal::NoSuchBody,
             8 => Refusal::OutcomesTooShort,
@@ -156,8 +217,8 @@ impl Refusal {
     }
 
     /// The answer of a call that has this code.
-    pub(crate) fn answer(code: u64, place: u64) -> Result<(), Refusal> {
-        Refusal::of_code(code, place).expect("a call answers with a code of document 01")
+    pub(crate) fn answer(code: u64, place: u64, cause: u64) -> Result<(), Refusal> {
+        Refusal::of_code(code, place, cause).expect("a call answers with a code of document 01, and 5 with a cause")
     }
 }
 
@@ -168,8 +229,8 @@ impl fmt::Display for Refusal {
             Refusal::FlowTooLong => "the flow is longer than 32,768 bytes",
             Refusal::MarkupBreaks => "the flow's markup breaks",
             Refusal::StructureBreaks => "the flow's structure breaks",
-            Refusal::FieldBreaks { place } => {
-                return write!(to, "the field whose element begins at byte {place} of the flow breaks");
+            Refusal::FieldBreaks { place, cause } => {
+                return write!(to, "the field whose element begins at byte {place} of the flow breaks: {cause}");
             }
             Refusal::OtherBank => "the flow's codice_ABI_BT isn't the table's",
             Refusal::NoSuchBody => "no body of the table has this code",
@@ -202,11 +263,12 @@ mod tests {
 
     #[test]
     fn codes_go_both_ways() {
-        assert_eq!(Refusal::of_code(0, 0), Some(Ok(())));
-        assert_eq!(Refusal::of_code(23, 0), None);
+        assert_eq!(Refusal::of_code(0, 0, 0), Some(Ok(())));
+        assert_eq!(Refusal::of_code(23, 0, 0), None);
+        assert_eq!(Refusal::of_code(5, 7, 5), None);
         let mut sentences = std::collections::HashSet::new();
         for code in (1..=22).chain(27..=28) {
-            let refusal = Refusal::of_code(code, 7).unwrap().unwrap_err();
+            let refusal = Refusal::of_code(code, 7, 1).unwrap().unwrap_err();
             assert_eq!(u64::from(refusal.code()), code);
             assert!(sentences.insert(refusal.to_string()));
         }
@@ -216,8 +278,12 @@ mod tests {
     fn the_header_says_the_same() {
         let header = include_str!("../../../include/hondivole.h");
         for code in (1..=22).chain(27..=28).filter(|code| *code != 5) {
-            let sentence = Refusal::from_code(code, 0).unwrap().to_string();
+            let sentence = Refusal::from_code(code, 0, 0).unwrap().to_string();
             assert!(header.contains(&format!("return \"{sentence}\";")), "{sentence}");
+        }
+        for number in 1..=4 {
+            let words = Cause::from_number(number).unwrap().to_string();
+            assert!(header.contains(&format!("return \"{words}\";")), "{words}");
         }
     }
 }

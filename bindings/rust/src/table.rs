@@ -131,7 +131,7 @@ impl Table {
         let mut bytes = vec![0; length];
         // SAFETY: the pointers and lengths are those of two vectors.
         let code = unsafe { ffi::hondivole_open(request.as_ptr(), request.len(), bytes.as_mut_ptr(), bytes.len()) };
-        Refusal::answer(code, 0)?;
+        Refusal::answer(code, 0, 0)?;
         Ok(Table { bytes })
     }
 }
@@ -201,7 +201,7 @@ impl<B: AsRef<[u8]>> Table<B> {
                 &mut balance,
             )
         };
-        Refusal::answer(code, 0)?;
+        Refusal::answer(code, 0, 0)?;
         Ok(Totals { used: used as usize, paid, collected, balance })
     }
 }
@@ -225,7 +225,7 @@ impl<B: AsMut<[u8]>> Table<B> {
     /// ```
     pub fn flow<'o>(&mut self, flow: &[u8], outcomes: &'o mut [u8]) -> Result<FlowAnswer<'o>, Refusal> {
         let table = self.bytes.as_mut();
-        let (mut place, mut orders, mut accepted) = (0, 0, 0);
+        let (mut place, mut orders, mut accepted, mut cause) = (0, 0, 0, 0);
         // SAFETY: the pointers and lengths are those of slices that don't overlap and of numbers that live here.
         let code = unsafe {
             ffi::hondivole_flow(
@@ -238,9 +238,10 @@ impl<B: AsMut<[u8]>> Table<B> {
                 &mut place,
                 &mut orders,
                 &mut accepted,
+                &mut cause,
             )
         };
-        Refusal::answer(code, place)?;
+        Refusal::answer(code, place, cause)?;
         let (written, _) = outcomes.as_chunks();
         Ok(FlowAnswer { accepted: accepted as usize, outcomes: &written[..orders as usize] })
     }
@@ -308,7 +309,7 @@ impl<B: AsMut<[u8]>> Table<B> {
                 &mut cents,
             )
         };
-        Refusal::answer(code, 0)?;
+        Refusal::answer(code, 0, 0)?;
         Ok(cents)
     }
 }

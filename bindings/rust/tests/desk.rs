@@ -1,6 +1,6 @@
 //! The calls through the safe types: document 01's run, and a refusal of each kind.
 
-use hondivole::{Date, Field, Kind, MOST_OUTCOME_BYTES, Notice, Operation, Refusal, Table, Totals, field_at};
+use hondivole::{Cause, Date, Field, Kind, MOST_OUTCOME_BYTES, Notice, Operation, Refusal, Table, Totals, field_at};
 
 const RUN: &[u8] = include_bytes!("../src/run.xml");
 
@@ -42,7 +42,7 @@ fn refused_flows_change_nothing() {
         (vec![b' '; 32_769], Refusal::FlowTooLong),
         (Vec::new(), Refusal::MarkupBreaks),
         (changed("esercizio>", "anno>"), Refusal::StructureBreaks),
-        (broken, Refusal::FieldBreaks { place }),
+        (broken, Refusal::FieldBreaks { place, cause: Cause::OutOfRange }),
         (changed("01234", "43210"), Refusal::OtherBank),
         (changed("000471", "0471"), Refusal::NoSuchBody),
     ];
@@ -53,6 +53,29 @@ fn refused_flows_change_nothing() {
     }
     assert_eq!(table.flow(RUN, &mut [0; 31]), Err(Refusal::OutcomesTooShort));
     assert_eq!(table, desk());
+}
+
+/// The four causes, and that the one told belongs to the first field that breaks.
+#[test]
+fn causes() {
+    let texts = [
+        ("", Cause::Empty, "empty"),
+        ("00000012", Cause::Long, "longer than the longest allowed text"),
+        ("12a", Cause::Misformed, "wrong form"),
+        ("0", Cause::OutOfRange, "right form but a value outside its range"),
+    ];
+    for (text, cause, words) in texts {
+        let number = format!("<numero_mandato>{text}</numero_mandato>");
+        let flow = String::from_utf8(changed("<numero_mandato>0012</numero_mandato>", &number)).unwrap();
+        let flow = flow.replace("<progressivo_versante>1<", "<progressivo_versante>x<");
+        let place = flow.find("<numero_mandato>").unwrap();
+        let refusal = desk().flow(flow.as_bytes(), &mut [0; 32]).unwrap_err();
+        assert_eq!(refusal, Refusal::FieldBreaks { place, cause });
+        assert_eq!(
+            refusal.of_flow(flow.as_bytes()).to_string(),
+            format!("numero_mandato {text:?} at byte {place} breaks: {words}")
+        );
+    }
 }
 
 #[test]

@@ -26,13 +26,14 @@ fn say_touched(out: &[u8], from: usize) {
     }
 }
 
-// A flow's answer: code, place, orders, accepted, and the outcomes.
+// A flow's answer: code, place, orders, accepted, cause, and the outcomes.
 fn say_flow(a: FlowAnswer, out: &[u8]) {
     let r = desk::reply_of(a);
     say_number(r.code);
     say_next(r.place);
     say_next(r.orders);
     say_next(r.accepted);
+    say_next(r.cause);
     let past = casebook::say_outcomes(out, r.orders, b",", b"");
     say_touched(out, past)
 }

@@ -2,6 +2,7 @@
 // flow is replaced by what, and what document 01 says of the flow so changed, by hand; a line of the output has what the code says beside it.
 use casebook::say;
 use casebook::say_number;
+use fields::Cause;
 use flow::Verdict;
 ghost use Prim.Native.Nat.{_+_, _≤_, _<_};
 ghost use lib.ListN.{length};
@@ -58,10 +59,12 @@ fn past(s: &[u8], at: usize, x: &[u8]) -> usize
     }
 }
 
-// A field's own words, as parts of the flow.
-fn say_words(f: &[u8], p: usize) {
+// A field's own words, as parts of the flow, and its cause.
+fn say_words(f: &[u8], p: usize, x: Cause) {
     say(b"field breaks at ");
     say_number(p as u64);
+    say(b" by ");
+    say_number(fields::cause_number(x));
     say(b": ");
     say(children::name_at(f, p));
     say(b" \"");
@@ -73,7 +76,7 @@ fn say_verdict(f: &[u8]) {
     match flow::verdict_alone(f) {
         Verdict::MarkupBreaks(_) => say(b"markup breaks"),
         Verdict::StructureBreaks => say(b"structure breaks"),
-        Verdict::FieldBreaks(p) => say_words(f, p),
+        Verdict::FieldBreaks(p, x) => say_words(f, p, x),
         Verdict::Stands(_) => say(b"stands"),
     }
 }

@@ -29,7 +29,7 @@ abbrev pub replaced : List ℕ → List ℕ
 replaced t = replacedAfter 0 t
 
 -- how many characters t has, its first k bytes being the rest of one that was counted before. A byte that begins no character counts as one;
--- no text of a flow whose markup stands holds such a byte.
+-- no text of a flow whose markup stands holds such a byte (`flow-counted`, crates/tree/specs/Names.antt).
 unfoldable pub charactersAfter : ℕ → List ℕ → ℕ
 charactersAfter k [] = 0
 charactersAfter (suc k) (b ∷ t) = charactersAfter k t

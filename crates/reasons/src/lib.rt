@@ -1,6 +1,7 @@
-// Why a flow or an order is refused, in a sentence for the school: the rule of document 01, and for a field that breaks its name, its text
-// and the form that document 01 asks of it.
+// Why a flow or an order is refused, in a sentence for the school: the rule of document 01, and for a field that breaks its name, its text,
+// what is wrong with it and the form that document 01 asks of it.
 use fields::Form;
+use fields::Longest;
 use printing::say;
 use printing::say_number;
 use rows::Holds;
@@ -106,14 +107,32 @@ fn say_text(t: &[u8]) -> bool {
     say(b" '") && say(&out[..n]) && say(b"'")
 }
 
-fn say_wanted(name: &[u8]) -> bool {
+// The longest text that a form allows.
+fn say_longest(f: Form) -> bool {
+    match fields::longest_of(f) {
+        Longest::Bytes(n) => say_number(n as u64) && say(b" bytes"),
+        Longest::OfName(n) => say_number(n as u64) && say(b", each reference counting as one"),
+    }
+}
+
+// What is wrong with a field, in document 02's words.
+fn say_cause(cause: u64, f: Form) -> bool {
+    match cause {
+        1 => say(b": empty"),
+        2 => say(b": longer than the longest allowed text, of") && say_longest(f),
+        3 => say(b": wrong form"),
+        _ => say(b": right form but a value outside its range"),
+    }
+}
+
+fn say_wanted(name: &[u8], cause: u64) -> bool {
     match wanted_of(name) {
-        Wanted::By(f) => say(b"; its form: ") && say_form(f),
+        Wanted::By(f) => say_cause(cause, f) && say(b"; its form: ") && say_form(f),
         Wanted::Nothing => true,
     }
 }
 
-fn say_field(flow: &[u8], place: u64) -> bool {
+fn say_field(flow: &[u8], place: u64, cause: u64) -> bool {
     let name = children::name_at(flow, place as usize);
     let text = children::text_at(flow, place as usize);
     say(b"  5, a field breaks: ")
@@ -121,7 +140,7 @@ fn say_field(flow: &[u8], place: u64) -> bool {
         && say_text(text)
         && say(b" at byte")
         && say_number(place)
-        && say_wanted(name)
+        && say_wanted(name, cause)
         && say(b"\n")
 }
 
@@ -227,14 +246,14 @@ fn say_structure(flow: &[u8]) -> bool {
 }
 
 // Why a flow is refused. (Of the table and the outcome buffer the school knows nothing.)
-pub fn of_flow(flow: &[u8], code: u64, place: u64) -> bool {
+pub fn of_flow(flow: &[u8], code: u64, place: u64, cause: u64) -> bool {
     match code {
         0 => true,
         1 => say(b"  1, the table is not valid\n"),
         2 => say(b"  2, the flow is longer than 32,768 bytes\n"),
         3 => say_markup(flow),
         4 => say_structure(flow),
-        5 => say_field(flow, place),
+        5 => say_field(flow, place, cause),
         6 => say(b"  6, codice_ABI_BT is not the bank that this table is for\n"),
         7 => say(
             b"  7, no body of this table has this codice_ente_BT: codes are compared byte by byte, zeros in front too\n",

@@ -42,9 +42,9 @@ fn tell_body(table: &[u8], code: &[u8]) -> bool {
     say_body(code, t.used, balance)
 }
 
-fn tell_reason(flow: &[u8], code: u64, place: u64, explaining: bool) -> bool {
+fn tell_reason(flow: &[u8], code: u64, place: u64, cause: u64, explaining: bool) -> bool {
     if explaining {
-        reasons::of_flow(flow, code, place)
+        reasons::of_flow(flow, code, place, cause)
     } else {
         true
     }
@@ -57,6 +57,7 @@ fn run(flow: &[u8], explaining: bool) -> bool {
     let mut place: u64 = 0;
     let mut orders: u64 = 0;
     let mut accepted: u64 = 0;
+    let mut cause: u64 = 0;
     hondivole::hondivole_open(
         b"01234\x06000471\0\0\0\0\0\0\0\0\0\0\0\0\x04\x03471\0\0\0\0\0\0\0\0\0\0\0\0\0\0\0\x04",
         &mut table,
@@ -68,9 +69,10 @@ fn run(flow: &[u8], explaining: bool) -> bool {
         &mut place,
         &mut orders,
         &mut accepted,
+        &mut cause,
     );
     say_flow(code, place, orders, accepted)
-        && tell_reason(flow, code, place, explaining)
+        && tell_reason(flow, code, place, cause, explaining)
         && tell_orders(&outcomes, orders, explaining)
         && tell_body(&table, b"000471")
         && tell_body(&table, b"471")

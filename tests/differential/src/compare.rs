@@ -110,8 +110,10 @@ impl Yard {
             Call::Open { .. } => Answer::Open(engine.open(given, lent)),
             Call::Flow { .. } => {
                 let outcomes = self.outcomes.bytes_mut();
-                let code = engine.flow(lent, given, outcomes, first.number_mut(), second.number_mut(), third.number_mut());
-                Answer::Flow(FlowAnswer { code, place: first.number(), orders: second.number(), accepted: third.number() })
+                let (place, orders, accepted) = (first.number_mut(), second.number_mut(), third.number_mut());
+                let code = engine.flow(lent, given, outcomes, place, orders, accepted, fourth.number_mut());
+                let (place, orders, accepted) = (first.number(), second.number(), third.number());
+                Answer::Flow(FlowAnswer { code, place, orders, accepted, cause: fourth.number() })
             }
             Call::Execute { notice, .. } => {
                 let code = engine.execute(lent, given, notice, first.number_mut());

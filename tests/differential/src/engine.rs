@@ -20,6 +20,7 @@ pub trait Engine {
         place: &mut u64,
         orders: &mut u64,
         accepted: &mut u64,
+        cause: &mut u64,
     ) -> u64;
 
     /// Takes a notice of execution.
@@ -52,9 +53,10 @@ impl Engine for Reference {
         place: &mut u64,
         orders: &mut u64,
         accepted: &mut u64,
+        cause: &mut u64,
     ) -> u64 {
         let answer = reference::flow(table, flow, outcomes);
-        (*place, *orders, *accepted) = (answer.place, answer.orders, answer.accepted);
+        (*place, *orders, *accepted, *cause) = (answer.place, answer.orders, answer.accepted, answer.cause);
         answer.code
     }
 
@@ -100,6 +102,7 @@ impl Engine for Library {
         place: &mut u64,
         orders: &mut u64,
         accepted: &mut u64,
+        cause: &mut u64,
     ) -> u64 {
         // SAFETY: the pointers and lengths are those of slices and numbers that don't overlap.
         unsafe {
@@ -113,6 +116,7 @@ impl Engine for Library {
                 place,
                 orders,
                 accepted,
+                cause,
             )
         }
     }

@@ -30,6 +30,7 @@ impl Engine for Stray {
         place: &mut u64,
         orders: &mut u64,
         accepted: &mut u64,
+        cause: &mut u64,
     ) -> u64 {
         let beside = match self {
             Stray::ReadsPast => flow.as_ptr().wrapping_add(flow.len()),
@@ -39,7 +40,7 @@ impl Engine for Stray {
         let read = unsafe { beside.read_volatile() };
         // A memory checker may wait until a value is used.
         let flow = if read == 0 { &flow.to_vec() } else { flow };
-        Reference.flow(table, flow, outcomes, place, orders, accepted)
+        Reference.flow(table, flow, outcomes, place, orders, accepted, cause)
     }
 
     fn execute(&self, table: &mut [u8], body: &[u8], notice: &Notice, cents: &mut u64) -> u64 {

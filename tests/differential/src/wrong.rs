@@ -24,6 +24,8 @@ pub enum Fault {
     OutcomesCleared,
     /// The place of a field is counted without the byte order mark.
     PlaceWithoutMark,
+    /// A text that is too long is called misformed.
+    LongCalledMisformed,
     /// The last bytes of an entry aren't looked at.
     EntryRestIgnored,
     /// Annulled orders are no used slots.
@@ -35,7 +37,7 @@ pub enum Fault {
 }
 
 /// All of them.
-pub const FAULTS: [Fault; 11] = [
+pub const FAULTS: [Fault; 12] = [
     Fault::CodesAsIntegers,
     Fault::StaleAmounts,
     Fault::AnnulloByNumber,
@@ -43,6 +45,7 @@ pub const FAULTS: [Fault; 11] = [
     Fault::HalfApplied,
     Fault::OutcomesCleared,
     Fault::PlaceWithoutMark,
+    Fault::LongCalledMisformed,
     Fault::EntryRestIgnored,
     Fault::AnnulledNotUsed,
     Fault::CentsOnRefusal,
@@ -122,10 +125,11 @@ impl Engine for Wrong {
         place: &mut u64,
         orders: &mut u64,
         accepted: &mut u64,
+        cause: &mut u64,
     ) -> u64 {
         let before = table.to_vec();
         let mut scratch = self.mended(table);
-        let code = Reference.flow(&mut scratch, flow, outcomes, place, orders, accepted);
+        let code = Reference.flow(&mut scratch, flow, outcomes, place, orders, accepted, cause);
         if code == 0 {
             table.copy_from_slice(&scratch);
         }
@@ -133,7 +137,7 @@ impl Engine for Wrong {
             Fault::CodesAsIntegers if matches!(code, 0 | 7) => {
                 table.copy_from_slice(&before);
                 let renamed = self.renamed(table, flow).unwrap_or_default();
-                return Reference.flow(table, &renamed, outcomes, place, orders, accepted);
+                return Reference.flow(table, &renamed, outcomes, place, orders, accepted, cause);
             }
             Fault::StaleAmounts if code == 0 => {
                 let slots = HEAD + ENTRY * number_at(table, 0, 2) as usize;
@@ -179,6 +183,7 @@ impl Engine for Wrong {
                 let cut = [&good[..ends[0].max(ends[1])], b"</flusso_ordinativi>"].concat();
                 reference::flow(table, &cut, &mut [0; 1024]);
             }
+            Fault::LongCalledMisformed if *cause == 2 => *cause = 3,
             Fault::OutcomesCleared if code == 0 => outcomes[16 * *orders as usize..].fill(0),
             Fault::PlaceWithoutMark if code == 5 && markup::read(flow).is_some() && flow.starts_with(b"\xEF\xBB\xBF") => {
                 *place -= 3

@@ -48,11 +48,12 @@ fn the_same_seed_makes_the_same_case() {
     }
 }
 
-/// Every code of document 01 is answered somewhere, by a call or for an order.
+/// Every code of document 01 is answered somewhere, by a call or for an order, and every cause.
 #[test]
 fn every_code_is_reached() {
     let mut yard = Yard::default();
     let mut reached = [0; 23];
+    let mut causes = [0; 5];
     for theme in THEMES {
         for case in cases_of(theme, 300) {
             let mut table = case.table.clone();
@@ -60,6 +61,7 @@ fn every_code_is_reached() {
                 let served = yard.serve(&Reference, &mut table, call).unwrap();
                 reached[served.answer.code() as usize] += 1;
                 if let differential::Answer::Flow(answer) = served.answer {
+                    causes[answer.cause as usize] += 1;
                     let codes = served.outcomes.chunks(16).take(answer.orders as usize).map(|outcome| outcome[2]);
                     codes.for_each(|code| reached[usize::from(code)] += 1);
                 }
@@ -67,6 +69,7 @@ fn every_code_is_reached() {
         }
     }
     assert!(reached.iter().all(|&times| times > 0), "times each code was answered: {reached:?}");
+    assert!(causes.iter().all(|&times| times > 0), "times each cause was answered: {causes:?}");
 }
 
 #[test]
@@ -127,8 +130,9 @@ fn unwritten_results_are_found() {
             place: &mut u64,
             orders: &mut u64,
             accepted: &mut u64,
+            cause: &mut u64,
         ) -> u64 {
-            Reference.flow(table, flow, outcomes, place, orders, accepted)
+            Reference.flow(table, flow, outcomes, place, orders, accepted, cause)
         }
         fn execute(&self, table: &mut [u8], body: &[u8], notice: &reference::Notice, cents: &mut u64) -> u64 {
             Reference.execute(table, body, notice, cents)

@@ -15,6 +15,8 @@ pub struct FlowAnswer {
     pub orders: u64,
     /// How many of them got outcome code 0.
     pub accepted: u64,
+    /// What is wrong with the field that breaks with code 5, 1 to 4, else 0.
+    pub cause: u64,
 }
 
 /// What a notice of execution or reversal names, besides the body.
@@ -109,32 +111,44 @@ pub fn request(abi: &[u8; 5], bodies: &[(&[u8], u16)]) -> Vec<u8> {
 /// Takes a flow: serves its orders one after another and writes 16 outcome bytes for each.
 pub fn flow(table: &mut [u8], flow: &[u8], outcomes: &mut [u8]) -> FlowAnswer {
     match taken(table, flow, outcomes.len()) {
-        Err((code, place)) => FlowAnswer { code, place: place as u64, ..FlowAnswer::default() },
+        Err(Refused { code, place, cause }) => FlowAnswer { code, place: place as u64, cause, ..FlowAnswer::default() },
         Ok((changed, written)) => {
             table.copy_from_slice(&changed.encode());
             outcomes[..written.len()].copy_from_slice(&written);
             let codes = written.chunks(OUTCOME).map(|outcome| outcome[2]);
-            FlowAnswer { code: 0, place: 0, orders: codes.len() as u64, accepted: codes.filter(|&code| code == 0).count() as u64 }
+            let orders = codes.len() as u64;
+            FlowAnswer { orders, accepted: codes.filter(|&code| code == 0).count() as u64, ..FlowAnswer::default() }
         }
     }
 }
 
-/// The table after the flow and the outcome bytes, or the refusal's code and place.
-fn taken(table: &[u8], flow: &[u8], room: usize) -> Result<(Table, Vec<u8>), (u64, usize)> {
-    let mut table = Table::decode(table).ok_or((1, 0))?;
+/// A flow's refusal. Only a field that breaks has a place and a cause.
+struct Refused {
+    code: u64,
+    place: usize,
+    cause: u64,
+}
+
+fn refused(code: u64) -> Refused {
+    Refused { code, place: 0, cause: 0 }
+}
+
+/// The table after the flow and the outcome bytes, or the refusal.
+fn taken(table: &[u8], flow: &[u8], room: usize) -> Result<(Table, Vec<u8>), Refused> {
+    let mut table = Table::decode(table).ok_or(refused(1))?;
     if flow.len() > LONGEST_FLOW {
-        return Err((2, 0));
+        return Err(refused(2));
     }
-    let root = markup::read(flow).ok_or((3, 0))?;
-    let raw = structure::read(&root).ok_or((4, 0))?;
-    let flow = fields::read(&raw).map_err(|place| (5, place))?;
+    let root = markup::read(flow).ok_or(refused(3))?;
+    let raw = structure::read(&root).ok_or(refused(4))?;
+    let flow = fields::read(&raw).map_err(|broken| Refused { code: 5, place: broken.at, cause: broken.cause as u64 })?;
     if flow.abi != table.abi {
-        return Err((6, 0));
+        return Err(refused(6));
     }
-    let body = table.body_mut(&flow.body).ok_or((7, 0))?;
+    let body = table.body_mut(&flow.body).ok_or(refused(7))?;
     debug_assert!((1..=MOST_ORDERS).contains(&flow.orders.len()));
     if room < OUTCOME * flow.orders.len() {
-        return Err((8, 0));
+        return Err(refused(8));
     }
     let mut outcomes = Vec::new();
     for order in &flow.orders {

@@ -47,37 +47,80 @@ pub struct FlowOrder {
     pub lines: Vec<(u16, u64)>,
 }
 
-/// Reads every field of the flow, in the order they stand in; `Err` has the place of the first that breaks.
-pub fn read(raw: &RawFlow) -> Result<Flow, usize> {
-    let abi = read_field(&raw.abi, abi)?;
-    read_field(&raw.identifier, identifier)?;
-    read_field(&raw.created, date_and_time)?;
-    let body = read_field(&raw.body, body_code)?;
-    let esercizio = read_field(&raw.esercizio, esercizio)?;
+/// What is wrong with a field, numbered as in document 02, Req 03.
+#[derive(Clone, Copy, Debug, PartialEq, Eq)]
+pub enum Cause {
+    /// Empty.
+    Empty = 1,
+    /// Longer than the longest allowed text.
+    Long = 2,
+    /// Wrong form.
+    Form = 3,
+    /// Right form but a value outside its range.
+    Range = 4,
+}
+
+/// The first field that breaks.
+#[derive(Clone, Copy, Debug, PartialEq, Eq)]
+pub struct Broken {
+    /// The place of its element's `<`.
+    pub at: usize,
+    /// What is wrong with it.
+    pub cause: Cause,
+}
+
+/// The shapes of a number, a date and a time, `0` standing for any digit: a text of such a shape that breaks has a value outside its range.
+const YEAR: &[&[u8]] = &[b"0000"];
+const NUMBER: &[&[u8]] = &[b"0", b"00", b"000", b"0000", b"00000", b"000000", b"0000000"];
+const DATE: &[&[u8]] = &[b"0000-00-00"];
+const DATE_AND_TIME: &[&[u8]] = &[b"0000-00-00T00:00:00"];
+
+/// The cause of a text that breaks.
+fn cause(text: &[u8], longest: usize, shapes: &[&[u8]]) -> Cause {
+    let shaped: Vec<u8> = text.iter().map(|byte| if byte.is_ascii_digit() { b'0' } else { *byte }).collect();
+    if text.is_empty() {
+        Cause::Empty
+    } else if text.len() > longest {
+        Cause::Long
+    } else if shapes.contains(&&shaped[..]) {
+        Cause::Range
+    } else {
+        Cause::Form
+    }
+}
+
+/// Reads every field of the flow, in the order they stand in; `Err` has the first that breaks.
+pub fn read(raw: &RawFlow) -> Result<Flow, Broken> {
+    let abi = read_field(&raw.abi, abi, 5, &[])?;
+    read_field(&raw.identifier, identifier, 35, &[])?;
+    read_field(&raw.created, date_and_time, 19, DATE_AND_TIME)?;
+    let body = read_field(&raw.body, body_code, 16, &[])?;
+    let esercizio = read_field(&raw.esercizio, esercizio, 4, YEAR)?;
     let orders = raw.orders.iter().map(read_order).collect::<Result<_, _>>()?;
     Ok(Flow { abi, body, esercizio, orders })
 }
 
-fn read_order(raw: &RawOrder) -> Result<FlowOrder, usize> {
+fn read_order(raw: &RawOrder) -> Result<FlowOrder, Broken> {
     Ok(FlowOrder {
         kind: raw.kind,
-        operation: read_field(&raw.operation, operation)?,
-        number: read_field(&raw.number, number)?,
-        date: read_field(&raw.date, date)?,
-        total: read_field(&raw.total, amount)?,
+        operation: read_field(&raw.operation, operation, 12, &[])?,
+        number: read_field(&raw.number, number, 7, NUMBER)?,
+        date: read_field(&raw.date, date, 10, DATE)?,
+        total: read_field(&raw.total, amount, 12, &[])?,
         lines: raw.lines.iter().map(read_line).collect::<Result<_, _>>()?,
     })
 }
 
-fn read_line(raw: &RawLine) -> Result<(u16, u64), usize> {
-    let progressivo = read_field(&raw.progressivo, progressivo)?;
-    let amount = read_field(&raw.amount, amount)?;
-    read_field(&raw.name, party_name)?;
+fn read_line(raw: &RawLine) -> Result<(u16, u64), Broken> {
+    let progressivo = read_field(&raw.progressivo, progressivo, 3, &[])?;
+    let amount = read_field(&raw.amount, amount, 12, &[])?;
+    // A name that breaks is empty or too long, and one that is too long by its own count has still more bytes.
+    read_field(&raw.name, party_name, 140, &[])?;
     Ok((progressivo, amount))
 }
 
-fn read_field<T>(field: &Field, form: fn(&[u8]) -> Option<T>) -> Result<T, usize> {
-    form(field.text).ok_or(field.at)
+fn read_field<T>(field: &Field, form: fn(&[u8]) -> Option<T>, longest: usize, shapes: &[&[u8]]) -> Result<T, Broken> {
+    form(field.text).ok_or_else(|| Broken { at: field.at, cause: cause(field.text, longest, shapes) })
 }
 
 /// The number that `least` to `most` digits write; `None` for anything else.
@@ -247,6 +290,21 @@ mod tests {
         for broken in ["", "0123456789abcdefg", "4 71", "47-1", "471\0", "47\u{e0}"] {
             assert!(body_code(broken.as_bytes()).is_none(), "{broken}");
         }
+    }
+
+    #[test]
+    fn causes_in_their_order() {
+        assert_eq!(cause(b"", 7, NUMBER), Cause::Empty);
+        assert_eq!(cause(b"00000000", 7, NUMBER), Cause::Long);
+        assert_eq!(cause(b"&amp;&amp;", 7, NUMBER), Cause::Long);
+        assert_eq!(cause(b"1a", 7, NUMBER), Cause::Form);
+        assert_eq!(cause(b"0", 7, NUMBER), Cause::Range);
+        assert_eq!(cause(b"2021-02-29", 10, DATE), Cause::Range);
+        assert_eq!(cause(b"2021-2-29", 10, DATE), Cause::Form);
+        assert_eq!(cause(b"2021-02-29T00:00:0x", 19, DATE_AND_TIME), Cause::Form);
+        assert_eq!(cause(b"CANCELLATO", 12, &[]), Cause::Form);
+        assert_eq!(cause(b"CANCELLAZIONE", 12, &[]), Cause::Long);
+        assert_eq!(cause(b"00.50", 12, &[]), Cause::Form);
     }
 
     #[test]
