@@ -2,11 +2,11 @@
 // a line of the output has what the code answers beside it, and says `touched` where outcome bytes that should stay did not. Calls: open (request, length),
 // flow (flow, room), execute and reverse (body, kind, esercizio, number, line, year, month, day), totals (body), poke (place, byte: damages the table),
 // long (a flow of so many zero bytes), first (year, month, day).
+use calendar::Date;
 use casebook::number;
 use casebook::say;
 use casebook::say_next;
 use casebook::say_number;
-use calendar::Date;
 use desk::FlowAnswer;
 use notices::NoticeAnswer;
 use opening::Opened;
