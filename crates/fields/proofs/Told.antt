@@ -125,7 +125,7 @@ module _ (f : Form) (t : List ℕ) where
     stands-by : fieldStands f t ≡ judged (not e && (not l && (b && r)))
     stands-by = exact ∙ rw (x, y, z, u)
 
-  broken : (w : Cause) → causeOf f t ≡ w → fieldStands f t ≡ Breaks → readingOf f t ≡ reading.Breaks w
+  pub broken : (w : Cause) → causeOf f t ≡ w → fieldStands f t ≡ Breaks → readingOf f t ≡ reading.Breaks w
   unfolding fieldStands
   broken w c = go (fieldValue f t)
     where
@@ -133,7 +133,7 @@ module _ (f : Form) (t : List ℕ) where
       go (some v) s = let q : _≡_ {A = ℕ} 0 1 = cc in absurd (omega arith)
       go none s = rw c
 
-  breaks : (w : Cause) → readingOf f t ≡ reading.Breaks w → (causeOf f t ≡ w) × (fieldStands f t ≡ Breaks)
+  pub breaks : (w : Cause) → readingOf f t ≡ reading.Breaks w → (causeOf f t ≡ w) × (fieldStands f t ≡ Breaks)
   unfolding fieldStands
   breaks w = go (fieldValue f t)
     where

@@ -10,6 +10,7 @@ use Rattle.fields.specs.declared.Judged.{Judged}
 use Rattle.fields.specs.declared.Judged.the-variants.{Stands, Breaks}
 use Rattle.fields.specs.Causes.{causeOf}
 use Rattle.fields.specs.Fields.{fieldStands}
+use Rattle.fields.proofs.Told.{broken, breaks}
 use Rattle.rows.specs.declared.Parent.{Parent}
 use Rattle.standing.specs.Readings.{Field, firstBad, badOr, Place, Nowhere}
 use Rattle.tree.specs.Tree.{Trees}
@@ -70,11 +71,11 @@ bad-first (f ∷ fs) p c e = go (fieldStands (f .form) (f .text)) refl e (bad-fi
     go : (w : Judged) → fieldStands (f .form) (f .text) ≡ w → badOr (f .lt) (causeOf (f .form) (f .text)) (firstBad fs) w ≡ Place p c → (firstBad fs ≡ Place p c → FirstBreaks fs p c)
         → FirstBreaks (f ∷ fs) p c
     go Stands z h i = later z (i h)
-    go Breaks z h i = let y : f .lt ≡ p = cc in let x : causeOf (f .form) (f .text) ≡ c = cc in here z y x
+    go Breaks z h i = let y : f .lt ≡ p = cc in let x : causeOf (f .form) (f .text) ≡ c = cc in here (broken (f .form) (f .text) c x z) y
 
 pub first-bad : (fs : List Field) (p : ℕ) (c : Cause) → FirstBreaks fs p c → firstBad fs ≡ Place p c
 unfolding firstBad
-first-bad fs p c (here {f = f} e z y) = rw (e, z, y)
+first-bad fs p c (here {f = f} e z) = let k = breaks (f .form) (f .text) c e in rw (k .1, z, k .0)
 first-bad fs p c (later {fs = gs} e b) = rw (e, first-bad gs p c b)
 
 -- of two lists

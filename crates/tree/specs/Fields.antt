@@ -3,9 +3,9 @@ use mathlib.Core.Path.{_≡_}
 use Prim.Native.Nat.{ℕ}
 use mathlib.Core.List.{List, [], _∷_, _++_}
 use Rattle.fields.specs.declared.Cause.{Cause}
-use Rattle.fields.specs.declared.Judged.the-variants.{Stands, Breaks}
-use Rattle.fields.specs.Causes.{causeOf}
-use Rattle.fields.specs.Fields.{fieldStands}
+use Rattle.fields.specs.declared.Judged.the-variants.{Stands}
+use Rattle.fields.specs.declared.Reading.the-variants.{Breaks}
+use Rattle.fields.specs.Fields.{readingOf, fieldStands}
 use Rattle.rows.specs.declared.Parent.{Parent}
 use Rattle.rows.specs.declared.Holds.the-variants.{Text, Rows}
 use Rattle.rows.specs.Table.{table}
@@ -31,14 +31,13 @@ unfoldable mutual
   allFields none q = []
   allFields (more t ts) q = treeFields t q ++ allFields ts q
 
--- each has its form
+-- each stands
 pub data AllStand : List Field → Type 0 where
   all-none : AllStand []
   all-next : {f : Field} {fs : List Field} → fieldStands (f .form) (f .text) ≡ Stands → AllStand fs → AllStand (f ∷ fs)
 
--- "a field breaks; place is the byte of < of the first such element": the first that hasn't its form stands at p, and c is its cause
--- (document 02, Req 03: "Answer 5 names a byte but no cause .. the flow's answer carries it")
+-- "a field breaks; place is the byte of < of the first such element": the first that breaks stands at p, and c is the cause that its reading tells
+-- (document 02, Req 03: "Every field reading tells one, and the flow's answer carries it")
 pub data FirstBreaks : List Field → ℕ → Cause → Type 0 where
-  here : {f : Field} {fs : List Field} {p : ℕ} {c : Cause} → fieldStands (f .form) (f .text) ≡ Breaks → f .lt ≡ p → causeOf (f .form) (f .text) ≡ c
-      → FirstBreaks (f ∷ fs) p c
+  here : {f : Field} {fs : List Field} {p : ℕ} {c : Cause} → readingOf (f .form) (f .text) ≡ Breaks c → f .lt ≡ p → FirstBreaks (f ∷ fs) p c
   later : {f : Field} {fs : List Field} {p : ℕ} {c : Cause} → fieldStands (f .form) (f .text) ≡ Stands → FirstBreaks fs p c → FirstBreaks (f ∷ fs) p c
