@@ -1,8 +1,8 @@
 -- One law for each way out of a flow's call.
-use mathlib.Core.Path.{_≡_, refl, sym, ap, subst, _∙_}
-use mathlib.Core.List.{List, [], _++_, map}
+use mathlib.Core.Path.{_≡_, refl, ap, subst, _∙_}
+use mathlib.Core.List.{List, map}
 use mathlib.Core.Bool.{Bool, true, false}
-use Prim.Native.Nat.{ℕ, zero, suc, _+_, _*_, _-_, _≤_, _<_}
+use Prim.Native.Nat.{ℕ, _*_, _-_, _≤_, _<_}
 use native.Mathlib.Omega.{arith}
 use lib.ListN.{length}
 use borrow.Author.Tests.{le-leb, lt-leb}
@@ -10,7 +10,6 @@ use Rattle.scan.specs.Bytes.{isWhite, textIs}
 use Rattle.scan.proofs.Laws.{run-within}
 use Rattle.tokens.specs.Tokens.{whiteAt}
 use Rattle.words.specs.Numbers.{put}
-use Rattle.words.proofs.Laws.{put-nil, put-put}
 use Rattle.markup.specs.Noted.{Noted}
 use Rattle.rows.specs.declared.Parent.the-variants.{FlussoOrdinativi}
 use Rattle.order.specs.Ordinativo.{Ordinativo, ordinativo}

@@ -253,7 +253,7 @@ pub record Sound (s : List ℕ) (i : ℕ) : Type 0 where
   pub standing : Standing FlussoOrdinativi s i
   pub fields : all (standsIn 3 s) (keptFrom FlussoOrdinativi s i) ≡ true
 
-pub sound : (s : List ℕ) (at : ℕ) → Stood s at → Sound s (whiteAt s at)
+pub sound : (s : List ℕ) (at : ℕ) → Stood FlussoOrdinativi s at → Sound s (whiteAt s at)
 unfolding fieldsAt
 sound s at h = record { standing = standing FlussoOrdinativi s at (h .fits); fields = each-stands 3 s (keptFrom FlussoOrdinativi s (whiteAt s at)) (h .fields) }
 
@@ -286,7 +286,7 @@ each-ok (suc n) s i h w = go (nextOf (those isOrder (keptFrom FlussoOrdinativi s
         let b = sound-next s i k w e in
         rw (a .rest) (b .0, ih (k .child .after) (omega arith) (b .1))
 
-pub orders-ok : (s : List ℕ) (at : ℕ) → Stood s at → Each OrderOk (flowOrders s at)
+pub orders-ok : (s : List ℕ) (at : ℕ) → Stood FlussoOrdinativi s at → Each OrderOk (flowOrders s at)
 orders-ok s at h = each-ok (suc (length s - whiteAt s at)) s (whiteAt s at) (omega arith) (sound s at h)
 
 orders-length : (s : List ℕ) (ks : List Kept) → length (ordersOf s ks) ≡ length ks
@@ -360,7 +360,7 @@ module _ (s : List ℕ) (i j1 j2 j3 j4 j5 : ℕ) (a : Header-at CodiceAbi (drop 
       let m : length (map ordinativo (ordersIn s ks)) ≡ length js = length-map (ordersIn s ks) ordinativo ∙ orders-length s (those isOrder ks) ∙ ap length (orders-row s i ∙ z) in
       (omega (arith, o .least), omega (arith, o .most))
 
-pub header-ok : (s : List ℕ) (at : ℕ) → Stood s at → HeaderOk (headerOf s at) × ((1 ≤ length (flowOrders s at)) × (length (flowOrders s at) ≤ 64))
+pub header-ok : (s : List ℕ) (at : ℕ) → Stood FlussoOrdinativi s at → HeaderOk (headerOf s at) × ((1 ≤ length (flowOrders s at)) × (length (flowOrders s at) ≤ 64))
 header-ok s at h =
     let i = whiteAt s at in
     let p = FlussoOrdinativi in

@@ -9,7 +9,7 @@ use Rattle.order.specs.Ordinativo.{Ordinativo}
 use Rattle.orders.specs.Orders.{Header, those, textIn as ordersTextIn, inside, lineOf, linesOf, eight, linesIn, orderOf, ordersOf}
 use Rattle.codes.specs.declared.Operation.the-variants.{Variazione, Annullo}
 use Rattle.flow.specs.declared.Verdict.the-variants.{FieldBreaks, Stands}
-use Rattle.flow.specs.Flow.{headerOf, flowOrders, verdictOf}
+use Rattle.flow.specs.Flow.{headerOf, flowOrders, verdictBy, verdictOf}
 use Rattle.table.specs.Table.{tableOk}
 use Rattle.desk.specs.declared.FlowAnswer.the-variants.{BrokenField}
 use Rattle.desk.specs.Desk.{refused, maxFlow, forBank, flowReads}
@@ -24,8 +24,8 @@ use Rattle.digits.specs.Digits.{digitsAfter, digits, esercizio, numero, zeroInF
 use Rattle.dates.specs.Dates.{dataOf, clock, dataOra}
 use Rattle.names.specs.Names.{tailBy, meantBy, replacedAfter, anagrafica}
 use Rattle.fields.specs.Fields.{fieldStands}
-use Rattle.tokens.specs.Tokens.{repeat, until, nameAt, pieceAt, textAt, endTagAt, optionalAt}
-use Rattle.markup.specs.Markup.{elementBy, childBy, childrenBy, contentBy, elementAt, contentAt, rootAt, markupOf}
+use Rattle.tokens.specs.Tokens.{repeat, until, nameAt, tagEndAt, pieceAt, textAt, endTagAt, optionalAt}
+use Rattle.markup.specs.Markup.{elementBy, childBy, childrenBy, contentBy, elementAt, contentAt, rootAt, rootFrom, markupOf}
 use Rattle.children.specs.Child.{childAt, childrenBy as childrenChildrenBy, childrenFrom}
 use Rattle.rows.specs.Kept.{keep, keptFrom}
 use Rattle.rows.specs.Table.{nameIs}
@@ -48,7 +48,7 @@ pub record Flows : Type 0 where
   pub annulled : ReadAs annulling (headerFor "471") (orderTo Annullo 1 ∷ [])
 
 pub flows : Flows
-unfolding isLetter isDigit isAlnum isNameByte isWhite all run runEnd startsWith hasAt textIs isChar sized isTail charSize pastOr charAt leap monthLength isDate isIdentifying codiceAbi identificativo codiceEnte tipoOperazione digitsAfter digits esercizio numero zeroInFront importo progressivo dataOf clock dataOra tailBy meantBy replacedAfter anagrafica fieldStands repeat until nameAt pieceAt textAt endTagAt optionalAt elementBy childBy childrenBy contentBy elementAt contentAt rootAt markupOf childAt childrenChildrenBy childrenFrom keep keptFrom nameIs structureAll rowsOf inOrder textOnly fitBy fitsAt fieldsBy fieldsAt firstBad those ordersTextIn inside lineOf linesOf eight linesIn orderOf ordersOf verdictOf
+unfolding isLetter isDigit isAlnum isNameByte isWhite all run runEnd startsWith hasAt textIs isChar sized isTail charSize pastOr charAt leap monthLength isDate isIdentifying codiceAbi identificativo codiceEnte tipoOperazione digitsAfter digits esercizio numero zeroInFront importo progressivo dataOf clock dataOra tailBy meantBy replacedAfter anagrafica fieldStands repeat until nameAt tagEndAt pieceAt textAt endTagAt optionalAt elementBy childBy childrenBy contentBy elementAt contentAt rootAt rootFrom markupOf childAt childrenChildrenBy childrenFrom keep keptFrom nameIs structureAll rowsOf inOrder textOnly fitBy fitsAt fieldsBy fieldsAt firstBad those ordersTextIn inside lineOf linesOf eight linesIn orderOf ordersOf verdictBy
 flows = record {
   own = record { at = 19; short = refl; stands = refl; header = refl; orders = refl };
   other = record { at = 19; short = refl; stands = refl; header = refl; orders = refl };
