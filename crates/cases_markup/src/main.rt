@@ -3,35 +3,35 @@
 use casebook::say;
 use casebook::say_column;
 use casebook::say_number;
-use scan::Walk;
+use markup::Markup;
 ghost use mathlib.Core.Path.{_≡_};
 ghost use Prim.Native.Nat.{_≤_, _<_};
 ghost use lib.ListN.{length};
 
-fn say_verdict(w: Walk) {
+fn say_verdict(w: Markup) {
     match w {
-        Walk::Past(p) => {
+        Markup::Root(p, _, _) => {
             say(b"stands at ");
             say_number(p as u64);
         }
-        Walk::Broken(_) => say(b"breaks"),
+        Markup::Breaks(_) => say(b"breaks"),
     }
 }
 
-fn say_place(w: Walk) {
+fn say_place(w: Markup) {
     match w {
-        Walk::Past(_) => say(b"stands"),
-        Walk::Broken(p) => {
+        Markup::Root(_, _, _) => say(b"stands"),
+        Markup::Breaks(p) => {
             say(b"breaks at ");
             say_number(p as u64);
         }
     }
 }
 
-fn stands(w: Walk) -> bool {
+fn stands(w: Markup) -> bool {
     match w {
-        Walk::Past(_) => true,
-        Walk::Broken(_) => false,
+        Markup::Root(_, _, _) => true,
+        Markup::Breaks(_) => false,
     }
 }
 
@@ -62,7 +62,7 @@ fn stands_with(flow: &[u8], b: u64) -> bool {
         return false;
     }
     let f = filled(flow, b as u8);
-    stands(markup::markup_of(&f[..n]))
+    stands(markup::markup_of(&f[..n], false))
 }
 
 fn before_stands(flow: &[u8], b: u64) -> bool {
@@ -101,10 +101,10 @@ fn say_bytes(flow: &[u8]) {
 
 fn say_seen(kind: &[u8], flow: &[u8]) {
     if scan::same(kind, b"flow") {
-        return say_verdict(markup::markup_of(flow));
+        return say_verdict(markup::markup_of(flow, false));
     }
     if scan::same(kind, b"place") {
-        return say_place(markup::markup_of(flow));
+        return say_place(markup::markup_of(flow, false));
     }
     say_bytes(flow)
 }
@@ -157,10 +157,10 @@ fn long_text() {
     f[69998] = b'a';
     f[69999] = b'>';
     say(b"a text of 69993 bytes: ");
-    say_verdict(markup::markup_of(&f));
+    say_verdict(markup::markup_of(&f, false));
     say(b", expected stands at 0\nthe same with the end tag of b: ");
     f[69998] = b'b';
-    say_verdict(markup::markup_of(&f));
+    say_verdict(markup::markup_of(&f, false));
     say(b", expected breaks\n");
 }
 

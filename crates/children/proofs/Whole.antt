@@ -1,21 +1,20 @@
 -- Where the markup stands, the children are all there: the root is a child, and a content's children reach to its end tag.
-use mathlib.Core.Path.{_≡_, refl, ap, _∙_}
+use mathlib.Core.Path.{_≡_, refl, _∙_}
 use mathlib.Core.List.{List, [], _∷_}
 use mathlib.Core.Bool.{Bool, true, false, cond, not, _&&_}
-use Prim.Native.Nat.{ℕ, zero, suc, _+_, _-_, _/_, _%_, _≤_, _<_}
+use Prim.Native.Nat.{ℕ, zero, suc, _+_, _-_, _/_, _≤_, _<_}
 use native.Mathlib.Numerals.{add-one}
 use native.Mathlib.Omega.{arith}
 use lib.ListN.{length, getD, drop}
 use lib.Seq.{drop-cons}
 use lib.Dec.{eqb}
 use borrow.Author.Tests.{eqb-true, eqb-false}
-use Rattle.scan.specs.declared.Walk.{Walk}
-use Rattle.scan.specs.declared.Walk.the-variants.{Past, Broken}
+use Rattle.scan.specs.declared.Walk.the-variants.{Past}
 use Rattle.scan.specs.Bytes.{bytes, byteAt, part, isLetter, startsWith, hasAt}
 use Rattle.scan.proofs.Laws.{never, both, cond-past, has-past}
 use Rattle.tokens.specs.Tokens.{andThen, repeat, until, whiteAt, nameAt, endTagAt}
 use Rattle.tokens.proofs.Laws.{then-past, name-past, end-past}
-use Rattle.markup.specs.Markup.{childBy, childrenBy, contentBy, elementAt, contentAt, rootAt, markupOf}
+use Rattle.markup.specs.Markup.{childBy, childrenBy, contentBy, elementAt, contentAt}
 use Rattle.markup.proofs.Laws.{Parts, parts}
 use Rattle.markup.specs.declared.Told.the-variants.{Ends}
 use Rattle.markup.specs.Noted.{Noted, noteOf}
@@ -23,7 +22,7 @@ use Rattle.markup.proofs.Noted.{element-more, noted-read}
 use Rattle.children.specs.declared.Child.{Child}
 use Rattle.children.specs.declared.Step.the-variants.{One, End}
 use Rattle.children.specs.Child.{childAt, childTo, childrenFrom}
-use Rattle.children.proofs.Laws.{child-none, child-no-name, child-one, child-beyond, children-end, children-one}
+use Rattle.children.proofs.Laws.{child-none, child-no-name, child-one, children-end, children-one}
 
 -- an element of the markup, one level more or less
 element-parts : (s : List ℕ) (at q : ℕ) → elementAt 12 s at ≡ Past q → (e p : ℕ) × Parts (contentAt 12 s) s at e p q
@@ -68,28 +67,6 @@ known s i e q l h b = let k = element-parts s (i + 1) q h in let u = k .2 .name 
 -- and so is one that is noted
 pub child-noted : (s past : List ℕ) (i k q : ℕ) → byteAt s i ≡ 60 → Noted s past → Ends k q ≡ noteOf past (i + 1) → Noted-at s i (i + 1 + k) q
 child-noted s past i k q l h w = let t = noted-read s past (i + 1) k q h w in known s i (i + 1 + k) q l (t .0) (t .1)
-
--- THE ROOT: the only child, and the flow ends with it
-root-by : (s : List ℕ) (r m q : ℕ) → m ≡ r → byteAt s m ≡ 60 → elementAt 12 s (m + 1) ≡ Past q → whiteAt s q ≡ length s → (c : Child) × (childAt s r ≡ One c) × (c .after ≡ length s)
-root-by s r m q z l e w = let k = child-of s r q (rw (← z) l) (rw (← z) e) in (k .0, k .1, k .2 ∙ w)
-
-abbrev ended : List ℕ → ℕ → Walk
-ended s q = cond (eqb (whiteAt s q) (length s)) (Past (rootAt s)) (Broken (whiteAt s q))
-
-pub root-child : (s : List ℕ) (r : ℕ) → markupOf s ≡ Past r → (c : Child) × (childAt s r ≡ One c) × (c .after ≡ length s)
-unfolding markupOf
-root-child s r e =
-    let c = cond-past (eqb (byteAt s (rootAt s)) 60) (andThen (elementAt 12 s (rootAt s + 1)) (ended s)) (rootAt s) e in
-    let t = then-past (elementAt 12 s (rootAt s + 1)) (ended s) (c .1) in
-    let d = cond-past (eqb (whiteAt s (t .0)) (length s)) (Past (rootAt s)) (whiteAt s (t .0)) (t .2) in
-    let f = d .1 in
-    let z : rootAt s ≡ r = cc in
-    root-by s r (rootAt s) (t .0) z (eqb-true _ _ (c .0)) (t .1) (eqb-true _ _ (d .0))
-
-pub root-alone : (s : List ℕ) (r : ℕ) → markupOf s ≡ Past r → (c : Child) × (childAt s r ≡ One c) × (childrenFrom s r ≡ c ∷ [])
-root-alone s r e =
-    let k = root-child s r e in
-    (k .0, k .1, children-one s r (k .0) (k .1) ∙ ap (λ cs. k .0 ∷ cs) (children-end s (k .0 .after) (child-beyond s (k .0 .after) (omega (arith, k .2)))))
 
 -- CHILDREN
 -- where a list of children that begins at i ends

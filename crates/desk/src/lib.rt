@@ -4,6 +4,7 @@ use address::Addressed;
 use fields::Cause;
 use flow::Verdict;
 use header::Heading;
+use rows::Parent;
 ghost use mathlib.Core.Path.{_≡_};
 ghost use mathlib.Core.Bool.{true};
 ghost use Prim.Native.Nat.{ℕ, _+_, _*_, _≤_, _<_};
@@ -11,12 +12,13 @@ ghost use lib.ListN.{length};
 ghost use Rattle.markup.specs.Noted.{Noted};
 ghost use Rattle.record.specs.Slot.{slotSize};
 ghost use Rattle.table.specs.Table.{tableOk};
+ghost use Rattle.rows.specs.declared.Parent.the-variants.{FlussoOrdinativi};
 ghost use Rattle.flow.specs.declared.Verdict.the-variants.{Stands};
-ghost use Rattle.header.specs.Heading.{headingFrom};
+ghost use Rattle.header.specs.Heading.{headerBy, Within};
 ghost use Rattle.flow.specs.Flow.{verdictOf, headerOf, flowOrders};
-ghost use Rattle.desk.specs.Desk.{forBank, maxFlow, Gives, FlowPromise, SameReply, flowReply};
+ghost use Rattle.desk.specs.Desk.{withRoom, forBank, maxFlow, Gives, FlowPromise, SameReply, flowReply};
 ghost use Rattle.serving.specs.Served.{ordersFrom, Rooted};
-ghost use Rattle.desk.specs.Steps.{headerFrom, roomFor, bodyFor};
+ghost use Rattle.desk.specs.Steps.{bodyFor};
 
 // What a flow's call answers.
 pub enum FlowAnswer {
@@ -51,38 +53,40 @@ fn with_room(
     out: &mut [u8],
     past: &[u32],
 ) -> FlowAnswer
-    requires { ⌜ (base + slotSize * n ≤ length (now t)) × Rooted (now f) (now past) from × (length (now f) ≤ maxFlow)
-        × (year ≡ headerFrom (now f) from .esercizio) ⌝ }
+    requires { ⌜ (base + slotSize * n ≤ length (now t)) × Rooted FlussoOrdinativi (now f) (now past) from × (length (now f) ≤ maxFlow) ⌝ }
     ensures { λ r. ⌜ Gives (now (t .entry)) (now (out .entry))
-        (roomFor (length (now (out .entry))) (headerFrom (now (f .entry)) from) (ordersFrom (now (f .entry)) from) base n) r (now (t .exit)) (now (out .exit)) ⌝ }
+        (withRoom (length (now (out .entry))) base n year (ordersFrom FlussoOrdinativi (now (f .entry)) from)) r (now (t .exit)) (now (out .exit)) ⌝ }
 {
-    let count = orders::count_orders(f, from, past);
+    let count = orders::count_orders(f, from, Parent::FlussoOrdinativi, past);
     if out.len() < service::OUTCOME * count {
         return FlowAnswer::NoRoom;
     }
     FlowAnswer::Taken(
         count,
-        serving::serve_all(t, f, from, base, n, year, out, past),
+        serving::serve_all(
+            t,
+            f,
+            from,
+            Parent::FlussoOrdinativi,
+            base,
+            n,
+            year,
+            out,
+            past,
+        ),
     )
 }
 
 // The orders of a flow, for the body with the flow's code: 7, or as the room says.
-fn for_body(
-    t: &mut [u8],
-    f: &[u8],
-    from: usize,
-    h: Heading,
-    out: &mut [u8],
-    past: &[u32],
-) -> FlowAnswer
-    requires { ⌜ (tableOk (now t) ≡ true) × Rooted (now f) (now past) from × (length (now f) ≤ maxFlow) × (h ≡ headingFrom (now f) from) ⌝ }
+fn for_body(t: &mut [u8], f: &[u8], h: Heading, out: &mut [u8], past: &[u32]) -> FlowAnswer
+    requires { ⌜ (tableOk (now t) ≡ true) × Within (now f) h × Rooted FlussoOrdinativi (now f) (now past) (h .orders) × (length (now f) ≤ maxFlow) ⌝ }
     ensures { λ r. ⌜ Gives (now (t .entry)) (now (out .entry))
-        (bodyFor (now (t .entry)) (length (now (out .entry))) (headerFrom (now (f .entry)) from) (ordersFrom (now (f .entry)) from)) r (now (t .exit)) (now (out .exit)) ⌝ }
+        (bodyFor (now (t .entry)) (length (now (out .entry))) (headerBy (now (f .entry)) h) (ordersFrom FlussoOrdinativi (now (f .entry)) (h .orders))) r (now (t .exit)) (now (out .exit)) ⌝ }
 {
     let w = h.ente;
     let ente = header::part_at(f, w);
     match address::body_named(t, ente) {
-        Addressed::Body(_, base, n) => with_room(t, f, from, h.esercizio, base, n, out, past),
+        Addressed::Body(_, base, n) => with_room(t, f, h.orders, h.esercizio, base, n, out, past),
         Addressed::Unknown => FlowAnswer::UnknownBody,
         Addressed::Invalid => FlowAnswer::InvalidTable,
     }
@@ -101,7 +105,7 @@ fn for_bank(t: &mut [u8], f: &[u8], at: usize, out: &mut [u8], past: &[u32]) -> 
     if !scan::same(abi, &t[8..13]) {
         return FlowAnswer::OtherBank;
     }
-    for_body(t, f, from, h, out, past)
+    for_body(t, f, h, out, past)
 }
 
 // Reads a flow that is not too long, noting in `past` where its elements end, and serves it.

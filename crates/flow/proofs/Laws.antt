@@ -1,24 +1,20 @@
--- What a flow's verdict says of it: one law for each way out of the code, and what a flow that stands satisfies.
+-- What a document's verdict says of it: one law for each way out of the code, and what a document that stands satisfies.
 use mathlib.Core.Path.{_≡_, refl, _∙_}
 use mathlib.Core.List.{List}
 use mathlib.Core.Bool.{Bool, true, false, cond, _&&_}
 use Prim.Native.Nat.{ℕ, _+_, _≤_}
 use native.Mathlib.Omega.{arith}
 use lib.ListN.{length}
-use Rattle.scan.specs.declared.Walk.{Walk}
-use Rattle.scan.specs.declared.Walk.the-variants.{Past, Broken}
 use Rattle.scan.specs.Bytes.{bytes}
+use Rattle.markup.specs.declared.Markup.{Markup}
+use Rattle.markup.specs.declared.Markup.the-variants.{Root, Breaks}
 use Rattle.markup.specs.Markup.{markupOf}
-use Rattle.children.specs.declared.Child.{Child}
-use Rattle.children.specs.declared.Step.{Step}
-use Rattle.children.specs.declared.Step.the-variants.{One, End}
-use Rattle.rows.specs.declared.Parent.the-variants.{FlussoOrdinativi}
-use Rattle.children.specs.Child.{childAt}
-use Rattle.rows.specs.Table.{nameIs}
-use Rattle.children.proofs.Laws.{child-lies}
-use Rattle.children.proofs.Whole.{root-child}
-use Rattle.structure.specs.Structure.{fitsAt}
+use Rattle.markup.proofs.Laws.{markup-parts, root-placed}
 use Rattle.fields.specs.declared.Cause.{Cause}
+use Rattle.rows.specs.declared.Parent.{Parent}
+use Rattle.rows.specs.declared.Parent.the-variants.{FlussoOrdinativi}
+use Rattle.rows.specs.Table.{nameIs}
+use Rattle.structure.specs.Structure.{fitsAt}
 use Rattle.standing.specs.declared.Standing.{Standing}
 use Rattle.standing.specs.declared.Standing.the-variants as standing
 use Rattle.standing.specs.Readings.{Bad, Place, Nowhere, fieldsAt, firstBad}
@@ -27,24 +23,18 @@ use Rattle.standing.specs.Shown.{Shown}
 use Rattle.standing.proofs.Shown.{bad-shown}
 use Rattle.flow.specs.declared.Verdict.{Verdict}
 use Rattle.flow.specs.declared.Verdict.the-variants.{MarkupBreaks, StructureBreaks, FieldBreaks, Stands}
-use Rattle.flow.specs.Flow.{byFields, byRoot, byMarkup, verdictOf}
+use Rattle.flow.specs.Flow.{byFields, byRoot, byMarkup, verdictBy, verdictOf}
 
--- the root's name is the flow's
-abbrev pub isFlow : List ℕ → Child → Bool
-isFlow s c = nameIs (bytes "flusso_ordinativi") s (c .lt + 1) (c .gt)
+-- the root's places lie in the document
+pub record Lies (s : List ℕ) (lt e at : ℕ) : Type 0 where
+  pub named : lt + 1 ≤ e
+  pub inside : e ≤ length s
+  pub within : at ≤ length s
 
--- its content has the structure of its table, and the first of its fields that breaks
-abbrev pub fitsFlow : List ℕ → ℕ → Bool
-fitsFlow s at = fitsAt 4 FlussoOrdinativi s at
+pub root-lies : (ids : Bool) (s : List ℕ) (lt e at : ℕ) → markupOf ids s ≡ Root lt e at → Lies s lt e at
+root-lies ids s lt e at m = let l = root-placed s (markup-parts ids s lt e at m .2) in record { named = omega arith; inside = omega arith; within = omega arith }
 
-abbrev pub badOf : List ℕ → ℕ → Bad
-badOf s at = firstBad (fieldsAt 4 FlussoOrdinativi s at)
-
--- the root stands in the flow
-pub root-within : (s : List ℕ) (r : ℕ) → markupOf s ≡ Past r → r ≤ length s
-root-within s r e = let k = root-child s r e in let l = child-lies s r (k .0) (k .1) .1 in omega arith
-
--- what the root's content comes to, as the flow's verdict
+-- what the root's content comes to, as the document's verdict
 abbrev pub byStanding : ℕ → Standing → Verdict
 byStanding at standing.StructureBreaks = StructureBreaks
 byStanding at (standing.FieldBreaks p c) = FieldBreaks p c
@@ -55,71 +45,72 @@ by-fields at true (Place p c) = refl
 by-fields at true Nowhere = refl
 by-fields at false b = refl
 
--- THE WAYS OUT
-pub flow-broken : (s : List ℕ) (p : ℕ) → markupOf s ≡ Broken p → verdictOf s ≡ MarkupBreaks p
-unfolding verdictOf
-flow-broken s p e = rw e
+module _ (x : List ℕ) (p : Parent) where
+  -- THE WAYS OUT
+  module _ (ids : Bool) (s : List ℕ) where
+    pub document-broken : (q : ℕ) → markupOf ids s ≡ Breaks q → verdictBy x p ids s ≡ MarkupBreaks q
+    unfolding verdictBy
+    document-broken q e = rw e
 
-pub flow-rooted : (s : List ℕ) (r : ℕ) → markupOf s ≡ Past r → verdictOf s ≡ byRoot s (childAt s r)
-unfolding verdictOf
-flow-rooted s r e = rw e
+    pub document-rooted : (lt e at : ℕ) → markupOf ids s ≡ Root lt e at → verdictBy x p ids s ≡ byRoot x p s lt e at
+    unfolding verdictBy
+    document-rooted lt e at m = rw m
 
-module _ (s : List ℕ) (r : ℕ) where
-  pub root-none : childAt s r ≡ End → byRoot s (childAt s r) ≡ StructureBreaks
-  root-none e = rw e
+  module _ (s : List ℕ) (lt e at : ℕ) where
+    pub root-other : nameIs x s (lt + 1) e ≡ false → byRoot x p s lt e at ≡ StructureBreaks
+    root-other n = rw n
 
-  module _ (c : Child) (e : childAt s r ≡ One c) where
-    pub root-other : isFlow s c ≡ false → byRoot s (childAt s r) ≡ StructureBreaks
-    root-other n = rw (e, n)
-
-    pub root-judged : (w : Standing) → isFlow s c ≡ true → standingAt 4 FlussoOrdinativi s (c .gt + 1) ≡ w → byRoot s (childAt s r) ≡ byStanding (c .gt + 1) w
+    pub root-judged : (w : Standing) → nameIs x s (lt + 1) e ≡ true → standingAt 4 p s at ≡ w → byRoot x p s lt e at ≡ byStanding at w
     unfolding standingAt
-    root-judged w n f = rw (e, n, ← f) (by-fields (c .gt + 1) (fitsFlow s (c .gt + 1)) (badOf s (c .gt + 1)))
+    root-judged w n f = rw (n, ← f) (by-fields at (fitsAt 4 p s at) (firstBad (fieldsAt 4 p s at)))
 
--- A FLOW THAT STANDS
-pub record Stood (s : List ℕ) (at : ℕ) : Type 0 where
+-- A DOCUMENT THAT STANDS
+pub record Stood (p : Parent) (s : List ℕ) (at : ℕ) : Type 0 where
   pub within : at ≤ length s
-  pub fits : fitsAt 4 FlussoOrdinativi s at ≡ true
-  pub fields : firstBad (fieldsAt 4 FlussoOrdinativi s at) ≡ Nowhere
+  pub fits : fitsAt 4 p s at ≡ true
+  pub fields : firstBad (fieldsAt 4 p s at) ≡ Nowhere
 
-pub flow-stood : (s : List ℕ) (at : ℕ) → verdictOf s ≡ Stands at → Stood s at
-unfolding verdictOf
-flow-stood s at e = walk (markupOf s) e
-  where
-    fields : (x : ℕ) (b : Bad) → badOf s x ≡ b → x ≤ length s → fitsFlow s x ≡ true → byFields x b ≡ Stands at → Stood s at
-    fields x (Place p c) h l f e = let z : _≡_ {A = ℕ} 0 1 = cc in absurd (omega arith)
-    fields x Nowhere h l f e = let z : x ≡ at = cc in rw (← z) (record { within = l; fits = f; fields = h })
+module _ (x : List ℕ) (p : Parent) (ids : Bool) (s : List ℕ) where
+  abbrev bad : ℕ → Bad
+  bad at = firstBad (fieldsAt 4 p s at)
 
-    cut : (x : ℕ) (n f : Bool) → fitsFlow s x ≡ f → x ≤ length s → cond (n && f) (byFields x (badOf s x)) StructureBreaks ≡ Stands at → Stood s at
-    cut x true true f l e = fields x (badOf s x) refl l f e
-    cut x true false f l e = let z : _≡_ {A = ℕ} 0 1 = cc in absurd (omega arith)
-    cut x false f g l e = let z : _≡_ {A = ℕ} 0 1 = cc in absurd (omega arith)
+  pub document-stood : (at : ℕ) → verdictBy x p ids s ≡ Stands at → Stood p s at
+  unfolding verdictBy
+  document-stood at h = walk (markupOf ids s) refl h
+    where
+      fields : (c : ℕ) (b : Bad) → bad c ≡ b → c ≤ length s → fitsAt 4 p s c ≡ true → byFields c b ≡ Stands at → Stood p s at
+      fields c (Place q y) h l f e = let z : _≡_ {A = ℕ} 0 1 = cc in absurd (omega arith)
+      fields c Nowhere h l f e = let z : c ≡ at = cc in rw (← z) (record { within = l; fits = f; fields = h })
 
-    root : (r : ℕ) (w : Step) → childAt s r ≡ w → byRoot s w ≡ Stands at → Stood s at
-    root r (One c) h e = let l = child-lies s r c h .1 in cut (c .gt + 1) (isFlow s c) (fitsFlow s (c .gt + 1)) refl (omega arith) e
-    root r End h e = let z : _≡_ {A = ℕ} 0 1 = cc in absurd (omega arith)
+      cut : (c : ℕ) (n f : Bool) → fitsAt 4 p s c ≡ f → c ≤ length s → cond (n && f) (byFields c (bad c)) StructureBreaks ≡ Stands at → Stood p s at
+      cut c true true f l e = fields c (bad c) refl l f e
+      cut c true false f l e = let z : _≡_ {A = ℕ} 0 1 = cc in absurd (omega arith)
+      cut c false f g l e = let z : _≡_ {A = ℕ} 0 1 = cc in absurd (omega arith)
 
-    walk : (w : Walk) → byMarkup s w ≡ Stands at → Stood s at
-    walk (Past r) e = root r (childAt s r) refl e
-    walk (Broken p) e = let z : _≡_ {A = ℕ} 0 1 = cc in absurd (omega arith)
+      walk : (w : Markup) → markupOf ids s ≡ w → byMarkup x p s w ≡ Stands at → Stood p s at
+      walk (Root lt e c) m h = cut c (nameIs x s (lt + 1) e) (fitsAt 4 p s c) refl (root-lies ids s lt e c m .within) h
+      walk (Breaks q) m h = let z : _≡_ {A = ℕ} 0 1 = cc in absurd (omega arith)
 
--- A FIELD THAT BREAKS is shown by its place
+  -- a field that breaks is shown by its place
+  pub document-shown : (q : ℕ) (y : Cause) → verdictBy x p ids s ≡ FieldBreaks q y → Shown s q y
+  unfolding verdictBy
+  document-shown q y h = walk (markupOf ids s) h
+    where
+      fields : (c : ℕ) (b : Bad) → bad c ≡ b → byFields c b ≡ FieldBreaks q y → Shown s q y
+      fields c (Place r w) h e = let z : Place r w ≡ Place q y = cc in bad-shown 4 p s c q y (h ∙ z)
+      fields c Nowhere h e = let z : _≡_ {A = ℕ} 0 1 = cc in absurd (omega arith)
+
+      cut : (c : ℕ) (n : Bool) → cond n (byFields c (bad c)) StructureBreaks ≡ FieldBreaks q y → Shown s q y
+      cut c true e = fields c (bad c) refl e
+      cut c false e = let z : _≡_ {A = ℕ} 0 1 = cc in absurd (omega arith)
+
+      walk : (w : Markup) → byMarkup x p s w ≡ FieldBreaks q y → Shown s q y
+      walk (Root lt e c) h = cut c (nameIs x s (lt + 1) e && fitsAt 4 p s c) h
+      walk (Breaks r) h = let z : _≡_ {A = ℕ} 0 1 = cc in absurd (omega arith)
+
+-- A FLOW
+pub flow-stood : (s : List ℕ) (at : ℕ) → verdictOf s ≡ Stands at → Stood FlussoOrdinativi s at
+flow-stood = document-stood (bytes "flusso_ordinativi") FlussoOrdinativi false
+
 pub flow-shown : (s : List ℕ) (q : ℕ) (y : Cause) → verdictOf s ≡ FieldBreaks q y → Shown s q y
-unfolding verdictOf
-flow-shown s q y e = walk (markupOf s) e
-  where
-    fields : (x : ℕ) (b : Bad) → badOf s x ≡ b → byFields x b ≡ FieldBreaks q y → Shown s q y
-    fields x (Place p c) h e = let z : Place p c ≡ Place q y = cc in bad-shown 4 FlussoOrdinativi s x q y (h ∙ z)
-    fields x Nowhere h e = let z : _≡_ {A = ℕ} 0 1 = cc in absurd (omega arith)
-
-    cut : (x : ℕ) (n : Bool) → cond n (byFields x (badOf s x)) StructureBreaks ≡ FieldBreaks q y → Shown s q y
-    cut x true e = fields x (badOf s x) refl e
-    cut x false e = let z : _≡_ {A = ℕ} 0 1 = cc in absurd (omega arith)
-
-    root : (w : Step) → byRoot s w ≡ FieldBreaks q y → Shown s q y
-    root (One c) e = cut (c .gt + 1) (isFlow s c && fitsFlow s (c .gt + 1)) e
-    root End e = let z : _≡_ {A = ℕ} 0 1 = cc in absurd (omega arith)
-
-    walk : (w : Walk) → byMarkup s w ≡ FieldBreaks q y → Shown s q y
-    walk (Past r) e = root (childAt s r) e
-    walk (Broken p) e = let z : _≡_ {A = ℕ} 0 1 = cc in absurd (omega arith)
+flow-shown = document-shown (bytes "flusso_ordinativi") FlussoOrdinativi false

@@ -7,6 +7,7 @@ use Prim.Native.Nat.{ℕ, zero, suc, _+_, _-_, _≤_, _<_}
 use native.Mathlib.Omega.{arith}
 use lib.ListN.{length, getD, take, drop, replicate, length-map}
 use lib.Seq.{take-take, take-at}
+use lib.Dec.{eqb}
 use borrow.Author.Tests.{eqb-true}
 use Rattle.scan.specs.Bytes.{isWhite}
 use Rattle.scan.proofs.Laws.{run-within}
@@ -37,6 +38,7 @@ use Rattle.rows.specs.declared.Next.{Next}
 use Rattle.rows.specs.declared.Next.the-variants.{Named, Done}
 use Rattle.rows.specs.Table.{table}
 use Rattle.rows.specs.Kept.{keptFrom, nextOf}
+use Rattle.children.proofs.Laws.{Lies}
 use Rattle.rows.proofs.Laws.{next-at, next-done}
 use Rattle.structure.specs.Structure.{Range, ranges, allKept, keptHolds, fitsAt}
 use Rattle.structure.proofs.Laws.{HeldIn, fits-parts, all-next, order-last}
@@ -45,8 +47,8 @@ use Rattle.standing.proofs.Readings.{orBad, bad-append}
 use Rattle.order.specs.declared.Line.{Line}
 use Rattle.order.specs.Ordinativo.{Ordinativo, ordinativo}
 use Rattle.orders.specs.Shape.{orderRows, lineRows, Shaped, Filled}
-use Rattle.orders.specs.Orders.{inRow, textIn, valueOf, dateOf, lineOf, linesOf, noLine, eight, linesIn, kindOf, orderBy, orderOf, ordersOf, Header, headerIn, ordersIn}
-use Rattle.orders.proofs.Laws.{one, held-at, row-at, ofRow, in-row-all, found, found-some, shaped-inside, Standing, order-at, orders-end, standing, lines-length}
+use Rattle.orders.specs.Orders.{those, ofRow, inRow, textIn, valueOf, dateOf, lineOf, linesOf, noLine, eight, linesIn, kindOf, orderBy, orderOf, ordersOf, holdsOrder, isOrder, ordersIn, Header, headerIn}
+use Rattle.orders.proofs.Laws.{one, held-at, those-at, those-done, those-other, those-one, those-all, found, found-some, shaped-inside, Standing, order-held, order-at, orders-end, standing, lines-length}
 use Rattle.flow.specs.Flow.{headerOf, flowOrders}
 use Rattle.bounds.specs.Bounds.{maxCents}
 use Rattle.flow.proofs.Laws.{Stood}
@@ -225,7 +227,7 @@ module _ (s : List ℕ) (p q : Parent) (t : OrderTable p q) (i j1 j2 j3 j4 : ℕ
       let js = keptFrom p s j4 in
       let f = d .on in
       let o = order-last (record { least = 1; most = 8 }) 4 js (f .filled .rows) in
-      let z : inRow 4 ks ≡ js = a .later 4 (omega arith) ∙ b .later 4 (omega arith) ∙ c .later 4 (omega arith) ∙ d .later 4 (omega arith) ∙ in-row-all 4 js (o .rows) in
+      let z : inRow 4 ks ≡ js = a .later 4 (omega arith) ∙ b .later 4 (omega arith) ∙ c .later 4 (omega arith) ∙ d .later 4 (omega arith) ∙ those-all (ofRow 4) js (o .rows) in
       let w : take (length (inRow 4 ks)) (eight (linesOf s (inRow 4 ks))) ≡ linesOf s js = lines-there (linesOf s (inRow 4 ks)) (length (inRow 4 ks)) (lines-length s (inRow 4 ks)) (rw z (o .most)) ∙ ap (linesOf s) z in
       let m = lines-length s js in
       let l : (j : ℕ) → LineOk (getD (linesOf s js) j noLine) = lines-ok (suc (length s - j4)) p q s j4 (omega arith) t (o .rows) (f .filled .each) (f .fields) in
@@ -250,22 +252,22 @@ order-ok s k p q t h v w e =
 
 -- ORDERS, as the walk goes
 pub record Sound (s : List ℕ) (i : ℕ) : Type 0 where
-  pub standing : Standing s i
+  pub standing : Standing FlussoOrdinativi s i
   pub fields : allKept (standsIn 3 s) (keptFrom FlussoOrdinativi s i) ≡ true
 
-pub sound : (s : List ℕ) (at : ℕ) → Stood s at → Sound s (whiteAt s at)
+pub sound : (s : List ℕ) (at : ℕ) → Stood FlussoOrdinativi s at → Sound s (whiteAt s at)
 unfolding fieldsAt
-sound s at h = record { standing = standing s at (h .fits); fields = each-stands 3 s (keptFrom FlussoOrdinativi s (whiteAt s at)) (h .fields) }
+sound s at h = record { standing = standing FlussoOrdinativi s at (h .fits); fields = each-stands 3 s (keptFrom FlussoOrdinativi s (whiteAt s at)) (h .fields) }
 
-pub sound-next : (s : List ℕ) (i : ℕ) (k : Kept) → Sound s i → nextOf (inRow 5 (keptFrom FlussoOrdinativi s i)) ≡ Named k → OrderOk (ordinativo (orderOf s k)) × Sound s (k .child .after)
+pub sound-next : (s : List ℕ) (i : ℕ) (k : Kept) → Sound s i → nextOf (those isOrder (keptFrom FlussoOrdinativi s i)) ≡ Named k → OrderOk (ordinativo (orderOf s k)) × Sound s (k .child .after)
 sound-next s i k h e =
-    let a = order-at s i k (h .standing) e in
-    let r = row-at 5 FlussoOrdinativi s i k e in
+    let a = order-at FlussoOrdinativi s i k (h .standing) e in
+    let r = those-at isOrder FlussoOrdinativi s i k e in
     let b = r .every (standsIn 3 s) (h .fields) in (
       ⊎-elim
           (λ m. order-ok s k Mandato InformazioniBeneficiario mandato (sym m) (omega arith) (a .shaped) (b .0))
-          (⊎-elim (λ m. order-ok s k Reversale InformazioniVersante reversale (sym m) (omega arith) (a .shaped) (b .0)) (λ m. absurd m))
-          (r .held),
+          (λ m. order-ok s k Reversale InformazioniVersante reversale (sym m) (omega arith) (a .shaped) (b .0))
+          (order-held (k .holds) (r .is)),
       record { standing = a .on; fields = b .1 },
     )
 
@@ -276,23 +278,61 @@ Each f (o ∷ os) = f o × Each f os
 
 each-ok : (n : ℕ) (s : List ℕ) (i : ℕ) → length s - i < n → Sound s i → Each OrderOk (map ordinativo (ordersIn s (keptFrom FlussoOrdinativi s i)))
 each-ok zero s i h w = absurd (omega arith)
-each-ok (suc n) s i h w = go (nextOf (inRow 5 (keptFrom FlussoOrdinativi s i))) refl (each-ok n s)
+each-ok (suc n) s i h w = go (nextOf (those isOrder (keptFrom FlussoOrdinativi s i))) refl (each-ok n s)
   where
-    go : (x : Next) → nextOf (inRow 5 (keptFrom FlussoOrdinativi s i)) ≡ x → ((j : ℕ) → length s - j < n → Sound s j → Each OrderOk (map ordinativo (ordersIn s (keptFrom FlussoOrdinativi s j)))) → Each OrderOk (map ordinativo (ordersIn s (keptFrom FlussoOrdinativi s i)))
-    go Done e ih = rw (orders-end s i e) tt
+    go : (x : Next) → nextOf (those isOrder (keptFrom FlussoOrdinativi s i)) ≡ x → ((j : ℕ) → length s - j < n → Sound s j → Each OrderOk (map ordinativo (ordersIn s (keptFrom FlussoOrdinativi s j)))) → Each OrderOk (map ordinativo (ordersIn s (keptFrom FlussoOrdinativi s i)))
+    go Done e ih = rw (orders-end FlussoOrdinativi s i e) tt
     go (Named k) e ih =
-        let a = order-at s i k (w .standing) e in
+        let a = order-at FlussoOrdinativi s i k (w .standing) e in
         let l = a .lies in
         let b = sound-next s i k w e in
         rw (a .rest) (b .0, ih (k .child .after) (omega arith) (b .1))
 
-pub orders-ok : (s : List ℕ) (at : ℕ) → Stood s at → Each OrderOk (flowOrders s at)
+pub orders-ok : (s : List ℕ) (at : ℕ) → Stood FlussoOrdinativi s at → Each OrderOk (flowOrders s at)
 orders-ok s at h = each-ok (suc (length s - whiteAt s at)) s (whiteAt s at) (omega arith) (sound s at h)
 
 orders-length : (s : List ℕ) (ks : List Kept) → length (ordersOf s ks) ≡ length ks
 unfolding ordersOf
 orders-length s [] = refl
 orders-length s (k ∷ ks) = ap suc (orders-length s ks)
+
+-- THE ORDERS ARE ROW 5 of the root's table
+row-held : (n : ℕ) (h : Holds) → HeldIn (table FlussoOrdinativi) n h → holdsOrder h ≡ eqb n 5
+row-held zero h w = rw (only h w)
+row-held (suc zero) h w = rw (only h w)
+row-held (suc (suc zero)) h w = rw (only h w)
+row-held (suc (suc (suc zero))) h w = rw (only h w)
+row-held (suc (suc (suc (suc zero)))) h w = rw (only h w)
+row-held (suc (suc (suc (suc (suc zero))))) h w = ⊎-elim (λ e. rw (← e)) (⊎-elim (λ e. rw (← e)) (λ e. absurd e)) w
+row-held (suc (suc (suc (suc (suc (suc n)))))) h w = absurd w
+
+module _ (s : List ℕ) where
+  abbrev kids : ℕ → List Kept
+  kids i = keptFrom FlussoOrdinativi s i
+
+  row-by : (n i : ℕ) → length s - i < n → those isOrder (kids i) ≡ inRow 5 (kids i)
+  row-by zero i h = absurd (omega arith)
+  row-by (suc n) i h = go (nextOf (kids i)) refl (row-by n)
+    where
+      go : (x : Next) → nextOf (kids i) ≡ x → ((j : ℕ) → length s - j < n → those isOrder (kids j) ≡ inRow 5 (kids j)) → those isOrder (kids i) ≡ inRow 5 (kids i)
+      go Done e ih = those-done isOrder FlussoOrdinativi s i e ∙ sym (those-done (ofRow 5) FlussoOrdinativi s i e)
+      go (Named k) e ih = at (ofRow 5 k) refl
+        where
+          l : Lies s i (k .child)
+          l = next-at FlussoOrdinativi s i k e .lies
+
+          same : isOrder k ≡ ofRow 5 k
+          same = row-held (k .row) (k .holds) (held-at FlussoOrdinativi s i k e)
+
+          rest : those isOrder (kids (k .child .after)) ≡ inRow 5 (kids (k .child .after))
+          rest = ih (k .child .after) (omega (arith, l))
+
+          at : (b : Bool) → ofRow 5 k ≡ b → those isOrder (kids i) ≡ inRow 5 (kids i)
+          at true g = those-one isOrder FlussoOrdinativi s i k e (same ∙ g) ∙ ap (λ t. k ∷ t) rest ∙ sym (those-one (ofRow 5) FlussoOrdinativi s i k e g)
+          at false g = those-other isOrder FlussoOrdinativi s i k e (same ∙ g) ∙ rest ∙ sym (those-other (ofRow 5) FlussoOrdinativi s i k e g)
+
+  pub orders-row : (i : ℕ) → those isOrder (kids i) ≡ inRow 5 (kids i)
+  orders-row i = row-by (suc (length s - i)) i (omega arith)
 
 -- THE HEADER, and how many orders there are
 abbrev flowRows : List Range
@@ -318,11 +358,11 @@ module _ (s : List ℕ) (i j1 j2 j3 j4 j5 : ℕ) (a : Header-at CodiceAbi (drop 
       let ks = keptFrom FlussoOrdinativi s i in
       let js = keptFrom FlussoOrdinativi s j5 in
       let o = order-last (record { least = 1; most = 64 }) 5 js (e .on .filled .rows) in
-      let z : inRow 5 ks ≡ js = a .later 5 (omega arith) ∙ b .later 5 (omega arith) ∙ c .later 5 (omega arith) ∙ d .later 5 (omega arith) ∙ e .later 5 (omega arith) ∙ in-row-all 5 js (o .rows) in
-      let m : length (map ordinativo (ordersIn s ks)) ≡ length js = length-map (ordersIn s ks) ordinativo ∙ orders-length s (inRow 5 ks) ∙ ap length z in
+      let z : inRow 5 ks ≡ js = a .later 5 (omega arith) ∙ b .later 5 (omega arith) ∙ c .later 5 (omega arith) ∙ d .later 5 (omega arith) ∙ e .later 5 (omega arith) ∙ those-all (ofRow 5) js (o .rows) in
+      let m : length (map ordinativo (ordersIn s ks)) ≡ length js = length-map (ordersIn s ks) ordinativo ∙ orders-length s (those isOrder ks) ∙ ap length (orders-row s i ∙ z) in
       (omega (arith, o .least), omega (arith, o .most))
 
-pub header-ok : (s : List ℕ) (at : ℕ) → Stood s at → HeaderOk (headerOf s at) × ((1 ≤ length (flowOrders s at)) × (length (flowOrders s at) ≤ 64))
+pub header-ok : (s : List ℕ) (at : ℕ) → Stood FlussoOrdinativi s at → HeaderOk (headerOf s at) × ((1 ≤ length (flowOrders s at)) × (length (flowOrders s at) ≤ 64))
 header-ok s at h =
     let i = whiteAt s at in
     let p = FlussoOrdinativi in

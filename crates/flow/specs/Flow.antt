@@ -1,17 +1,16 @@
 -- A whole flow (document 01, "Answers", codes 3 to 5, "Checked in that order, each over the whole flow"): what breaks, or its header and orders.
 use Prim.Native.Nat.{ℕ, _+_}
 use mathlib.Core.List.{List, map}
-use mathlib.Core.Bool.{cond, _&&_}
-use Rattle.scan.specs.declared.Walk.{Walk}
-use Rattle.scan.specs.declared.Walk.the-variants.{Past, Broken}
+use Prim.Native.String.{String}
+use mathlib.Core.Bool.{Bool, false, cond, _&&_}
 use Rattle.scan.specs.Bytes.{bytes}
 use Rattle.tokens.specs.Tokens.{whiteAt}
+use Rattle.markup.specs.declared.Markup.{Markup}
+use Rattle.markup.specs.declared.Markup.the-variants.{Root, Breaks}
 use Rattle.markup.specs.Markup.{markupOf}
-use Rattle.children.specs.declared.Step.{Step}
-use Rattle.children.specs.declared.Step.the-variants.{One, End}
+use Rattle.rows.specs.declared.Parent.{Parent}
 use Rattle.rows.specs.declared.Parent.the-variants.{FlussoOrdinativi}
 use Rattle.rows.specs.declared.Kept.{Kept}
-use Rattle.children.specs.Child.{childAt}
 use Rattle.rows.specs.Table.{nameIs}
 use Rattle.rows.specs.Kept.{keptFrom}
 use Rattle.structure.specs.Structure.{fitsAt, levels}
@@ -26,21 +25,33 @@ abbrev pub byFields : ℕ → Bad → Verdict
 byFields at (Place p c) = FieldBreaks p c
 byFields at Nowhere = Stands at
 
--- the root is flusso_ordinativi and has the structure of its table
-abbrev pub byRoot : List ℕ → Step → Verdict
-byRoot s (One c) =
-    cond (nameIs (bytes "flusso_ordinativi") s (c .lt + 1) (c .gt) && fitsAt levels FlussoOrdinativi s (c .gt + 1))
-    (byFields (c .gt + 1) (firstBad (fieldsAt levels FlussoOrdinativi s (c .gt + 1))))
-    StructureBreaks
-byRoot s End = StructureBreaks
+-- the root has the name x, which stands from the byte after its < up to e, and its content at `at` the structure of the parent's table
+abbrev pub byRoot : List ℕ → Parent → List ℕ → ℕ → ℕ → ℕ → Verdict
+byRoot x p s lt e at = cond (nameIs x s (lt + 1) e && fitsAt levels p s at) (byFields at (firstBad (fieldsAt levels p s at))) StructureBreaks
 
-abbrev pub byMarkup : List ℕ → Walk → Verdict
-byMarkup s (Past r) = byRoot s (childAt s r)
-byMarkup s (Broken p) = MarkupBreaks p
+abbrev pub byMarkup : List ℕ → Parent → List ℕ → Markup → Verdict
+byMarkup x p s (Root lt e at) = byRoot x p s lt e at
+byMarkup x p s (Breaks q) = MarkupBreaks q
 
--- markup over the whole flow, then structure, then fields
-unfoldable pub verdictOf : List ℕ → Verdict
-verdictOf s = byMarkup s (markupOf s)
+-- markup over the whole document, then structure, then fields
+unfoldable pub verdictBy : List ℕ → Parent → Bool → List ℕ → Verdict
+verdictBy x p ids s = byMarkup x p s (markupOf ids s)
+
+-- A KIND OF DOCUMENT: its root's name, the parent whose rows its root holds, and whether an Id may stand on its root
+pub record Kind : Type 0 where
+  pub name : String
+  pub parent : Parent
+  pub ids : Bool
+
+abbrev pub documentVerdict : Kind → List ℕ → Verdict
+documentVerdict k = verdictBy (bytes (k .name)) (k .parent) (k .ids)
+
+-- A FLOW: "flusso_ordinativi (root)", and "No attributes"
+abbrev pub flusso : Kind
+flusso = record { name = "flusso_ordinativi"; parent = FlussoOrdinativi; ids = false }
+
+abbrev pub verdictOf : List ℕ → Verdict
+verdictOf = documentVerdict flusso
 
 -- OF A FLOW THAT STANDS, its root's content beginning at `at`
 

@@ -1,17 +1,15 @@
-// A whole flow: markup, then structure, then fields, each over all of it.
-use children::Step;
+// A whole flow, or another document of rows: markup, then structure, then fields, each over all of it.
 use fields::Cause;
+use markup::Markup;
 use rows::Parent;
-use scan::Walk;
 use standing::Standing;
 ghost use mathlib.Core.Path.{_≡_};
-ghost use Prim.Native.Nat.{_≤_};
+ghost use Prim.Native.Nat.{_+_, _≤_};
 ghost use lib.ListN.{length};
 ghost use Rattle.markup.specs.Noted.{Noted};
-ghost use Rattle.children.specs.Child.{childAt};
-ghost use Rattle.flow.specs.Flow.{byRoot, verdictOf};
+ghost use Rattle.flow.specs.Flow.{byRoot, verdictBy, verdictOf};
 
-// What a flow's reading comes to: what breaks, with its place and a field's cause, or where the root's content begins.
+// What a document's reading comes to: what breaks, with its place and a field's cause, or where the root's content begins.
 pub enum Verdict {
     MarkupBreaks(usize),
     StructureBreaks,
@@ -19,36 +17,53 @@ pub enum Verdict {
     Stands(usize),
 }
 
-// The verdict of a flow whose markup stands, its root at a place.
-fn verdict_at(s: &[u8], root: usize, past: &[u32]) -> Verdict
-    requires { ⌜ (root ≤ length (now s)) × Noted (now s) (now past) ⌝ }
-    ensures { λ r. ⌜ r ≡ byRoot (now (s .entry)) (childAt (now (s .entry)) root) ⌝ }
+// The verdict of a document whose markup stands: its root's name goes from the byte after lt up to e, and its content begins at a place.
+fn verdict_at(
+    s: &[u8],
+    lt: usize,
+    e: usize,
+    at: usize,
+    name: &[u8],
+    root: Parent,
+    past: &[u32],
+) -> Verdict
+    requires { ⌜ (lt + 1 ≤ e) × (e ≤ length (now s)) × (at ≤ length (now s)) × Noted (now s) (now past) ⌝ }
+    ensures { λ r. ⌜ r ≡ byRoot (now (name .entry)) root (now (s .entry)) lt e at ⌝ }
 {
-    let Step::One(c) = children::child_at(s, root, past) else {
-        return Verdict::StructureBreaks;
-    };
-    let a = c.lt + 1;
-    let e = c.gt;
-    if !rows::is(s, a, e, b"flusso_ordinativi") {
+    if !rows::is(s, lt + 1, e, name) {
         return Verdict::StructureBreaks;
     }
-    let at = e + 1;
-    match standing::judge(s, at, Parent::FlussoOrdinativi, 4, past) {
+    match standing::judge(s, at, root, 4, past) {
         Standing::StructureBreaks => Verdict::StructureBreaks,
         Standing::FieldBreaks(p, x) => Verdict::FieldBreaks(p, x),
         Standing::Stands => Verdict::Stands(at),
     }
 }
 
-// A flow's verdict. The notes are the markup pass's, for those who read its orders.
+// The verdict of a document whose root is to have this name and this parent's rows, and may have an Id or not. The notes are the markup pass's,
+// for those who read on.
+pub fn verdict_by(s: &[u8], name: &[u8], root: Parent, ids: bool, past: &mut [u32]) -> Verdict
+    requires { ⌜ Noted (now s) (now past) ⌝ }
+    ensures { λ r. ⌜ (r ≡ verdictBy (now (name .entry)) root ids (now (s .entry))) × Noted (now (s .entry)) (now (past .exit)) ⌝ }
+{
+    match markup::markup_noted(s, ids, past) {
+        Markup::Root(lt, e, at) => verdict_at(s, lt, e, at, name, root, past),
+        Markup::Breaks(p) => Verdict::MarkupBreaks(p),
+    }
+}
+
+// A flow's verdict.
 pub fn verdict_of(s: &[u8], past: &mut [u32]) -> Verdict
     requires { ⌜ Noted (now s) (now past) ⌝ }
     ensures { λ r. ⌜ (r ≡ verdictOf (now (s .entry))) × Noted (now (s .entry)) (now (past .exit)) ⌝ }
 {
-    match markup::markup_noted(s, past) {
-        Walk::Past(root) => verdict_at(s, root, past),
-        Walk::Broken(p) => Verdict::MarkupBreaks(p),
-    }
+    verdict_by(
+        s,
+        b"flusso_ordinativi",
+        Parent::FlussoOrdinativi,
+        false,
+        past,
+    )
 }
 
 // The verdict of any bytes at all.

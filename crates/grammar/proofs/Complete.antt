@@ -17,11 +17,12 @@ use Rattle.scan.specs.Bytes.{bytes, byteAt, part, isLetter, isDigit, isNameByte
 use Rattle.scan.specs.Characters.{isChar, sized, isTail, charSizeAt, charAt}
 use Rattle.scan.specs.References.{whichAt, refAt}
 use Rattle.scan.proofs.Laws.{both, run-more, run-stop, run-end, size-one, size-two, size-three, size-four, char-some}
-use Rattle.tokens.specs.Tokens.{nameAt, whiteAt, pieceAt, textAt, endTagAt, optionalAt}
-use Rattle.tokens.proofs.Laws.{name-some, piece-ref, piece-char, text-stop, text-step, end-some}
-use Rattle.markup.specs.Markup.{childrenBy, elementAt, contentAt, mark, declaration, markupOf}
-use Rattle.markup.proofs.Laws.{content-text, content-empty, content-children, children-stop, children-step, element-ends, root-is, markup-ends}
-use Rattle.grammar.specs.Grammar.{Name, name, White, white, Allowed, Character, one, two, three, four, Piece, char, amp, lt, gt, quot, apos, Pieces, none, more, Without, text, startTag, endTag, Element, element, Content, elements, only, Elements, last, next, Optional, absent, present, Mark, Declaration, Flow, flow, rootPlace}
+use Rattle.tokens.specs.Tokens.{nameAt, idAt, tagEndAt, whiteAt, pieceAt, textAt, endTagAt, optionalAt}
+use Rattle.tokens.proofs.Laws.{name-some, id-some, tag-plain, tag-id, piece-ref, piece-char, text-stop, text-step, end-some}
+use Rattle.markup.specs.Markup.{childrenBy, elementAt, contentAt, mark, declaration, rootFrom, markupOf}
+use Rattle.markup.specs.declared.Markup.the-variants as markup
+use Rattle.markup.proofs.Laws.{content-text, content-empty, content-children, children-stop, children-step, element-ends, root-is, markup-root, root-ends}
+use Rattle.grammar.specs.Grammar.{Name, name, White, white, Allowed, Character, one, two, three, four, Piece, char, amp, lt, gt, quot, apos, Pieces, none, more, Without, text, startTag, endTag, Element, element, Content, elements, only, Elements, last, next, Optional, absent, present, Mark, Declaration, Id, id, RootTag, plain, with-id, root, Document, document, rootPlace, nameEnd, contentPlace}
 use Rattle.grammar.proofs.Parts.{no, not-so, has-part, has-split, has-byte}
 use Rattle.grammar.proofs.Pieces.{other, not-other}
 
@@ -217,15 +218,30 @@ module _ (s : List ℕ) where
   pub white-is : {w : List ℕ} (p : ℕ) → White w → hasAt w s p ≡ true → isWhite (byteAt s (p + length w)) ≡ false → whiteAt s p ≡ p + length w
   white-is p (white {t = w} a) e y = run-end-is s isWhite w p a e y
 
-  pub name-is : {n : List ℕ} (p : ℕ) → Name n → hasAt n s p ≡ true → byteAt s (p + length n) ≡ 62 → (nameAt s p ≡ Past (p + length n)) × (isLetter (byteAt s p) ≡ true)
+  -- a name, with another byte behind it
+  name-by : {n : List ℕ} (p : ℕ) → Name n → hasAt n s p ≡ true → isNameByte (byteAt s (p + length n)) ≡ false → (nameAt s p ≡ Past (p + length n)) × (isLetter (byteAt s p) ≡ true)
   unfolding isNameByte isLetter isDigit all
-  name-is p (name {b = b} {t = t} l a k) e y =
+  name-by p (name {b = b} {t = t} l a k) e y =
       let z = has-byte s b t p e in
       let q : isLetter (byteAt s p) ≡ true = rw z l in
       let n : isNameByte b ≡ true = rw l in
       let m : all isNameByte (b ∷ t) ≡ true = rw (n, a) in
-      let r = run-end-is s isNameByte (b ∷ t) p m e (rw y) in
+      let r = run-end-is s isNameByte (b ∷ t) p m e y in
       (name-some s p q (p + length (b ∷ t)) (sym r) (omega arith), q)
+
+  pub name-is : {n : List ℕ} (p : ℕ) → Name n → hasAt n s p ≡ true → byteAt s (p + length n) ≡ 62 → (nameAt s p ≡ Past (p + length n)) × (isLetter (byteAt s p) ≡ true)
+  unfolding isNameByte isLetter isDigit
+  name-is p na e y = name-by p na e (rw y)
+
+  -- an Id and a > behind it
+  id-is : (v : List ℕ) (p : ℕ) → all isNameByte v ≡ true → 1 ≤ length v → length v ≤ 64 → hasAt (bytes " Id=\"" ++ (v ++ bytes "\">")) s p ≡ true → idAt s p ≡ Past (p + 5 + length v + 2)
+  unfolding isNameByte isLetter isDigit
+  id-is v p a l k h =
+      let b = has-split s (bytes " Id=\"") (v ++ bytes "\">") p (p + 5) refl h in
+      let c = has-split s v (bytes "\">") (p + 5) (p + 5 + length v) refl (b .1) in
+      let y = has-byte s 34 (bytes ">") (p + 5 + length v) (c .1) in
+      let r = run-end-is s isNameByte v (p + 5) a (c .0) (rw y) in
+      id-some s p (b .0) (p + 5 + length v) (sym r) (omega arith) (omega arith) (c .1)
 
   pub end-is : (a e p : ℕ) (n : List ℕ) → e ≡ a + length n → hasAt n s a ≡ true → hasAt (bytes "</") s p ≡ true → hasAt n s (p + 2) ≡ true → byteAt s (p + 2 + length n) ≡ 62 → endTagAt s a e p ≡ Past (p + 2 + length n + 1)
   end-is a e p n z h o k y =
@@ -325,6 +341,68 @@ pub element-is : (s : List ℕ) (d : ℕ) → Reads s d
 element-is s zero p e x h = no-level x
 element-is s (suc d) p e x h = one-more s d (element-is s d) p e x h
 
+-- THE ROOT
+-- what is to be shown of a root's start tag a that stands at p, and of a root
+pub record TagRead (ids : Bool) (s : List ℕ) (p : ℕ) (n a : List ℕ) : Type 0 where
+  pub opens : byteAt s p ≡ 60
+  pub letter : isLetter (byteAt s (p + 1)) ≡ true
+  pub there : hasAt n s (p + 1) ≡ true
+  pub name : nameAt s (p + 1) ≡ Past (p + 1 + length n)
+  pub tag : tagEndAt ids s (p + 1 + length n) ≡ Past (p + length a)
+
+pub id-assoc : (a n b v c d : List ℕ) → a ++ n ++ (b ++ v ++ c) ++ d ≡ a ++ (n ++ (b ++ (v ++ (c ++ d))))
+id-assoc a n b v c d = simp append-assoc
+
+id-tag : (s : List ℕ) (p : ℕ) {n i : List ℕ} → Name n → Id i → hasAt (bytes "<" ++ n ++ i ++ bytes ">") s p ≡ true → TagRead true s p n (bytes "<" ++ n ++ i ++ bytes ">")
+unfolding isNameByte isLetter isDigit
+id-tag s p {n} na (id v a k l) h =
+    let e = p + 1 + length n in
+    let g : hasAt (bytes "<" ++ (n ++ (bytes " Id=\"" ++ (v ++ bytes "\">")))) s p ≡ true = subst (λ (x : List ℕ). hasAt x s p ≡ true) (id-assoc (bytes "<") n (bytes " Id=\"") v (bytes "\"") (bytes ">")) h in
+    let b = has-split s (bytes "<") (n ++ (bytes " Id=\"" ++ (v ++ bytes "\">"))) p (p + 1) refl g in
+    let c = has-split s n (bytes " Id=\"" ++ (v ++ bytes "\">")) (p + 1) e refl (b .1) in
+    let y = has-byte s 32 (bytes "Id=\"" ++ (v ++ bytes "\">")) e (c .1) in
+    let x = name-by s (p + 1) na (c .0) (rw y) in
+    let l₁ = length-append (bytes "<" ++ n ++ (bytes " Id=\"" ++ v ++ bytes "\"")) (bytes ">") in
+    let l₂ = length-append (bytes "<" ++ n) (bytes " Id=\"" ++ v ++ bytes "\"") in
+    let l₃ = length-append v (bytes "\"") in
+    let z : e + 5 + length v + 2 ≡ p + length (bytes "<" ++ n ++ (bytes " Id=\"" ++ v ++ bytes "\"") ++ bytes ">") = omega arith in
+    record { opens = has-byte s 60 [] p (b .0); letter = x .1; there = c .0; name = x .0; tag = tag-id s e (λ w. omega arith) true refl ∙ id-is s v e a k l (c .1) ∙ ap Past z }
+
+tag-is : (ids : Bool) (s : List ℕ) (p : ℕ) {n a : List ℕ} → Name n → RootTag n ids a → hasAt a s p ≡ true → TagRead ids s p n a
+tag-is ids s p {n} na plain h =
+    let e = p + 1 + length n in
+    let l = length-append n (bytes ">") in
+    let a = has-split s (60 ∷ n) (bytes ">") p e (omega arith) h in
+    let b = has-split s (bytes "<") n p (p + 1) refl (a .0) in
+    let y = has-byte s 62 [] e (a .1) in
+    let x = name-is s (p + 1) na (b .1) y in
+    let z : e + 1 ≡ p + length (startTag n) = omega arith in
+    record { opens = has-byte s 60 n p (a .0); letter = x .1; there = b .1; name = x .0; tag = tag-plain s e ids y ∙ ap Past z }
+tag-is ids s p na (with-id d) h = id-tag s p na d h
+
+pub record RootRead (ids : Bool) (s : List ℕ) (p : ℕ) (n a c : List ℕ) : Type 0 where
+  pub head : TagRead ids s p n a
+  pub inside : hasAt c s (p + length a) ≡ true
+  pub closed : hasAt (bytes "</") s (p + length a + length c) ≡ true
+  pub holds : contentAt 11 s (p + length a) ≡ Past (p + length a + length c)
+  pub reads : (z : ℕ) → z ≡ whiteAt s (p + length (a ++ c ++ endTag n)) → z ≡ length s → rootFrom ids s p ≡ markup.Root p (p + 1 + length n) (p + length a)
+
+pub root-reads : (ids : Bool) (s : List ℕ) (p : ℕ) (n a c : List ℕ) → Name n → RootTag n ids a → Content 11 c → hasAt (a ++ c ++ endTag n) s p ≡ true → RootRead ids s p n a c
+root-reads ids s p n a c na ta co h =
+    let m = p + length a + length c in
+    let l₁ = length-append (a ++ c) (endTag n) in
+    let l₂ = length-append a c in
+    let l₃ = length-append n (bytes ">") in
+    let a₁ = has-split s (a ++ c) (endTag n) p m (omega arith) h in
+    let a₂ = has-split s a c p (p + length a) refl (a₁ .0) in
+    let b₁ = has-split s (60 ∷ 47 ∷ n) (bytes ">") m (m + 2 + length n) (omega arith) (a₁ .1) in
+    let b₂ = has-split s (bytes "</") n m (m + 2) refl (b₁ .0) in
+    let t = tag-is ids s p na ta (a₂ .0) in
+    let k = content-is s 11 (element-is s 11) (p + length a) c co (a₂ .1) (b₂ .0) in
+    let f = end-is s (p + 1) (p + 1 + length n) m n refl (t .there) (b₂ .0) (b₂ .1) (has-byte s 62 [] (m + 2 + length n) (b₁ .1)) in
+    let q : m + 2 + length n + 1 ≡ p + length (a ++ c ++ endTag n) = omega arith in
+    record { head = t; inside = a₂ .1; closed = b₂ .0; holds = k; reads = λ z u x. root-ends ids s p (p + 1 + length n) (t .name) (p + length a) (t .tag) m k (p + length (a ++ c ++ endTag n)) (f ∙ ap Past q) z u x }
+
 -- THE WHOLE FLOW
 pub starts-self : (t : List ℕ) → startsWith t t ≡ true
 unfolding startsWith
@@ -368,10 +446,12 @@ white-ends s {v} q wh h l =
     let y : byteAt s (q + length v) ≡ 0 = List·getD-eq-default s 0 (omega arith) in
     white-is s q wh h (rw y) ∙ sym l
 
--- m, d, w, r and v stand one behind the other
-flow-is : (s m d w r v : List ℕ) → s ≡ m ++ d ++ w ++ r ++ v → Mark m → Declaration d → White w → Element 12 r → White v → markupOf s ≡ Past (length (m ++ d ++ w))
+-- m, d, w, the root and v stand one behind the other
+flow-is : (ids : Bool) (s m d w v n t k : List ℕ) → s ≡ m ++ d ++ w ++ (t ++ k ++ endTag n) ++ v → Mark m → Declaration d → White w → Name n → RootTag n ids t → Content 11 k → White v
+    → markupOf ids s ≡ markup.Root (length (m ++ d ++ w)) (length (m ++ d ++ w) + 1 + length n) (length (m ++ d ++ w) + length t)
 unfolding hasAt
-flow-is s m d w r v z ma de wh el wt =
+flow-is ids s m d w v n t k z ma de wh na ta co wt =
+    let r = t ++ k ++ endTag n in
     let l₁ : length s ≡ length (m ++ d ++ w ++ r) + length v = rw z (length-append (m ++ d ++ w ++ r) v) in
     let l₂ = length-append (m ++ d ++ w) r in
     let l₃ = length-append (m ++ d) w in
@@ -385,14 +465,15 @@ flow-is s m d w r v z ma de wh el wt =
     let a₂ = has-split s (m ++ d ++ w) r 0 c (omega arith) (a₁ .0) in
     let a₃ = has-split s (m ++ d) w 0 b (omega arith) (a₂ .0) in
     let a₄ = has-split s m d 0 a (omega arith) (a₃ .0) in
-    let root = element-is s 12 c r el (a₂ .1) in
-    let f = front s b c wh (a₃ .1) refl (root .opens) (root .named) in
+    let x = root-reads ids s c n t k na ta co (a₂ .1) in
+    let f = front s b c wh (a₃ .1) refl (x .head .opens) (x .head .letter) in
     let om : optionalAt mark s 0 ≡ a = optional-is s 0 ma (a₄ .0) (λ x. subst (λ (j : ℕ). hasAt mark s j ≡ false) x (no-mark s a de (a₄ .1) (λ y. subst (Front s) (omega arith) f))) ∙ omega arith in
     let od : optionalAt declaration s a ≡ b = optional-is s a de (a₄ .1) (λ y. no-declaration s a (subst (Front s) (omega arith) f)) in
-    let ow : whiteAt s b ≡ c = white-is s b wh (a₃ .1) (no-white _ (root .opens)) in
+    let ow : whiteAt s b ≡ c = white-is s b wh (a₃ .1) (no-white _ (x .head .opens)) in
     let y : c ≡ length (m ++ d ++ w) = omega arith in
-    markup-ends s c (root-is s a (sym om) b (sym od) c (sym ow)) (root .opens) q (root .reads) (whiteAt s q) refl (white-ends s q wt (a₁ .1) (omega arith)) ∙ ap Past y
+    markup-root ids s c (root-is s a (sym om) b (sym od) c (sym ow)) (x .head .opens) ∙ x .reads (whiteAt s q) refl (white-ends s q wt (a₁ .1) (omega arith))
+    ∙ ap (λ (j : ℕ). markup.Root j (j + 1 + length n) (j + length t)) y
 
-pub flow-complete : (s : List ℕ) (f : Flow s) → markupOf s ≡ Past (rootPlace f)
-unfolding rootPlace
-flow-complete s (flow {m = m} {d = d} {w = w} {r = r} {v = v} ma de wh el wt) = flow-is (m ++ d ++ w ++ r ++ v) m d w r v refl ma de wh el wt
+pub flow-complete : {ids : Bool} (s : List ℕ) (f : Document ids s) → markupOf ids s ≡ markup.Root (rootPlace f) (nameEnd f) (contentPlace f)
+unfolding rootPlace nameEnd contentPlace
+flow-complete {ids} s (document {m = m} {d = d} {w = w} {v = v} ma de wh (root {n = n} {a = t} {c = k} na ta co) wt) = flow-is ids (m ++ d ++ w ++ (t ++ k ++ endTag n) ++ v) m d w v n t k refl ma de wh na ta co wt

@@ -1,5 +1,6 @@
 -- Whatever the reader accepts is of the grammar.
 use mathlib.Core.Path.{_≡_, refl, sym, ap, subst, _∙_}
+use mathlib.Core.Logic.{_⊎_, inl, inr}
 use mathlib.Core.List.{List, [], _∷_, _++_}
 use mathlib.Core.Bool.{Bool, true, false, cond, not, _&&_}
 use Prim.Native.Nat.{ℕ, zero, suc, _+_, _-_, _*_, _≤_, _<_}
@@ -7,18 +8,19 @@ use native.Mathlib.Omega.{arith}
 use lib.ListN.{length, take, drop, length-drop, length-append}
 use lib.Seq.{take-all, getD-take, getD-drop}
 use lib.Dec.{leb, eqb}
-use borrow.Author.Tests.{eqb-true, eqb-false, leb-true, leb-false}
+use borrow.Author.Tests.{eqb-true, eqb-false, eq-eqb, leb-true, leb-false}
 use Rattle.scan.specs.declared.Walk.{Walk}
 use Rattle.scan.specs.declared.Walk.the-variants.{Past, Broken}
 use Rattle.scan.specs.Bytes.{bytes, byteAt, part, between, isLetter, isNameByte, isWhite, all, run, runEnd, hasAt}
 use Rattle.scan.specs.Characters.{isChar, sized, isTail, charSize, charSizeAt, pastOr, charAt}
 use Rattle.scan.specs.References.{Reference, refAt}
-use Rattle.scan.proofs.Laws.{never, both, choose, cond-past, Advance, stands, run-more, run-from, has-within, size-within, char-past, ref-is}
-use Rattle.tokens.specs.Tokens.{andThen, repeat, until, nameAt, whiteAt, pieceAt, textAt, endTagAt, optionalAt}
-use Rattle.tokens.proofs.Laws.{then-past, Steps, name-past, piece-past, text-past, end-past, piece-end}
+use Rattle.scan.proofs.Laws.{never, both, choose, cond-past, Advance, stands, run-more, run-from, run-within, has-within, size-within, char-past, ref-is}
+use Rattle.tokens.specs.Tokens.{andThen, repeat, until, nameAt, tagEndAt, whiteAt, pieceAt, textAt, endTagAt, optionalAt}
+use Rattle.tokens.proofs.Laws.{then-past, Steps, name-past, IdParts, tag-parts, piece-past, text-past, end-past, piece-end}
 use Rattle.markup.specs.Markup.{childBy, childrenBy, contentBy, elementAt, contentAt, mark, declaration, rootAt, markupOf}
-use Rattle.markup.proofs.Laws.{content-past, parts, element-past}
-use Rattle.grammar.specs.Grammar.{Name, name, White, white, Allowed, Character, one, two, three, four, Piece, char, amp, lt, gt, quot, apos, Pieces, none, more, Text, text, startTag, endTag, Element, element, Content, elements, only, Elements, last, next, Optional, absent, present, Mark, Declaration, Flow, flow}
+use Rattle.markup.specs.declared.Markup.the-variants as markup
+use Rattle.markup.proofs.Laws.{content-past, parts, element-past, Rooted, markup-parts, root-placed}
+use Rattle.grammar.specs.Grammar.{Name, name, White, white, Allowed, Character, one, two, three, four, Piece, char, amp, lt, gt, quot, apos, Pieces, none, more, Text, text, startTag, endTag, Element, element, Content, elements, only, Elements, last, next, Optional, absent, present, Mark, Declaration, Id, id, RootTag, plain, with-id, Root, root, Document, document}
 use Rattle.grammar.proofs.Parts.{no, not-so, part-join, part-none, part-next, part-1, part-2, part-3, part-4, part-length, has-part, has-split, has-byte, part-has}
 use Rattle.grammar.proofs.Pieces.{other, all-at, piece-rest}
 
@@ -315,6 +317,55 @@ pub content-at-sound : (d : ℕ) (s : List ℕ) (p q : ℕ) → contentAt d s p 
 unfolding contentAt
 content-at-sound d s = content-sound s d (elementAt d s) (element-past d s) (element-sound d s)
 
+-- THE ROOT
+module _ (s : List ℕ) where
+  -- an Id, and the > behind it
+  id-sound : (at e q : ℕ) → at ≤ length s → IdParts s at e q → Id (part s at (e + 1)) × (byteAt s (e + 1) ≡ 62) × (e + 2 ≤ length s)
+  id-sound at e q l k =
+      let r = k .ends in
+      let w = has-within (bytes " Id=\"") s at l (k .opens) in
+      let f = run-within isNameByte s (at + 5) w in
+      let x = has-within (bytes "\">") s e (omega arith) (k .closes) in
+      let c = has-split s (bytes "\"") (bytes ">") e (e + 1) refl (k .closes) in
+      let m = k .some in
+      let h = k .short in
+      let v : all isNameByte (part s (at + 5) e) ≡ true = rw r (run-part isNameByte s (at + 5)) in
+      let n = part-length s (at + 5) e (omega arith) in
+      let j₁ = part-join s at e (e + 1) (omega arith) (omega arith) in
+      let j₂ = part-join s at (at + 5) e (omega arith) (omega arith) in
+      let h₁ = has-part s (bytes " Id=\"") at (k .opens) in
+      let h₂ = has-part s (bytes "\"") e (c .0) in
+      (rw (j₁, j₂, h₁, h₂) (id (part s (at + 5) e) v (omega arith) (omega arith)), has-byte s 62 [] (e + 1) (c .1), x)
+
+  -- the start tag of a root, from its < on
+  plain-tag : (j e : ℕ) → byteAt s j ≡ 60 → byteAt s e ≡ 62 → j < e → e < length s → part s j (e + 1) ≡ startTag (part s (j + 1) e)
+  plain-tag j e o y h k = rw (part-join s j e (e + 1) (omega arith) (omega arith), part-next s j (j + 1) e refl (omega arith) (omega arith), part-1 s e (e + 1) (omega arith) refl, o, y)
+
+  id-tag : (j e g : ℕ) → byteAt s j ≡ 60 → byteAt s (g + 1) ≡ 62 → j < e → e ≤ g → g + 2 ≤ length s → part s j (g + 2) ≡ bytes "<" ++ part s (j + 1) e ++ part s e (g + 1) ++ bytes ">"
+  id-tag j e g o y h k l =
+      rw (part-join s j (g + 1) (g + 2) (omega arith) (omega arith), part-join s j e (g + 1) (omega arith) (omega arith), part-next s j (j + 1) e refl (omega arith) (omega arith), part-1 s (g + 1) (g + 2) l (omega arith), o, y)
+
+  tag-sound : (ids : Bool) (j e c : ℕ) → byteAt s j ≡ 60 → j < e → e ≤ length s → tagEndAt ids s e ≡ Past c → RootTag (part s (j + 1) e) ids (part s j c)
+  tag-sound ids j e c o h l t = go (tag-parts ids s e c t)
+    where
+      go : ((byteAt s e ≡ 62) × (c ≡ e + 1)) ⊎ ((ids ≡ true) × IdParts s e (runEnd isNameByte s (e + 5)) c) → RootTag (part s (j + 1) e) ids (part s j c)
+      go (inl k) = let i = stands 61 s e (eq-eqb _ _ (k .0)) in rw (k .1, plain-tag j e o (k .0) h i) plain
+      go (inr k) =
+          let g = runEnd isNameByte s (e + 5) in
+          let d = id-sound e g c l (k .1) in
+          let m = k .1 .some in
+          rw (k .0, k .1 .past, id-tag j e g o (d .1) h (omega arith) (d .2)) (with-id (d .0))
+
+  root-sound : {ids : Bool} {j e c p q : ℕ} → Rooted ids s j e c p q → Root ids (part s j q)
+  unfolding contentAt
+  root-sound {ids} {j} {e} {c} {p} {q} r =
+      let l = root-placed s r in
+      let n = l .named in
+      let ta = tag-sound ids j e c (r .opens) (omega arith) (omega arith) (r .tag) in
+      let co = content-sound s 11 (elementAt 11 s) (element-past 11 s) (element-sound 11 s) c p (r .holds) in
+      let x = end-sound s (j + 1) e p q (omega arith) (omega arith) (r .end) in
+      rw (part-join s j p q (omega arith) (omega arith), part-join s j c p (omega arith) (l .held), x) (root (name-sound s (j + 1) e (r .name)) ta co)
+
 -- THE WHOLE FLOW
 optional-sound : (x s : List ℕ) (p : ℕ) → p ≤ length s → (p ≤ optionalAt x s p) × (optionalAt x s p ≤ length s) × Optional x (part s p (optionalAt x s p))
 unfolding optionalAt
@@ -324,27 +375,26 @@ optional-sound x s p h = go (hasAt x s p) refl
     go true e = (omega arith, has-within x s p h e, rw (has-part s x p e) present)
     go false e = (omega arith, h, rw (part-none s p) absent)
 
--- the flow in five parts
-flow-parts : (s : List ℕ) (a b c q : ℕ) → a ≤ b → b ≤ c → c ≤ q → q ≤ length s → Mark (part s 0 a) → Declaration (part s a b) → White (part s b c) → Element 12 (part s c q) → White (part s q (length s)) → Flow s
-flow-parts s a b c q h k l n ma de wh el wt =
+-- the document in five parts
+flow-parts : (ids : Bool) (s : List ℕ) (a b c q : ℕ) → a ≤ b → b ≤ c → c ≤ q → q ≤ length s → Mark (part s 0 a) → Declaration (part s a b) → White (part s b c) → Root ids (part s c q) → White (part s q (length s)) → Document ids s
+flow-parts ids s a b c q h k l n ma de wh ro wt =
     let z : part s 0 (length s) ≡ s = take-all (length s - 0) s (omega arith) in
-    subst Flow z
+    subst (Document ids) z
     (rw (part-join s 0 q (length s) (omega arith) n, part-join s 0 c q (omega arith) l, part-join s 0 b c (omega arith) k, part-join s 0 a b (omega arith) h)
-    (flow ma de wh el wt))
+    (document ma de wh ro wt))
 
-pub flow-sound : (s : List ℕ) (p : ℕ) → markupOf s ≡ Past p → Flow s
-unfolding markupOf rootAt
-flow-sound s p e =
+pub flow-sound : (ids : Bool) (s : List ℕ) (j e c : ℕ) → markupOf ids s ≡ markup.Root j e c → Document ids s
+unfolding rootAt
+flow-sound ids s j e c h =
+    let k = markup-parts ids s j e c h in
+    let q = k .1 in
+    let r = k .2 in
+    let l = root-placed s r in
     let m = optional-sound mark s 0 (omega arith) in
     let a = optionalAt mark s 0 in
     let n = optional-sound declaration s a (m .1) in
     let b = optionalAt declaration s a in
-    let r = whiteAt s b in
-    let c = cond-past (eqb (byteAt s r) 60) (andThen (elementAt 12 s (r + 1)) (λ q. cond (eqb (whiteAt s q) (length s)) (Past r) (Broken (whiteAt s q)))) r e in
-    let t = then-past (elementAt 12 s (r + 1)) (λ q. cond (eqb (whiteAt s q) (length s)) (Past r) (Broken (whiteAt s q))) (c .1) in
-    let q = t .0 in
-    let o = eqb-true (byteAt s r) 60 (c .0) in
-    let g = element-past 12 s (r + 1) q (t .1) in
-    let z : whiteAt s q ≡ length s = eqb-true _ _ (cond-past (eqb (whiteAt s q) (length s)) (Past r) (whiteAt s q) (t .2) .0) in
-    let w : White (part s q (length s)) = subst (λ (x : ℕ). White (part s q x)) z (white (run-part isWhite s q)) in
-    flow-parts s a b r q (n .0) (run-from isWhite s b) (omega arith) (g .within) (m .2) (n .2) (white (run-part isWhite s b)) (element-sound 12 s r q o (t .1)) w
+    let z : j ≡ whiteAt s b = r .at in
+    let ro : Root ids (part s (whiteAt s b) q) = subst (λ (x : ℕ). Root ids (part s x q)) z (root-sound s r) in
+    let w : White (part s q (length s)) = subst (λ (x : ℕ). White (part s q x)) (r .ends) (white (run-part isWhite s q)) in
+    flow-parts ids s a b (whiteAt s b) q (n .0) (run-from isWhite s b) (omega arith) (l .within) (m .2) (n .2) (white (run-part isWhite s b)) ro w

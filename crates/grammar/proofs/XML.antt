@@ -9,12 +9,12 @@ use lib.Dec.{leb, eqb}
 use borrow.Author.Tests.{eqb-true, leb-true, le-leb, ne-eqb}
 use Rattle.scan.specs.Bytes.{bytes, between, isLetter, isDigit, isNameByte, isWhite, all}
 use Rattle.scan.specs.Characters.{isChar}
-use Rattle.scan.proofs.Laws.{both}
-use Rattle.grammar.specs.Grammar.{Name, name, White, white, Character, one, two, three, four, char, amp, lt, gt, quot, apos, Pieces, none, more, Without, text, startTag, endTag, Element, element, Content, elements, only, Elements, last, next, absent, present, Declaration, Flow, flow}
+use Rattle.scan.proofs.Laws.{both, in-range}
+use Rattle.grammar.specs.Grammar.{Name, name, White, white, Character, one, two, three, four, char, amp, lt, gt, quot, apos, Pieces, none, more, Without, text, startTag, endTag, Element, element, Content, elements, only, Elements, last, next, absent, present, Declaration, Id, id, RootTag, plain, with-id, Root, root, Document, document}
 use Rattle.grammar.specs.XML as xml
 use Rattle.grammar.specs.XML.{Utf8, Encoded, nothing, character, WellFormedXML, well-formed-xml}
 use Rattle.grammar.proofs.Parts.{no}
-use Rattle.grammar.proofs.Complete.{no-level}
+use Rattle.grammar.proofs.Complete.{no-level, id-assoc}
 use Rattle.grammar.proofs.Pieces.{all-append}
 
 -- LISTS OF ONE KIND
@@ -191,15 +191,16 @@ name-char b e =
     (λ u. ⊎-elim (fourth (xml.isNameStart b) (eqb b 45) (eqb b 46) (isDigit b) (xml.isPartBeyond b)) (λ v. let z = eqb-true b 95 v in rw z) (either (isDigit b) (eqb b 95) u))
     (either (isLetter b) (isDigit b || eqb b 95) e)
 
-below-ascii : (lo hi b : ℕ) → hi ≤ 0x7f → between lo hi b ≡ true → ascii b ≡ true
-below-ascii lo hi b h e = let l = leb-true b hi (both (leb lo b) (leb b hi) e .1) in le-leb b 0x7f (omega arith)
+-- such a byte is 30 to 7a, and no <
+name-range : (b : ℕ) → isNameByte b ≡ true → (0x30 ≤ b) × (b ≤ 0x7a) × (b ≡ 60 → ⊥)
+unfolding isNameByte isLetter isDigit
+name-range b e =
+    ⊎-elim (λ u. ⊎-elim (λ h. let r = in-range 65 90 b h in (omega arith, omega arith, λ y. omega arith)) (λ h. let r = in-range 97 122 b h in (omega arith, omega arith, λ y. omega arith)) (either (between 65 90 b) (between 97 122 b) u))
+    (λ u. ⊎-elim (λ h. let r = in-range 48 57 b h in (omega arith, omega arith, λ y. omega arith)) (λ v. let z = eqb-true b 95 v in (omega arith, omega arith, λ y. omega arith)) (either (isDigit b) (eqb b 95) u))
+    (either (isLetter b) (isDigit b || eqb b 95) e)
 
 name-ascii : (b : ℕ) → isNameByte b ≡ true → ascii b ≡ true
-unfolding isNameByte isLetter isDigit
-name-ascii b e =
-    ⊎-elim (λ u. ⊎-elim (below-ascii 65 90 b (omega arith)) (below-ascii 97 122 b (omega arith)) (either (between 65 90 b) (between 97 122 b) u))
-    (λ u. ⊎-elim (below-ascii 48 57 b (omega arith)) (λ v. let z = eqb-true b 95 v in rw z) (either (isDigit b) (eqb b 95) u))
-    (either (isLetter b) (isDigit b || eqb b 95) e)
+name-ascii b e = let r = name-range b e in let h = r .1 in le-leb b 0x7f (omega arith)
 
 name-bytes : {n : List ℕ} → Name n → all isNameByte n ≡ true
 unfolding all isNameByte
@@ -281,19 +282,61 @@ each : (d : ℕ) → Below d
 each zero e x = no-level x
 each (suc d) e x = one-more d (each d) e x
 
--- THE WHOLE FLOW
+-- THE ROOT
 space : xml.S (bytes " ")
 unfolding all isWhite
 space = xml.white {c = 32} {t = []} refl
 
+name-is-char : (b : ℕ) → 0x20 ≤ b → b ≤ 0x7f → isChar b ≡ true
+unfolding isChar
+name-is-char b l h = fourth (eqb b 0x09) (eqb b 0x0a) (eqb b 0x0d) (between 0x20 0xd7ff b) _ (rw (le-leb 0x20 b l, le-leb b 0xd7ff (omega arith)))
+
+-- a letter, a digit or _ may stand in an attribute's value
+value-char : (b : ℕ) → isNameByte b ≡ true → xml.isValue b ≡ true
+unfolding xml.isValue
+value-char b e =
+    let r = name-range b e in
+    let l = r .0 in
+    let h = r .1 in
+    let d = data-is b (name-is-char b (omega arith) (omega arith)) (r .2) (λ z. omega arith) in
+    rw (d, ne-eqb b 34 (λ z. omega arith))
+
+attribute-assoc : (a n w i e o v c d : List ℕ) → a ++ n ++ w ++ (i ++ e ++ (o ++ v ++ c)) ++ [] ++ d ≡ a ++ (n ++ ((w ++ (i ++ (e ++ o))) ++ (v ++ (c ++ d))))
+attribute-assoc a n w i e o v c d = simp append-assoc
+
+id-value : {i : List ℕ} {n : List ℕ} → Id i → xml.STag n (bytes "<" ++ n ++ i ++ bytes ">") × (all ascii i ≡ true)
+unfolding all xml.isNameStart xml.isNameChar
+id-value {n = n} (id v a k l) =
+    let z = attribute-assoc (bytes "<") n (bytes " ") (bytes "Id") (bytes "=") (bytes "\"") v (bytes "\"") (bytes ">") ∙ sym (id-assoc (bytes "<") n (bytes " Id=\"") v (bytes "\"") (bytes ">")) in
+    (subst (xml.STag n) z (xml.start-with space (xml.attribute (xml.name {c = 73} {t = bytes "d"} refl refl) (xml.equals xml.absent xml.absent) (xml.quoted v (all-kind isNameByte xml.isValue value-char v a))) xml.absent), all-append ascii (bytes " Id=\"" ++ v) (bytes "\"") (all-append ascii (bytes " Id=\"") v refl (all-kind isNameByte ascii name-ascii v a)) refl)
+
+tag-is : {ids : Bool} {n a : List ℕ} → Name n → RootTag n ids a → xml.STag n a × (all ascii a ≡ true)
+unfolding all
+tag-is na plain = (start-is na, tag-ascii na (bytes "<") refl)
+tag-is {n = n} na (with-id {i = i} d) =
+    let x = id-value {n = n} d in
+    (x .0, all-append ascii (bytes "<" ++ n ++ i) (bytes ">") (all-append ascii (bytes "<" ++ n) i (all-append ascii (bytes "<") n refl (all-kind isNameByte ascii name-ascii n (name-bytes na))) (x .1)) refl)
+
+root-is : {ids : Bool} {r : List ℕ} → Root ids r → Reads xml.Element r
+unfolding all
+root-is (root {n = n} {a = a} na ta co) =
+    let q = content-is 11 (each 11) co in
+    let x = tag-is na ta in
+    record {
+      it = a ++ q .it ++ endTag n;
+      encoded = encoded-join (encoded-join (encoded-ascii a (x .1)) (q .encoded)) (encoded-ascii (endTag n) (tag-ascii na (bytes "</") refl));
+      is = xml.element (name-is na) (x .0) (q .is) (end-is na);
+    }
+
+-- THE WHOLE
 declaration-is : {d : List ℕ} → Declaration d → xml.Maybe xml.XMLDecl d × Encoded d d
 unfolding all isDigit
 declaration-is absent = (xml.absent, nothing)
 declaration-is present = (xml.present (xml.declaration (xml.version-info space (xml.equals xml.absent xml.absent) (xml.version {c = 48} {t = []} refl)) (xml.present (xml.encoding space (xml.equals xml.absent xml.absent))) xml.absent), encoded-ascii _ refl)
 
-pub flow-well-formed : (s : List ℕ) → Flow s → WellFormedXML s
-flow-well-formed s (flow {m = m} {d = d} {w = w} {r = r} {v = v} ma de wh el wt) =
+pub flow-well-formed : {ids : Bool} (s : List ℕ) → Document ids s → WellFormedXML s
+flow-well-formed s (document {m = m} {d = d} {w = w} {r = r} {v = v} ma de wh ro wt) =
     let x = declaration-is de in
-    let e = each 12 r el in
+    let e = root-is ro in
     rw (append-assoc (m ++ d ++ w) r v, append-assoc (m ++ d) w (r ++ v), append-assoc m d (w ++ (r ++ v)), ← append-assoc d w (r ++ v), ← append-assoc (d ++ w) r v)
     (well-formed-xml ma (encoded-join (encoded-join (encoded-join (x .1) (white-encoded wh)) (e .encoded)) (white-encoded wt)) (xml.document (xml.prolog (x .0) (white-misc wh)) (e .is) (white-misc wt)))

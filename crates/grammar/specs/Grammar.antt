@@ -1,10 +1,10 @@
 -- The markup as a grammar: document 01, "The markup", line by line. It says which lists of bytes have a flow's markup,
--- whatever its elements are called, and nothing of how they are read.
+-- whatever its elements are called, and nothing of how they are read. Document 02's other documents have the same markup, some with an Id on the root.
 -- (The limit of 32,768 bytes is a rule of its own, with a code of its own.)
 use mathlib.Core.Path.{_≡_}
 use Prim.Native.Nat.{ℕ, suc, _+_, _*_, _≤_, _<_}
 use mathlib.Core.List.{List, [], _∷_, _++_}
-use mathlib.Core.Bool.{true}
+use mathlib.Core.Bool.{Bool, true, false}
 use lib.ListN.{length}
 use Rattle.scan.specs.Bytes.{bytes, isLetter, isNameByte, isWhite, all}
 use Rattle.scan.specs.Characters.{isChar}
@@ -85,10 +85,33 @@ Mark = Optional (0xef ∷ 0xbb ∷ 0xbf ∷ [])
 abbrev pub Declaration : List ℕ → Type 0
 Declaration = Optional (bytes "<?xml version=\"1.0\" encoding=\"UTF-8\"?>")
 
--- "then white space, one root element, white space"; "The root is at depth 1; the greatest depth is 12."
-pub data Flow : List ℕ → Type 0 where
-  flow : {m d w r v : List ℕ} → Mark m → Declaration d → White w → Element 12 r → White v → Flow (m ++ d ++ w ++ r ++ v)
+-- document 02, Req 05: "one space, Id, an equals sign, 1 to 64 letters, digits or `_` in double quotes"
+pub data Id : List ℕ → Type 0 where
+  id : (v : List ℕ) → all isNameByte v ≡ true → 1 ≤ length v → length v ≤ 64 → Id (bytes " Id=\"" ++ v ++ bytes "\"")
 
--- the place of the root's <: as many bytes as stand before it
-unfoldable pub rootPlace : {s : List ℕ} → Flow s → ℕ
-rootPlace (flow {m = m} {d = d} {w = w} ma de wh el wt) = length (m ++ d ++ w)
+-- the start tag of a root of name n: "allows one Id attribute on the root", where one may stand
+pub data RootTag (n : List ℕ) : Bool → List ℕ → Type 0 where
+  plain : {ids : Bool} → RootTag n ids (startTag n)
+  with-id : {i : List ℕ} → Id i → RootTag n true (bytes "<" ++ n ++ i ++ bytes ">")
+
+-- the root is an element: "The root is at depth 1; the greatest depth is 12."
+pub data Root (ids : Bool) : List ℕ → Type 0 where
+  root : {n a c : List ℕ} → Name n → RootTag n ids a → Content 11 c → Root ids (a ++ c ++ endTag n)
+
+-- "then white space, one root element, white space"
+pub data Document (ids : Bool) : List ℕ → Type 0 where
+  document : {m d w r v : List ℕ} → Mark m → Declaration d → White w → Root ids r → White v → Document ids (m ++ d ++ w ++ r ++ v)
+
+-- A FLOW: "No attributes"
+abbrev pub Flow : List ℕ → Type 0
+Flow = Document false
+
+-- PLACES, as many bytes as stand before: of the root's <, of its name's end, of its content
+unfoldable pub rootPlace : {ids : Bool} {s : List ℕ} → Document ids s → ℕ
+rootPlace (document {m = m} {d = d} {w = w} ma de wh ro wt) = length (m ++ d ++ w)
+
+unfoldable pub nameEnd : {ids : Bool} {s : List ℕ} → Document ids s → ℕ
+nameEnd (document {m = m} {d = d} {w = w} ma de wh (root {n = n} na ta co) wt) = length (m ++ d ++ w) + 1 + length n
+
+unfoldable pub contentPlace : {ids : Bool} {s : List ℕ} → Document ids s → ℕ
+contentPlace (document {m = m} {d = d} {w = w} ma de wh (root {a = a} na ta co) wt) = length (m ++ d ++ w) + length a

@@ -1,6 +1,7 @@
 -- Well-formed XML 1.0, from the recommendation (Extensible Markup Language 1.0, fifth edition), each production with its number there, over
--- characters as there: numbers of Unicode. Alternatives that no flow takes are left out: attributes, empty-element tags, comments, CDATA sections,
--- instructions, character references, single quotes, standalone, doctype. So whatever is derived here is derived there.
+-- characters as there: numbers of Unicode. Alternatives that no document of ours takes are left out: a second attribute, references in an attribute's
+-- value, empty-element tags, comments, CDATA sections, instructions, character references, single quotes, standalone, doctype. So whatever is derived
+-- here is derived there. The productions were written down without a copy of the recommendation at hand: they are to be compared with its text.
 use mathlib.Core.Path.{_≡_}
 use Prim.Native.Nat.{ℕ, _+_, _*_, _≤_, _<_}
 use Prim.Native.String.{String}
@@ -68,9 +69,25 @@ pub data Predefined : List ℕ → Type 0 where
 pub data Reference : List ℕ → Type 0 where
   entity : {n : List ℕ} → Name n → Predefined n → Reference (chars "&" ++ n ++ chars ";")
 
--- [40] STag ::= '<' Name S? '>'; [42] ETag ::= '</' Name S? '>'
+-- [25] Eq ::= S? '=' S?
+pub data Eq : List ℕ → Type 0 where
+  equals : {v w : List ℕ} → Maybe S v → Maybe S w → Eq (v ++ chars "=" ++ w)
+
+-- [10] AttValue ::= '"' [^<&"]* '"', of characters of [2]
+unfoldable pub isValue : ℕ → Bool
+isValue c = isData c && not (eqb c (byte "\""))
+
+pub data AttValue : List ℕ → Type 0 where
+  quoted : (t : List ℕ) → all isValue t ≡ true → AttValue (chars "\"" ++ t ++ chars "\"")
+
+-- [41] Attribute ::= Name Eq AttValue
+pub data Attribute : List ℕ → Type 0 where
+  attribute : {n e v : List ℕ} → Name n → Eq e → AttValue v → Attribute (n ++ e ++ v)
+
+-- [40] STag ::= '<' Name (S Attribute)* S? '>', with one attribute or none (Unique Att Spec: no name twice); [42] ETag ::= '</' Name S? '>'
 pub data STag (n : List ℕ) : List ℕ → Type 0 where
   start : {w : List ℕ} → Maybe S w → STag n (chars "<" ++ n ++ w ++ chars ">")
+  start-with : {v a w : List ℕ} → S v → Attribute a → Maybe S w → STag n (chars "<" ++ n ++ v ++ a ++ w ++ chars ">")
 
 pub data ETag (n : List ℕ) : List ℕ → Type 0 where
   end : {w : List ℕ} → Maybe S w → ETag n (chars "</" ++ n ++ w ++ chars ">")
@@ -88,10 +105,6 @@ mutual
     no-item : Items []
     an-element : {e t k : List ℕ} → Element e → CharData t → Items k → Items (e ++ t ++ k)
     a-reference : {r t k : List ℕ} → Reference r → CharData t → Items k → Items (r ++ t ++ k)
-
--- [25] Eq ::= S? '=' S?
-pub data Eq : List ℕ → Type 0 where
-  equals : {v w : List ℕ} → Maybe S v → Maybe S w → Eq (v ++ chars "=" ++ w)
 
 -- [24] VersionInfo ::= S 'version' Eq '"' VersionNum '"'; [26] VersionNum ::= '1.' [0-9]+
 pub data VersionNum : List ℕ → Type 0 where

@@ -7,14 +7,17 @@ use native.Mathlib.Numerals.{sub-one}
 use native.Mathlib.Omega.{arith}
 use lib.ListN.{length}
 use lib.Dec.{eqb}
-use borrow.Author.Tests.{eq-eqb, ne-eqb}
+use borrow.Author.Tests.{eqb-true, eq-eqb, ne-eqb}
 use Rattle.scan.specs.declared.Walk.{Walk}
 use Rattle.scan.specs.declared.Walk.the-variants.{Past, Broken}
 use Rattle.scan.specs.Bytes.{bytes, byteAt, isWhite, hasAt}
 use Rattle.scan.proofs.Laws.{never, cond-past, run-from, run-within, has-past}
-use Rattle.tokens.specs.Tokens.{andThen, nameAt, whiteAt, textAt, endTagAt, optionalAt}
-use Rattle.tokens.proofs.Laws.{then-past, Steps, until-stop, until-step, until-broken, until-past, name-past, end-past, text-past, optional-within}
-use Rattle.markup.specs.Markup.{elementBy, childBy, childrenBy, contentBy, elementAt, contentAt, mark, declaration, rootAt, markupOf}
+use Rattle.tokens.specs.Tokens.{andThen, nameAt, tagEndAt, whiteAt, textAt, endTagAt, optionalAt}
+use Rattle.tokens.proofs.Laws.{then-past, Steps, until-stop, until-step, until-broken, until-past, name-past, tag-past, end-past, text-past, optional-within}
+use Rattle.markup.specs.Markup.{elementBy, childBy, childrenBy, contentBy, elementAt, contentAt, mark, declaration, rootAt, thenRoot, rootFrom, markupOf}
+use Rattle.markup.specs.Inner.{brokenAt}
+use Rattle.markup.specs.declared.Markup.{Markup}
+use Rattle.markup.specs.declared.Markup.the-variants.{Root, Breaks}
 
 -- ONE LEVEL AT A TIME: where the elements inside advance, so do content and the element around it
 pub child-past : (element : ℕ → Walk) (s : List ℕ) → Steps s element → Steps s (childBy element s)
@@ -153,21 +156,101 @@ module _ (s : List ℕ) (a : ℕ) (ea : a ≡ optionalAt mark s 0) where
     root-is w ew = rw (ew, eb, ea)
 
 -- markupOf, a way out of the code at a time
-module _ (s : List ℕ) (w : ℕ) (v : w ≡ rootAt s) where
-  pub markup-no-root : (byteAt s w ≡ 60 → ⊥) → markupOf s ≡ Broken w
+module _ (ids : Bool) (s : List ℕ) (w : ℕ) (v : w ≡ rootAt s) where
+  pub markup-no-root : (byteAt s w ≡ 60 → ⊥) → markupOf ids s ≡ Breaks w
   unfolding markupOf
   markup-no-root e = rw (← v, ne-eqb _ _ e)
 
-  module _ (e : byteAt s w ≡ 60) (q : ℕ) where
-    pub markup-broken : elementAt 12 s (w + 1) ≡ Broken q → markupOf s ≡ Broken q
-    unfolding markupOf
-    markup-broken h = rw (← v, eq-eqb _ _ e, h)
+  pub markup-root : byteAt s w ≡ 60 → markupOf ids s ≡ rootFrom ids s w
+  unfolding markupOf
+  markup-root e = rw (← v, eq-eqb _ _ e)
 
-    module _ (h : elementAt 12 s (w + 1) ≡ Past q) (z : ℕ) (u : z ≡ whiteAt s q) where
-      pub markup-more : (z ≡ length s → ⊥) → markupOf s ≡ Broken z
-      unfolding markupOf
-      markup-more k = rw (← v, eq-eqb _ _ e, h, ← u, ne-eqb _ _ k)
+-- rootFrom, a way out of the code at a time
+module _ (ids : Bool) (s : List ℕ) (lt : ℕ) where
+  pub root-no-name : (w : Walk) (p : ℕ) → w ≡ nameAt s (lt + 1) → w ≡ Broken p → rootFrom ids s lt ≡ brokenAt w
+  unfolding rootFrom
+  root-no-name w p e b = rw (← e, b)
 
-      pub markup-ends : z ≡ length s → markupOf s ≡ Past w
-      unfolding markupOf
-      markup-ends k = rw (← v, eq-eqb _ _ e, h, ← u, eq-eqb _ _ k)
+  module _ (e : ℕ) (n : nameAt s (lt + 1) ≡ Past e) where
+    pub root-no-tag : (w : Walk) (p : ℕ) → w ≡ tagEndAt ids s e → w ≡ Broken p → rootFrom ids s lt ≡ brokenAt w
+    unfolding rootFrom
+    root-no-tag w p x b = rw (n, ← x, b)
+
+    module _ (c : ℕ) (t : tagEndAt ids s e ≡ Past c) where
+      pub root-inside : (w : Walk) (p : ℕ) → w ≡ contentAt 11 s c → w ≡ Broken p → rootFrom ids s lt ≡ brokenAt w
+      unfolding rootFrom
+      root-inside w p x b = rw (n, t, ← x, b)
+
+      module _ (p : ℕ) (h : contentAt 11 s c ≡ Past p) where
+        pub root-no-end : (w : Walk) (q : ℕ) → w ≡ endTagAt s (lt + 1) e p → w ≡ Broken q → rootFrom ids s lt ≡ brokenAt w
+        unfolding rootFrom
+        root-no-end w q x b = rw (n, t, h, ← x, b)
+
+        module _ (q : ℕ) (k : endTagAt s (lt + 1) e p ≡ Past q) (z : ℕ) (u : z ≡ whiteAt s q) where
+          pub root-more : (z ≡ length s → ⊥) → rootFrom ids s lt ≡ Breaks z
+          unfolding rootFrom
+          root-more x = rw (n, t, h, k, ← u, ne-eqb _ _ x)
+
+          pub root-ends : z ≡ length s → rootFrom ids s lt ≡ Root lt e c
+          unfolding rootFrom
+          root-ends x = rw (n, t, h, k, ← u, eq-eqb _ _ x)
+
+-- WHAT A DOCUMENT THAT STANDS IS MADE OF: its root's content ends at p, and its root at q
+pub record Rooted (ids : Bool) (s : List ℕ) (lt e c p q : ℕ) : Type 0 where
+  pub at : lt ≡ rootAt s
+  pub opens : byteAt s lt ≡ 60
+  pub name : nameAt s (lt + 1) ≡ Past e
+  pub tag : tagEndAt ids s e ≡ Past c
+  pub holds : contentAt 11 s c ≡ Past p
+  pub end : endTagAt s (lt + 1) e p ≡ Past q
+  pub ends : whiteAt s q ≡ length s
+
+no-root : {a b c p : ℕ} {A : Type 0} → Breaks p ≡ Root a b c → A
+no-root e = let z : _≡_ {A = ℕ} 0 1 = cc in absurd (omega arith)
+
+cond-root : (b : Bool) (x : Markup) (p : ℕ) {lt e c : ℕ} → cond b x (Breaks p) ≡ Root lt e c → (b ≡ true) × (x ≡ Root lt e c)
+cond-root true x p e = (refl, e)
+cond-root false x p e = no-root e
+
+then-root : (w : Walk) (k : ℕ → Markup) {lt e c : ℕ} → thenRoot w k ≡ Root lt e c → (p : ℕ) × (w ≡ Past p) × (k p ≡ Root lt e c)
+then-root (Past p) k e = (p, refl, e)
+then-root (Broken p) k e = no-root e
+
+rooted-same : {ids : Bool} {s : List ℕ} {r a b lt e c p q : ℕ} → Rooted ids s r a b p q → r ≡ lt → a ≡ e → b ≡ c → Rooted ids s lt e c p q
+rooted-same k x y u = rw (← x, ← y, ← u) k
+
+pub markup-parts : (ids : Bool) (s : List ℕ) (lt e c : ℕ) → markupOf ids s ≡ Root lt e c → (p q : ℕ) × Rooted ids s lt e c p q
+unfolding markupOf rootFrom
+markup-parts ids s lt e c h =
+    let r = rootAt s in
+    let a = cond-root (eqb (byteAt s r) 60) _ r h in
+    let n = then-root (nameAt s (r + 1)) _ (a .1) in
+    let t = then-root (tagEndAt ids s (n .0)) _ (n .2) in
+    let k = then-root (contentAt 11 s (t .0)) _ (t .2) in
+    let f = then-root (endTagAt s (r + 1) (n .0) (k .0)) _ (k .2) in
+    let w = cond-root (eqb (whiteAt s (f .0)) (length s)) _ (whiteAt s (f .0)) (f .2) in
+    let z = w .1 in
+    let x : r ≡ lt = cc in
+    let y : n .0 ≡ e = cc in
+    let u : t .0 ≡ c = cc in
+    (k .0, f .0, rooted-same (record { at = refl; opens = eqb-true _ _ (a .0); name = n .1; tag = t .1; holds = k .1; end = f .1; ends = eqb-true _ _ (w .0) }) x y u)
+
+-- where these places lie
+pub record Placed (s : List ℕ) (lt e c p q : ℕ) : Type 0 where
+  pub named : lt + 1 < e
+  pub tagged : e < c
+  pub held : c ≤ p
+  pub closed : p < q
+  pub within : q ≤ length s
+
+pub root-placed : {ids : Bool} {lt e c p q : ℕ} (s : List ℕ) → Rooted ids s lt e c p q → Placed s lt e c p q
+root-placed {ids} {lt} {e} {c} {p} {q} s r =
+    let n = name-past s (lt + 1) e (r .name) in
+    let t = tag-past ids s e c (n .within) (r .tag) in
+    let k = content-at-past 11 s c p (r .holds) in
+    let f = end-past s (lt + 1) e p q (r .end) in
+    record { named = n .on; tagged = t .on; held = k .0; closed = f .on; within = f .within }
+
+-- a root with no Id is an element
+pub root-plain : {ids : Bool} {lt e p q : ℕ} (s : List ℕ) → Rooted ids s lt e (e + 1) p q → byteAt s e ≡ 62 → elementAt 12 s (lt + 1) ≡ Past q
+root-plain {ids} {lt} {e} {p} {q} s r b = element-ends 12 s (lt + 1) (λ z. absurd (omega arith)) e (r .name) b p (r .holds) ∙ r .end

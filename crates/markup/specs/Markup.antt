@@ -1,4 +1,4 @@
--- The markup (document 01, "The markup"): elements, content, the whole flow. `Broken` has the place where the reading breaks.
+-- The markup (document 01, "The markup"): elements, content, the whole flow. `Broken` and `Breaks` have the place where the reading breaks.
 use Prim.Native.Nat.{ℕ, zero, suc, _+_, _-_}
 use mathlib.Core.List.{List, [], _∷_}
 use mathlib.Core.Bool.{Bool, true, false, cond, not, _&&_}
@@ -7,7 +7,9 @@ use lib.Dec.{eqb}
 use Rattle.scan.specs.Bytes.{bytes, byte, byteAt, hasAt}
 use Rattle.scan.specs.declared.Walk.{Walk}
 use Rattle.scan.specs.declared.Walk.the-variants.{Past, Broken}
-use Rattle.tokens.specs.Tokens.{andThen, until, nameAt, whiteAt, textAt, endTagAt, optionalAt}
+use Rattle.tokens.specs.Tokens.{andThen, until, nameAt, tagEndAt, whiteAt, textAt, endTagAt, optionalAt}
+use Rattle.markup.specs.declared.Markup.{Markup}
+use Rattle.markup.specs.declared.Markup.the-variants.{Root, Breaks}
 
 -- an element after its <: the name, a >, content, the end tag of the same name
 unfoldable pub elementBy : (ℕ → Walk) → List ℕ → ℕ → Walk
@@ -38,7 +40,7 @@ elementAt (suc d) s at = elementBy (contentBy (elementAt d s) s) s at
 unfoldable pub contentAt : ℕ → List ℕ → ℕ → Walk
 contentAt d s = contentBy (elementAt d s) s
 
--- THE WHOLE FLOW
+-- THE WHOLE
 
 -- EF BB BF
 abbrev pub mark : List ℕ
@@ -51,9 +53,21 @@ declaration = bytes "<?xml version=\"1.0\" encoding=\"UTF-8\"?>"
 unfoldable pub rootAt : List ℕ → ℕ
 rootAt s = whiteAt s (optionalAt declaration s (optionalAt mark s 0))
 
--- the flow's markup stands: past white space after the one root element the flow ends. The position of the root's <
-unfoldable pub markupOf : List ℕ → Walk
-markupOf s =
-    cond (eqb (byteAt s (rootAt s)) (byte "<"))
-    (andThen (elementAt 12 s (rootAt s + 1)) (λ q. cond (eqb (whiteAt s q) (length s)) (Past (rootAt s)) (Broken (whiteAt s q))))
-    (Broken (rootAt s))
+-- go on where a reader stops
+abbrev pub thenRoot : Walk → (ℕ → Markup) → Markup
+thenRoot (Past p) k = k p
+thenRoot (Broken p) k = Breaks p
+
+-- the root, its < at lt: an element of 12 levels, which may have an Id in its start tag where `ids`; past white space after it all ends. Where its
+-- < stands, where its name ends and where its content begins
+unfoldable pub rootFrom : Bool → List ℕ → ℕ → Markup
+rootFrom ids s lt =
+    thenRoot (nameAt s (lt + 1)) (λ e.
+    thenRoot (tagEndAt ids s e) (λ c.
+    thenRoot (contentAt 11 s c) (λ p.
+    thenRoot (endTagAt s (lt + 1) e p) (λ q.
+    cond (eqb (whiteAt s q) (length s)) (Root lt e c) (Breaks (whiteAt s q))))))
+
+-- the markup stands: one root element
+unfoldable pub markupOf : Bool → List ℕ → Markup
+markupOf ids s = cond (eqb (byteAt s (rootAt s)) (byte "<")) (rootFrom ids s (rootAt s)) (Breaks (rootAt s))

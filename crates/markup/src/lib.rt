@@ -1,16 +1,23 @@
-// The markup of a flow: element and content readers, which call each other, and the whole flow. What is read is noted, so that later passes
+// The markup of a flow or of another document: element and content readers, which call each other, and the whole. What is read is noted, so that later passes
 // look a child's name and end up instead of walking it again.
 use scan::Walk;
 ghost use mathlib.Core.Path.{_≡_};
 ghost use Prim.Native.Nat.{ℕ, _+_, _-_, _≤_, _<_};
 ghost use lib.ListN.{length};
-ghost use Rattle.markup.specs.Markup.{elementAt, contentAt, markupOf};
+ghost use Rattle.markup.specs.Markup.{elementAt, contentAt, rootFrom, markupOf};
+ghost use Rattle.markup.specs.Inner.{brokenAt};
 ghost use Rattle.markup.specs.Noted.{Noted, noteOf, noteIn};
 
 // What is noted of a place: its name's length and the element's end.
 pub enum Told {
     Ends(usize, usize),
     Nothing,
+}
+
+// A whole document: where its root's `<` stands, where its root's name ends and where its content begins; or where the markup breaks.
+pub enum Markup {
+    Root(usize, usize, usize),
+    Breaks(usize),
 }
 
 // Notes an element's end q and its name's end e of a place, where there is room for it and q fits 16 bits.
@@ -98,35 +105,66 @@ pub fn content(s: &[u8], at: usize, depth: usize, past: &mut [u32]) -> Walk
     Walk::Past(i)
 }
 
-// Whether the markup of a whole flow stands: the position of the root's `<`, or where it breaks. The notes are for later passes.
-pub fn markup_noted(s: &[u8], past: &mut [u32]) -> Walk
+// What breaks in a part of a document breaks there.
+fn broken(w: Walk) -> Markup
+    ensures { λ r. ⌜ r ≡ brokenAt w ⌝ }
+{
+    match w {
+        Walk::Past(p) => Markup::Breaks(p),
+        Walk::Broken(p) => Markup::Breaks(p),
+    }
+}
+
+// The root from its `<` on, with all up to the end. It is nobody's child, so nothing is noted of it itself.
+fn root(s: &[u8], lt: usize, ids: bool, past: &mut [u32]) -> Markup
+    requires { ⌜ (lt < length (now s)) × Noted (now s) (now past) ⌝ }
+    ensures { λ r. ⌜ (r ≡ rootFrom ids (now (s .entry)) lt) × Noted (now (s .entry)) (now (past .exit)) ⌝ }
+{
+    let a = lt + 1;
+    let name = tokens::name_end(s, a);
+    let Walk::Past(e) = name else {
+        return broken(name);
+    };
+    let tag = tokens::tag_end(s, e, ids);
+    let Walk::Past(c) = tag else {
+        return broken(tag);
+    };
+    let inside = content(s, c, 11, past);
+    let Walk::Past(p) = inside else {
+        return broken(inside);
+    };
+    let end = tokens::end_tag(s, a, e, p);
+    let Walk::Past(q) = end else {
+        return broken(end);
+    };
+    let z = scan::white_end(s, q);
+    if z == s.len() {
+        Markup::Root(lt, e, c)
+    } else {
+        Markup::Breaks(z)
+    }
+}
+
+// The markup of a whole document, on whose root an Id may stand or not. The notes are for later passes.
+pub fn markup_noted(s: &[u8], ids: bool, past: &mut [u32]) -> Markup
     requires { ⌜ Noted (now s) (now past) ⌝ }
-    ensures { λ r. ⌜ (r ≡ markupOf (now (s .entry))) × Noted (now (s .entry)) (now (past .exit)) ⌝ }
+    ensures { λ r. ⌜ (r ≡ markupOf ids (now (s .entry))) × Noted (now (s .entry)) (now (past .exit)) ⌝ }
 {
     let a = tokens::optional(s, 0, b"\xef\xbb\xbf");
     let d = tokens::optional(s, a, b"<?xml version=\"1.0\" encoding=\"UTF-8\"?>");
     let w = scan::white_end(s, d);
     if scan::byte(s, w) != b'<' {
-        return Walk::Broken(w);
+        return Markup::Breaks(w);
     }
-    let root = element(s, w + 1, 12, past);
-    let Walk::Past(q) = root else {
-        return root;
-    };
-    let end = scan::white_end(s, q);
-    if end == s.len() {
-        Walk::Past(w)
-    } else {
-        Walk::Broken(end)
-    }
+    root(s, w, ids, past)
 }
 
 // The same with nothing noted: any bytes of any length.
-pub fn markup_of(s: &[u8]) -> Walk
-    ensures { λ r. ⌜ r ≡ markupOf (now (s .entry)) ⌝ }
+pub fn markup_of(s: &[u8], ids: bool) -> Markup
+    ensures { λ r. ⌜ r ≡ markupOf ids (now (s .entry)) ⌝ }
 {
     let mut none = [0u32; 1];
-    markup_noted(s, &mut none)
+    markup_noted(s, ids, &mut none)
 }
 
 // What an element holds, read with no notes at hand.

@@ -1,6 +1,6 @@
 -- Laws of the named children by rows, of lines and of orders.
 use mathlib.Core.Path.{_≡_, refl, sym, ap, _∙_}
-use mathlib.Core.Logic.{⊎-elim}
+use mathlib.Core.Logic.{_⊎_, inl, inr, ⊎-elim}
 use mathlib.Core.List.{List, [], _∷_}
 use mathlib.Core.Bool.{Bool, true, false}
 use Prim.Native.Nat.{ℕ, zero, suc, _+_, _-_, _≤_, _<_}
@@ -8,8 +8,7 @@ use native.Mathlib.Numerals.{add-one}
 use native.Mathlib.Omega.{arith}
 use lib.ListN.{length, drop, set, length-set}
 use lib.Seq.{sets}
-use lib.Dec.{eqb}
-use borrow.Author.Tests.{eq-eqb, ne-eqb, eqb-true, eqb-false}
+use borrow.Author.Tests.{eq-eqb, ne-eqb, eqb-true}
 use Rattle.scan.specs.Bytes.{part, isWhite}
 use Rattle.scan.proofs.Laws.{both, run-within}
 use Rattle.tokens.specs.Tokens.{whiteAt}
@@ -46,15 +45,15 @@ use Rattle.structure.proofs.Laws.{HeldIn, fits-parts, once-done, once-next, all
 use Rattle.order.specs.declared.Line.{Line}
 use Rattle.order.specs.declared.Order.{Order}
 use Rattle.orders.specs.Shape.{rangesOf, orderRows, lineRows, Shaped, Filled}
-use Rattle.orders.specs.Orders.{inRow, textIn, inside, operationOf, valueOf, dateOf, lineBy, lineOf, linesOf, noLine, eight, linesIn, kindOf, orderBy, orderOf, ordersOf, ordersIn}
+use Rattle.orders.specs.Orders.{those, ofRow, inRow, textIn, inside, operationOf, valueOf, dateOf, lineBy, lineOf, linesOf, noLine, eight, linesIn, kindOf, orderBy, orderOf, ordersOf, holdsOrder, isOrder, ordersIn}
 
 no-next : {k : Kept} {A : Type 0} → Done ≡ Named k → A
 no-next e = let z : _≡_ {A = ℕ} 0 1 = cc in absurd (omega arith)
 
--- the root's row 5 holds orders, and an order's row 4 lines
-held-order : (h : Holds) → HeldIn (table FlussoOrdinativi) 5 h → rangesOf h ≡ orderRows
-held-order h w = sym (⊎-elim (λ e. ap rangesOf e) (⊎-elim (λ e. ap rangesOf e) (λ e. absurd e)) w)
+no-kind : {A : Type 0} → _≡_ {A = Bool} false true → A
+no-kind e = let z : _≡_ {A = ℕ} 0 1 = cc in absurd (omega arith)
 
+-- an order's row 4 holds lines
 held-line : (p : Parent) (h : Holds) → ranges (table p) ≡ orderRows → HeldIn (table p) 4 h → rangesOf h ≡ lineRows
 held-line FlussoOrdinativi h e w = let z : _≡_ {A = ℕ} 6 5 = ap length e in absurd (omega arith)
 held-line Mandato h e w = sym (⊎-elim (λ e. ap rangesOf e) (λ e. absurd e) w)
@@ -67,65 +66,69 @@ held-line Versante h e w = absurd w
 pub held-at : (p : Parent) (s : List ℕ) (i : ℕ) (k : Kept) → nextOf (keptFrom p s i) ≡ Named k → HeldIn (table p) (k .row) (k .holds)
 held-at p s i k e = kept-held p s i k (keptFrom p s (k .child .after)) (next-at p s i k e .rest)
 
--- BY ROWS, as the walk over the named children goes
-module _ (n : ℕ) (p : Parent) (s : List ℕ) (i : ℕ) where
-  pub row-done : nextOf (keptFrom p s i) ≡ Done → inRow n (keptFrom p s i) ≡ []
-  unfolding inRow
-  row-done e = rw (next-done p s i e)
+-- THOSE OF WHICH f HOLDS, as the walk over the named children goes
+module _ (f : Kept → Bool) (p : Parent) (s : List ℕ) (i : ℕ) where
+  pub those-done : nextOf (keptFrom p s i) ≡ Done → those f (keptFrom p s i) ≡ []
+  unfolding those
+  those-done e = rw (next-done p s i e)
 
   module _ (k : Kept) (e : nextOf (keptFrom p s i) ≡ Named k) where
-    pub row-other : (k .row ≡ n → ⊥) → inRow n (keptFrom p s i) ≡ inRow n (keptFrom p s (k .child .after))
-    unfolding inRow
-    row-other f = rw (next-at p s i k e .rest, ne-eqb _ _ f)
+    pub those-other : f k ≡ false → those f (keptFrom p s i) ≡ those f (keptFrom p s (k .child .after))
+    unfolding those
+    those-other g = rw (next-at p s i k e .rest, g)
 
-    pub row-one : k .row ≡ n → inRow n (keptFrom p s i) ≡ k ∷ inRow n (keptFrom p s (k .child .after))
-    unfolding inRow
-    row-one f = rw (next-at p s i k e .rest, eq-eqb _ _ f)
+    pub those-one : f k ≡ true → those f (keptFrom p s i) ≡ k ∷ those f (keptFrom p s (k .child .after))
+    unfolding those
+    those-one g = rw (next-at p s i k e .rest, g)
 
--- the first named child of row n from i on, and what comes after it
-pub record Row-at (n : ℕ) (p : Parent) (s : List ℕ) (i : ℕ) (k : Kept) : Type 0 where
-  pub rest : inRow n (keptFrom p s i) ≡ k ∷ inRow n (keptFrom p s (k .child .after))
+-- the first of them from i on, and what comes after it
+pub record Those-at (f : Kept → Bool) (p : Parent) (s : List ℕ) (i : ℕ) (k : Kept) : Type 0 where
+  pub rest : those f (keptFrom p s i) ≡ k ∷ those f (keptFrom p s (k .child .after))
   pub lies : Lies s i (k .child)
-  pub held : HeldIn (table p) n (k .holds)
-  pub every : (f : Kept → Bool) → allKept f (keptFrom p s i) ≡ true → (f k ≡ true) × (allKept f (keptFrom p s (k .child .after)) ≡ true)
+  pub is : f k ≡ true
+  pub every : (g : Kept → Bool) → allKept g (keptFrom p s i) ≡ true → (g k ≡ true) × (allKept g (keptFrom p s (k .child .after)) ≡ true)
 
-row-by : (m n : ℕ) (p : Parent) (s : List ℕ) (i : ℕ) (k : Kept) → length s - i < m → nextOf (inRow n (keptFrom p s i)) ≡ Named k → Row-at n p s i k
-row-by zero n p s i k h e = absurd (omega arith)
-row-by (suc m) n p s i k h e = go (nextOf (keptFrom p s i)) refl (row-by m n p s)
+those-by : (m : ℕ) (f : Kept → Bool) (p : Parent) (s : List ℕ) (i : ℕ) (k : Kept) → length s - i < m → nextOf (those f (keptFrom p s i)) ≡ Named k → Those-at f p s i k
+those-by zero f p s i k h e = absurd (omega arith)
+those-by (suc m) f p s i k h e = go (nextOf (keptFrom p s i)) refl (those-by m f p s)
   where
-    go : (w : Next) → nextOf (keptFrom p s i) ≡ w → ((j : ℕ) (k : Kept) → length s - j < m → nextOf (inRow n (keptFrom p s j)) ≡ Named k → Row-at n p s j k) → Row-at n p s i k
-    go Done f ih = no-next (ap nextOf (sym (row-done n p s i f)) ∙ e)
-    go (Named c) f ih = at (eqb (c .row) n) refl
+    go : (w : Next) → nextOf (keptFrom p s i) ≡ w → ((j : ℕ) (k : Kept) → length s - j < m → nextOf (those f (keptFrom p s j)) ≡ Named k → Those-at f p s j k) → Those-at f p s i k
+    go Done n ih = no-next (ap nextOf (sym (those-done f p s i n)) ∙ e)
+    go (Named c) n ih = at (f c) refl
       where
-        at : (b : Bool) → eqb (c .row) n ≡ b → Row-at n p s i k
+        at : (b : Bool) → f c ≡ b → Those-at f p s i k
         at true g =
-            let r = eqb-true (c .row) n g in
-            let m = row-one n p s i c f r in
+            let m = those-one f p s i c n g in
             let z : Named c ≡ Named k = ap nextOf (sym m) ∙ e in
             let u : c ≡ k = cc in
-            rw (← u) (record { rest = m; lies = next-at p s i c f .lies; held = rw r at (held-at p s i c f); every = all-next p s i c f })
+            rw (← u) (record { rest = m; lies = next-at p s i c n .lies; is = g; every = all-next p s i c n })
         at false g =
-            let l = next-at p s i c f .lies in
-            let m = row-other n p s i c f (eqb-false (c .row) n g) in
+            let l = next-at p s i c n .lies in
+            let m = those-other f p s i c n g in
             let r = ih (c .child .after) k (omega arith) (ap nextOf (sym m) ∙ e) in
             let y = r .lies in
-            record { rest = m ∙ r .rest; lies = record { from = omega arith; name = y .name; inner = y .inner; ends = y .ends; within = y .within }; held = r .held; every = λ g a. r .every g (all-next p s i c f g a .1) }
+            record { rest = m ∙ r .rest; lies = record { from = omega arith; name = y .name; inner = y .inner; ends = y .ends; within = y .within }; is = r .is; every = λ g a. r .every g (all-next p s i c n g a .1) }
 
-pub row-at : (n : ℕ) (p : Parent) (s : List ℕ) (i : ℕ) (k : Kept) → nextOf (inRow n (keptFrom p s i)) ≡ Named k → Row-at n p s i k
-row-at n p s i k e = row-by (suc (length s - i)) n p s i k (omega arith) e
+pub those-at : (f : Kept → Bool) (p : Parent) (s : List ℕ) (i : ℕ) (k : Kept) → nextOf (those f (keptFrom p s i)) ≡ Named k → Those-at f p s i k
+those-at f p s i k e = those-by (suc (length s - i)) f p s i k (omega arith) e
 
-pub row-end : (ks : List Kept) → nextOf ks ≡ Done → ks ≡ []
-row-end [] e = refl
-row-end (k ∷ ks) e = no-next (sym e)
+pub those-end : (ks : List Kept) → nextOf ks ≡ Done → ks ≡ []
+those-end [] e = refl
+those-end (k ∷ ks) e = no-next (sym e)
 
--- where all stand in one row
-abbrev pub ofRow : ℕ → Kept → Bool
-ofRow n k = eqb (k .row) n
+-- where f holds of all of them
+pub those-all : (f : Kept → Bool) (ks : List Kept) → all f ks ≡ true → those f ks ≡ ks
+unfolding those all
+those-all f [] e = refl
+those-all f (k ∷ ks) e = let b = both (f k) (all f ks) e in rw (b .0) (ap (λ t. k ∷ t) (those-all f ks (b .1)))
 
-pub in-row-all : (n : ℕ) (ks : List Kept) → allKept (ofRow n) ks ≡ true → inRow n ks ≡ ks
-unfolding inRow allKept
-in-row-all n [] e = refl
-in-row-all n (k ∷ ks) e = let b = both (ofRow n k) (allKept (ofRow n) ks) e in rw (b .0) (ap (λ t. k ∷ t) (in-row-all n ks (b .1)))
+-- BY ROWS
+module _ (n : ℕ) (p : Parent) (s : List ℕ) (i : ℕ) (k : Kept) (e : nextOf (keptFrom p s i) ≡ Named k) where
+  pub row-other : (k .row ≡ n → ⊥) → inRow n (keptFrom p s i) ≡ inRow n (keptFrom p s (k .child .after))
+  row-other f = those-other (ofRow n) p s i k e (ne-eqb _ _ f)
+
+  pub row-one : k .row ≡ n → inRow n (keptFrom p s i) ≡ k ∷ inRow n (keptFrom p s (k .child .after))
+  row-one f = those-one (ofRow n) p s i k e (eq-eqb _ _ f)
 
 -- FIELDS ONE AFTER THE OTHER
 abbrev pub one : Range
@@ -218,7 +221,7 @@ module _ (p : Parent) (s : List ℕ) (from : ℕ) where
   lining-start f =
       let ks = keptFrom p s from in
       let l = order-last (record { least = 1; most = 8 }) 4 ks (f .rows) in
-      let e = in-row-all 4 ks (l .rows) in
+      let e = those-all (ofRow 4) ks (l .rows) in
       let m = l .most in
       let v = lines-length s ks in
       record {
@@ -338,37 +341,49 @@ module _ (s : List ℕ) (k : Kept) (p : Parent) (w : ℕ) (z : w ≡ whiteAt s (
   order-inside n e o h = rw (n .named, e, ← z) h
 
 -- ORDERS, as the walk goes
-pub orders-end : (s : List ℕ) (i : ℕ) → nextOf (inRow 5 (keptFrom FlussoOrdinativi s i)) ≡ Done → ordersIn s (keptFrom FlussoOrdinativi s i) ≡ []
-unfolding ordersOf
-orders-end s i e = rw (row-end (inRow 5 (keptFrom FlussoOrdinativi s i)) e)
+module _ (p : Parent) (s : List ℕ) (i : ℕ) where
+  pub orders-end : nextOf (those isOrder (keptFrom p s i)) ≡ Done → ordersIn s (keptFrom p s i) ≡ []
+  unfolding ordersOf
+  orders-end e = rw (those-end (those isOrder (keptFrom p s i)) e)
 
-pub orders-one : (s : List ℕ) (i : ℕ) (k : Kept) → nextOf (inRow 5 (keptFrom FlussoOrdinativi s i)) ≡ Named k → ordersIn s (keptFrom FlussoOrdinativi s i) ≡ orderOf s k ∷ ordersIn s (keptFrom FlussoOrdinativi s (k .child .after))
-unfolding ordersOf
-orders-one s i k e = rw (row-at 5 FlussoOrdinativi s i k e .rest)
+  pub orders-one : (k : Kept) → nextOf (those isOrder (keptFrom p s i)) ≡ Named k → ordersIn s (keptFrom p s i) ≡ orderOf s k ∷ ordersIn s (keptFrom p s (k .child .after))
+  unfolding ordersOf
+  orders-one k e = rw (those-at isOrder p s i k e .rest)
 
--- every named child of the root from i on holds what its row says
-abbrev pub Standing : List ℕ → ℕ → Type 0
-Standing s i = allKept (keptHolds (λ q a. fitsAt 3 q s a) s) (keptFrom FlussoOrdinativi s i) ≡ true
+  -- every named child from i on holds what its row says
+  abbrev pub Standing : Type 0
+  Standing = allKept (keptHolds (λ q a. fitsAt 3 q s a) s) (keptFrom p s i) ≡ true
+
+-- an order is a mandato or a reversale
+pub order-held : (h : Holds) → holdsOrder h ≡ true → (Rows Mandato ≡ h) ⊎ (Rows Reversale ≡ h)
+order-held (Text f) e = no-kind e
+order-held (Rows Mandato) e = inl refl
+order-held (Rows Reversale) e = inr refl
+order-held (Rows FlussoOrdinativi) e = no-kind e
+order-held (Rows InformazioniBeneficiario) e = no-kind e
+order-held (Rows InformazioniVersante) e = no-kind e
+order-held (Rows Beneficiario) e = no-kind e
+order-held (Rows Versante) e = no-kind e
 
 -- the first order from i on, as the code that reads it asks for it, and what comes after it
-pub record Order-at (s : List ℕ) (i : ℕ) (k : Kept) : Type 0 where
-  pub rest : ordersIn s (keptFrom FlussoOrdinativi s i) ≡ orderOf s k ∷ ordersIn s (keptFrom FlussoOrdinativi s (k .child .after))
+pub record Order-at (p : Parent) (s : List ℕ) (i : ℕ) (k : Kept) : Type 0 where
+  pub rest : ordersIn s (keptFrom p s i) ≡ orderOf s k ∷ ordersIn s (keptFrom p s (k .child .after))
   pub lies : Lies s i (k .child)
   pub shaped : Shaped orderRows 3 s k
-  pub on : Standing s (k .child .after)
+  pub on : Standing p s (k .child .after)
 
-pub order-at : (s : List ℕ) (i : ℕ) (k : Kept) → Standing s i → nextOf (inRow 5 (keptFrom FlussoOrdinativi s i)) ≡ Named k → Order-at s i k
-order-at s i k h e =
-    let a = row-at 5 FlussoOrdinativi s i k e in
+pub order-at : (p : Parent) (s : List ℕ) (i : ℕ) (k : Kept) → Standing p s i → nextOf (those isOrder (keptFrom p s i)) ≡ Named k → Order-at p s i k
+order-at p s i k h e =
+    let a = those-at isOrder p s i k e in
     let l = a .lies in
     let b = a .every (keptHolds (λ q a. fitsAt 3 q s a) s) h in
     record {
-      rest = orders-one s i k e;
+      rest = orders-one p s i k e;
       lies = l;
-      shaped = record { within = omega arith; rows = held-order (k .holds) (a .held); holds = b .0 };
+      shaped = record { within = omega arith; rows = sym (⊎-elim (λ e. ap rangesOf e) (λ e. ap rangesOf e) (order-held (k .holds) (a .is))); holds = b .0 };
       on = b .1;
     }
 
--- a flow whose structure stands, where its root's content begins
-pub standing : (s : List ℕ) (at : ℕ) → fitsAt 4 FlussoOrdinativi s at ≡ true → Standing s (whiteAt s at)
-standing s at e = fits-parts 3 FlussoOrdinativi s at e .1
+-- content whose structure stands, where its named children begin
+pub standing : (p : Parent) (s : List ℕ) (at : ℕ) → fitsAt 4 p s at ≡ true → Standing p s (whiteAt s at)
+standing p s at e = fits-parts 3 p s at e .1

@@ -1,9 +1,9 @@
 -- The header and the orders of a flow as values: everything after this speaks of them, and no longer of the flow's bytes.
 use Prim.Native.Nat.{ℕ, _+_}
 use mathlib.Core.List.{List, [], _∷_, _++_}
-use mathlib.Core.Bool.{cond}
+use mathlib.Core.Bool.{Bool, cond}
 use lib.ListN.{length, take, replicate}
-use lib.Dec.{eqb}
+use lib.Dec.{eqb, leb}
 use Rattle.scan.specs.Bytes.{part}
 use Rattle.tokens.specs.Tokens.{whiteAt}
 use Rattle.calendar.specs.declared.Date.{Date}
@@ -29,12 +29,17 @@ use Rattle.order.specs.declared.Line.{Line}
 use Rattle.order.specs.declared.Lines.{Lines}
 use Rattle.order.specs.declared.Order.{Order}
 
--- BY ROWS of the parent's table, counted from 0
+-- the named children of which f holds
+unfoldable pub those : (Kept → Bool) → List Kept → List Kept
+those f [] = []
+those f (k ∷ ks) = cond (f k) (k ∷ those f ks) (those f ks)
 
--- the named children of one row
-unfoldable pub inRow : ℕ → List Kept → List Kept
-inRow n [] = []
-inRow n (k ∷ ks) = cond (eqb (k .row) n) (k ∷ inRow n ks) (inRow n ks)
+-- BY ROWS of the parent's table, counted from 0
+abbrev pub ofRow : ℕ → Kept → Bool
+ofRow n k = eqb (k .row) n
+
+abbrev pub inRow : ℕ → List Kept → List Kept
+inRow n = those (ofRow n)
 
 abbrev pub textOfNext : List ℕ → Next → List ℕ
 textOfNext s (Named k) = part s (k .child .gt + 1) (k .child .to)
@@ -116,15 +121,21 @@ unfoldable pub ordersOf : List ℕ → List Kept → List Order
 ordersOf s [] = []
 ordersOf s (k ∷ ks) = orderOf s k ∷ ordersOf s ks
 
--- THE FLOW: codice_ABI_BT, codice_ente_BT and esercizio are rows 0, 3 and 4 of the root's table, the orders row 5
+-- THE ORDERS among named children, by what they hold: "mandato and reversale in any mix"
+abbrev pub holdsOrder : Holds → Bool
+holdsOrder h = leb 1 (kindOf h)
+
+abbrev pub isOrder : Kept → Bool
+isOrder k = holdsOrder (k .holds)
+
+abbrev pub ordersIn : List ℕ → List Kept → List Order
+ordersIn s ks = ordersOf s (those isOrder ks)
+
+-- THE HEADER: codice_ABI_BT, codice_ente_BT and esercizio are rows 0, 3 and 4 of the root's table
 pub record Header : Type 0 where
   pub abi : List ℕ
   pub ente : List ℕ
   pub esercizio : ℕ
 
--- the header and the orders of the root's named children
 abbrev pub headerIn : List ℕ → List Kept → Header
 headerIn s ks = record { abi = textIn 0 s ks; ente = textIn 3 s ks; esercizio = valueOf (esercizio (textIn 4 s ks)) }
-
-abbrev pub ordersIn : List ℕ → List Kept → List Order
-ordersIn s ks = ordersOf s (inRow 5 ks)

@@ -1,4 +1,4 @@
-// The header and the orders of a flow that stands, as values. Children are read one after the other: the structure says which row each is.
+// The orders of a flow that stands, as values. Children are read one after the other: the structure says which row each is.
 use calendar::Date;
 use children::Child;
 use codes::Operation;
@@ -17,7 +17,6 @@ ghost use Prim.Native.Nat.{ℕ, _+_, _≤_, _<_};
 ghost use lib.ListN.{length, drop};
 ghost use Rattle.markup.specs.Noted.{Noted};
 ghost use Rattle.tokens.specs.Tokens.{whiteAt};
-ghost use Rattle.rows.specs.declared.Parent.the-variants.{FlussoOrdinativi};
 ghost use Rattle.rows.specs.declared.Holds.the-variants.{Rows};
 ghost use Rattle.rows.specs.declared.Next.the-variants.{Named, Done};
 ghost use Rattle.rows.specs.Table.{table};
@@ -25,7 +24,7 @@ ghost use Rattle.rows.specs.Kept.{keptFrom, nextOf};
 ghost use Rattle.structure.specs.Structure.{ranges};
 ghost use Rattle.orders.specs.Shape.{orderRows, lineRows, Shaped, Filled};
 ghost use Rattle.orders.specs.Said.{numberSaid, numberOf, daySaid, dayOf, operationSaid, saidOperation};
-ghost use Rattle.orders.specs.Orders.{inRow, lineBy, lineOf, linesIn, kindOf, orderBy, orderOf, ordersIn};
+ghost use Rattle.orders.specs.Orders.{those, lineBy, lineOf, linesIn, kindOf, orderBy, orderOf, holdsOrder, isOrder, ordersIn};
 
 // The number, the date or the operation that a field says. (The defaults are never used: the field stands.)
 fn number_said(v: Value) -> u64
@@ -94,24 +93,6 @@ fn operation_of(r: FieldRead) -> Operation
     match r {
         FieldRead::Said(v, _) => operation_said(v),
         FieldRead::Broken(_, _) => Operation::Sostituzione,
-    }
-}
-
-// The first child from a place on that stands in a row of the parent.
-pub fn next_row(s: &[u8], from: usize, parent: Parent, row: usize, past: &[u32]) -> Next
-    requires { ⌜ (from ≤ length (now s)) × Noted (now s) (now past) ⌝ }
-    ensures { λ r. ⌜ r ≡ nextOf (inRow row (keptFrom parent (now (s .entry)) from)) ⌝ }
-{
-    let mut i = from;
-    loop {
-        let Next::Named(k) = rows::next_named(s, i, parent, past) else {
-            return Next::Done;
-        };
-        let c = k.child;
-        if k.row == row {
-            return Next::Named(k);
-        }
-        i = c.after;
     }
 }
 
@@ -237,20 +218,49 @@ pub fn order_of(s: &[u8], k: Kept, past: &[u32]) -> Order
     let c = k.child;
     let h = k.holds;
     match h {
-        Holds::Text(_) => order_from(s, 0, Parent::FlussoOrdinativi, past),
+        Holds::Text(_) => order_from(s, 0, Parent::Mandato, past),
         Holds::Rows(p) => order_from(s, scan::white_end(s, c.gt + 1), p, past),
     }
 }
 
-// How many orders there are from a place on.
-pub fn count_orders(s: &[u8], from: usize, past: &[u32]) -> usize
+// Whether what a named child holds is an order.
+fn holds_order(h: Holds) -> bool
+    ensures { λ r. ⌜ r ≡ holdsOrder h ⌝ }
+{
+    match h {
+        Holds::Text(_) => false,
+        Holds::Rows(p) => 1 <= kind_of(p),
+    }
+}
+
+// The first order among a root's named children from a place on.
+pub fn next_order(s: &[u8], from: usize, root: Parent, past: &[u32]) -> Next
     requires { ⌜ (from ≤ length (now s)) × Noted (now s) (now past) ⌝ }
-    ensures { λ r. ⌜ r ≡ length (ordersIn (now (s .entry)) (keptFrom FlussoOrdinativi (now (s .entry)) from)) ⌝ }
+    ensures { λ r. ⌜ r ≡ nextOf (those isOrder (keptFrom root (now (s .entry)) from)) ⌝ }
+{
+    let mut i = from;
+    loop {
+        let Next::Named(k) = rows::next_named(s, i, root, past) else {
+            return Next::Done;
+        };
+        let c = k.child;
+        let h = k.holds;
+        if holds_order(h) {
+            return Next::Named(k);
+        }
+        i = c.after;
+    }
+}
+
+// How many orders there are among a root's named children from a place on.
+pub fn count_orders(s: &[u8], from: usize, root: Parent, past: &[u32]) -> usize
+    requires { ⌜ (from ≤ length (now s)) × Noted (now s) (now past) ⌝ }
+    ensures { λ r. ⌜ r ≡ length (ordersIn (now (s .entry)) (keptFrom root (now (s .entry)) from)) ⌝ }
 {
     let mut i = from;
     let mut n: usize = 0;
     loop {
-        let Next::Named(k) = next_row(s, i, Parent::FlussoOrdinativi, 5, past) else {
+        let Next::Named(k) = next_order(s, i, root, past) else {
             return n;
         };
         let c = k.child;

@@ -2,12 +2,12 @@
 // what is wrong with it and the form that document 01 asks of it.
 use fields::Form;
 use fields::Longest;
+use markup::Markup;
 use printing::say;
 use printing::say_number;
 use rows::Holds;
 use rows::Parent;
 use rows::Spot;
-use scan::Walk;
 ghost use lib.ListN.{length};
 ghost use Rattle.io.specs.Counts.{Counts};
 
@@ -155,9 +155,9 @@ fn say_from(flow: &[u8], place: usize) -> bool {
 }
 
 fn say_markup(flow: &[u8]) -> bool {
-    match markup::markup_of(flow) {
-        Walk::Past(_) => true,
-        Walk::Broken(p) => {
+    match markup::markup_of(flow, false) {
+        Markup::Root(_, _, _) => true,
+        Markup::Breaks(p) => {
             say(b"  3, the markup breaks at byte")
                 && say_number(p as u64)
                 && say_from(flow, p)

@@ -9,90 +9,90 @@ use lib.Dec.{eqb}
 use Rattle.words.specs.Numbers.{put}
 use Rattle.words.proofs.Laws.{put-nil, put-put}
 use Rattle.record.specs.Slot.{slotSize}
-use Rattle.rows.specs.declared.Parent.the-variants.{FlussoOrdinativi}
+use Rattle.rows.specs.declared.Parent.{Parent}
 use Rattle.rows.specs.declared.Kept.{Kept}
 use Rattle.rows.specs.declared.Next.{Next}
 use Rattle.rows.specs.declared.Next.the-variants.{Named, Done}
 use Rattle.rows.specs.Kept.{keptFrom, nextOf}
 use Rattle.order.specs.declared.Order.{Order}
 use Rattle.order.specs.Ordinativo.{Ordinativo, ordinativo}
-use Rattle.orders.specs.Orders.{inRow, orderOf, ordersIn}
-use Rattle.orders.proofs.Laws.{row-at, orders-one, orders-end, Order-at, order-at}
+use Rattle.orders.specs.Orders.{those, orderOf, isOrder, ordersIn}
+use Rattle.orders.proofs.Laws.{those-at, orders-one, orders-end, Order-at, order-at}
 use Rattle.rules.specs.declared.Ruling.{Ruling}
 use Rattle.rules.specs.Rules.{orderCode}
 use Rattle.service.specs.Service.{orderComes, orderLeaves, outcomeBytes, allLeave, allOutcomes, allAccepted}
 use Rattle.serving.specs.Served.{ordersFrom, Rooted}
 
 -- HOW MANY: each order takes at least a byte of the flow
-orders-by : (m : ℕ) (f : List ℕ) (i : ℕ) → length f - i < m → i ≤ length f → length (ordersFrom f i) ≤ length f - i
-orders-by zero f i h w = absurd (omega arith)
-orders-by (suc m) f i h w = go (nextOf (inRow 5 (keptFrom FlussoOrdinativi f i))) refl (orders-by m f)
+orders-by : (m : ℕ) (root : Parent) (f : List ℕ) (i : ℕ) → length f - i < m → i ≤ length f → length (ordersFrom root f i) ≤ length f - i
+orders-by zero root f i h w = absurd (omega arith)
+orders-by (suc m) root f i h w = go (nextOf (those isOrder (keptFrom root f i))) refl (orders-by m root f)
   where
-    go : (x : Next) → nextOf (inRow 5 (keptFrom FlussoOrdinativi f i)) ≡ x → ((j : ℕ) → length f - j < m → j ≤ length f → length (ordersFrom f j) ≤ length f - j) → length (ordersFrom f i) ≤ length f - i
-    go Done e ih = rw (orders-end f i e) (omega arith)
+    go : (x : Next) → nextOf (those isOrder (keptFrom root f i)) ≡ x → ((j : ℕ) → length f - j < m → j ≤ length f → length (ordersFrom root f j) ≤ length f - j) → length (ordersFrom root f i) ≤ length f - i
+    go Done e ih = rw (orders-end root f i e) (omega arith)
     go (Named k) e ih =
-        let l = row-at 5 FlussoOrdinativi f i k e .lies in
+        let l = those-at isOrder root f i k e .lies in
         let n = ih (k .child .after) (omega arith) (omega arith) in
-        rw (orders-one f i k e) (omega arith)
+        rw (orders-one root f i k e) (omega arith)
 
-pub orders-few : (f : List ℕ) (i : ℕ) → i ≤ length f → length (ordersFrom f i) ≤ length f
-orders-few f i w = omega (arith, orders-by (suc (length f - i)) f i (omega arith) w)
+pub orders-few : (root : Parent) (f : List ℕ) (i : ℕ) → i ≤ length f → length (ordersFrom root f i) ≤ length f
+orders-few root f i w = omega (arith, orders-by (suc (length f - i)) root f i (omega arith) w)
 
-pub orders-count : (f : List ℕ) (i : ℕ) {n : ℕ} → n ≡ length (ordersIn f (keptFrom FlussoOrdinativi f i)) → n ≡ length (ordersFrom f i)
-orders-count f i e = e ∙ sym (length-map (ordersIn f (keptFrom FlussoOrdinativi f i)) ordinativo)
+pub orders-count : (root : Parent) (f : List ℕ) (i : ℕ) {n : ℕ} → n ≡ length (ordersIn f (keptFrom root f i)) → n ≡ length (ordersFrom root f i)
+orders-count root f i e = e ∙ sym (length-map (ordersIn f (keptFrom root f i)) ordinativo)
 
 pub outcome-length : (o : Ordinativo) (code : ℕ) → length (outcomeBytes o code) ≡ 16
 unfolding outcomeBytes
 outcome-length o code = refl
 
 -- SERVING, while the orders are walked: those from i on are to come, their outcomes from `to` on
-pub record Serving (f past : List ℕ) (base n year : ℕ) (t₀ out₀ : List ℕ) (from : ℕ) (t out : List ℕ) (i to accepted : ℕ) : Type 0 where
-  pub rooted : Rooted f past i
+pub record Serving (root : Parent) (f past : List ℕ) (base n year : ℕ) (t₀ out₀ : List ℕ) (from : ℕ) (t out : List ℕ) (i to accepted : ℕ) : Type 0 where
+  pub rooted : Rooted root f past i
   pub slots : base + slotSize * n ≤ length t
-  pub room : to + 16 * length (ordersFrom f i) ≤ length out
+  pub room : to + 16 * length (ordersFrom root f i) ≤ length out
   pub few : accepted ≤ to
   pub same-table : length t ≡ length t₀
   pub same-out : length out ≡ length out₀
-  pub counted : accepted + allAccepted t base n year (ordersFrom f i) ≡ allAccepted t₀ base n year (ordersFrom f from)
-  pub leaves : allLeave t base n year (ordersFrom f i) ≡ allLeave t₀ base n year (ordersFrom f from)
-  pub outcomes : put out to (allOutcomes t base n year (ordersFrom f i)) ≡ put out₀ 0 (allOutcomes t₀ base n year (ordersFrom f from))
+  pub counted : accepted + allAccepted t base n year (ordersFrom root f i) ≡ allAccepted t₀ base n year (ordersFrom root f from)
+  pub leaves : allLeave t base n year (ordersFrom root f i) ≡ allLeave t₀ base n year (ordersFrom root f from)
+  pub outcomes : put out to (allOutcomes t base n year (ordersFrom root f i)) ≡ put out₀ 0 (allOutcomes t₀ base n year (ordersFrom root f from))
 
-module _ (f past : List ℕ) (base n year : ℕ) (t₀ out₀ : List ℕ) (from : ℕ) where
-  pub serving-start : Rooted f past from → base + slotSize * n ≤ length t₀ → 16 * length (ordersFrom f from) ≤ length out₀ → Serving f past base n year t₀ out₀ from t₀ out₀ from 0 0
+module _ (root : Parent) (f past : List ℕ) (base n year : ℕ) (t₀ out₀ : List ℕ) (from : ℕ) where
+  pub serving-start : Rooted root f past from → base + slotSize * n ≤ length t₀ → 16 * length (ordersFrom root f from) ≤ length out₀ → Serving root f past base n year t₀ out₀ from t₀ out₀ from 0 0
   serving-start r s h = record { rooted = r; slots = s; room = omega arith; few = omega arith; same-table = refl; same-out = refl; counted = omega arith; leaves = refl; outcomes = refl }
 
-  module _ (t out : List ℕ) (i to accepted : ℕ) (s : Serving f past base n year t₀ out₀ from t out i to accepted) where
-    pub serving-end : nextOf (inRow 5 (keptFrom FlussoOrdinativi f i)) ≡ Done
-        → (accepted ≡ allAccepted t₀ base n year (ordersFrom f from)) × (t ≡ allLeave t₀ base n year (ordersFrom f from)) × (out ≡ put out₀ 0 (allOutcomes t₀ base n year (ordersFrom f from)))
+  module _ (t out : List ℕ) (i to accepted : ℕ) (s : Serving root f past base n year t₀ out₀ from t out i to accepted) where
+    pub serving-end : nextOf (those isOrder (keptFrom root f i)) ≡ Done
+        → (accepted ≡ allAccepted t₀ base n year (ordersFrom root f from)) × (t ≡ allLeave t₀ base n year (ordersFrom root f from)) × (out ≡ put out₀ 0 (allOutcomes t₀ base n year (ordersFrom root f from)))
     unfolding allAccepted allLeave allOutcomes
     serving-end e =
-        let z = orders-end f i e in
-        let a : accepted + 0 ≡ allAccepted t₀ base n year (ordersFrom f from) = rw z at (s .counted) in
-        let l : t ≡ allLeave t₀ base n year (ordersFrom f from) = rw z at (s .leaves) in
-        let o : put out to [] ≡ put out₀ 0 (allOutcomes t₀ base n year (ordersFrom f from)) = rw z at (s .outcomes) in
+        let z = orders-end root f i e in
+        let a : accepted + 0 ≡ allAccepted t₀ base n year (ordersFrom root f from) = rw z at (s .counted) in
+        let l : t ≡ allLeave t₀ base n year (ordersFrom root f from) = rw z at (s .leaves) in
+        let o : put out to [] ≡ put out₀ 0 (allOutcomes t₀ base n year (ordersFrom root f from)) = rw z at (s .outcomes) in
         (omega arith, l, sym (put-nil out to) ∙ o)
 
-    module _ (k : Kept) (e : nextOf (inRow 5 (keptFrom FlussoOrdinativi f i)) ≡ Named k) where
-      pub serving-order : Order-at f i k
-      serving-order = order-at f i k (s .rooted .holds) e
+    module _ (k : Kept) (e : nextOf (those isOrder (keptFrom root f i)) ≡ Named k) where
+      pub serving-order : Order-at root f i k
+      serving-order = order-at root f i k (s .rooted .holds) e
 
       pub serving-room : to + 16 ≤ length out
-      serving-room = let h : to + 16 * suc (length (ordersFrom f (k .child .after))) ≤ length out = rw (serving-order .rest) at (s .room) in omega arith
+      serving-room = let h : to + 16 * suc (length (ordersFrom root f (k .child .after))) ≤ length out = rw (serving-order .rest) at (s .room) in omega arith
 
       pub serving-step : {o : Order} {j : Ruling} {code a : ℕ} {t′ out′ : List ℕ} → o ≡ orderOf f k → j ≡ orderComes t base n year (ordinativo o) → t′ ≡ orderLeaves t base n year (ordinativo o) → length t′ ≡ length t
           → code ≡ orderCode j → out′ ≡ put out to (outcomeBytes (ordinativo o) code) → length out′ ≡ length out → a ≡ cond (eqb code 0) 1 0 → a ≤ 1
-          → Serving f past base n year t₀ out₀ from t′ out′ (k .child .after) (to + 16) (accepted + a)
+          → Serving root f past base n year t₀ out₀ from t′ out′ (k .child .after) (to + 16) (accepted + a)
       unfolding allAccepted allLeave allOutcomes
       serving-step {o} {j} {code} {a} {t′} {out′} eo ej et lt ec eu lu ea la =
           let q = serving-order in
-          let os = ordersFrom f (k .child .after) in
+          let os = ordersFrom root f (k .child .after) in
           let l = q .lies in
           let v = s .slots in
           let w = s .few in
           let h : to + 16 * suc (length os) ≤ length out = rw (q .rest) at (s .room) in
-          let c : accepted + (cond (eqb (orderCode (orderComes t base n year (ordinativo (orderOf f k)))) 0) 1 0 + allAccepted (orderLeaves t base n year (ordinativo (orderOf f k))) base n year os) ≡ allAccepted t₀ base n year (ordersFrom f from) = rw (q .rest) at (s .counted) in
-          let m : allLeave (orderLeaves t base n year (ordinativo (orderOf f k))) base n year os ≡ allLeave t₀ base n year (ordersFrom f from) = rw (q .rest) at (s .leaves) in
-          let p : put out to (outcomeBytes (ordinativo (orderOf f k)) (orderCode (orderComes t base n year (ordinativo (orderOf f k)))) ++ allOutcomes (orderLeaves t base n year (ordinativo (orderOf f k))) base n year os) ≡ put out₀ 0 (allOutcomes t₀ base n year (ordersFrom f from)) = rw (q .rest) at (s .outcomes) in
+          let c : accepted + (cond (eqb (orderCode (orderComes t base n year (ordinativo (orderOf f k)))) 0) 1 0 + allAccepted (orderLeaves t base n year (ordinativo (orderOf f k))) base n year os) ≡ allAccepted t₀ base n year (ordersFrom root f from) = rw (q .rest) at (s .counted) in
+          let m : allLeave (orderLeaves t base n year (ordinativo (orderOf f k))) base n year os ≡ allLeave t₀ base n year (ordersFrom root f from) = rw (q .rest) at (s .leaves) in
+          let p : put out to (outcomeBytes (ordinativo (orderOf f k)) (orderCode (orderComes t base n year (ordinativo (orderOf f k)))) ++ allOutcomes (orderLeaves t base n year (ordinativo (orderOf f k))) base n year os) ≡ put out₀ 0 (allOutcomes t₀ base n year (ordersFrom root f from)) = rw (q .rest) at (s .outcomes) in
           let tt : t′ ≡ orderLeaves t base n year (ordinativo (orderOf f k)) = et ∙ ap (λ (x : Order). orderLeaves t base n year (ordinativo x)) eo in
           let jj : j ≡ orderComes t base n year (ordinativo (orderOf f k)) = ej ∙ ap (λ (x : Order). orderComes t base n year (ordinativo x)) eo in
           let aa : a ≡ cond (eqb (orderCode (orderComes t base n year (ordinativo (orderOf f k)))) 0) 1 0 = ea ∙ ap (λ (x : ℕ). cond (eqb x 0) 1 0) (ec ∙ ap orderCode jj) in

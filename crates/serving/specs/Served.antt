@@ -5,7 +5,7 @@ use mathlib.Core.Bool.{true}
 use mathlib.Core.List.{List, map}
 use lib.ListN.{length}
 use Rattle.markup.specs.Noted.{Noted}
-use Rattle.rows.specs.declared.Parent.the-variants.{FlussoOrdinativi}
+use Rattle.rows.specs.declared.Parent.{Parent}
 use Rattle.rows.specs.Kept.{keptFrom}
 use Rattle.structure.specs.Structure.{allKept, keptHolds, fitsAt}
 use Rattle.order.specs.Ordinativo.{Ordinativo, ordinativo}
@@ -13,14 +13,14 @@ use Rattle.orders.specs.Orders.{ordersIn}
 use Rattle.words.specs.Numbers.{put}
 use Rattle.service.specs.Service.{allLeave, allOutcomes, allAccepted}
 
--- the orders of the root's children from a place on
-abbrev pub ordersFrom : List ℕ → ℕ → List Ordinativo
-ordersFrom f from = map ordinativo (ordersIn f (keptFrom FlussoOrdinativi f from))
+-- the orders among a root's named children from a place on
+abbrev pub ordersFrom : Parent → List ℕ → ℕ → List Ordinativo
+ordersFrom root f from = map ordinativo (ordersIn f (keptFrom root f from))
 
--- the root's children from a place on each hold what their row says, and the notes are true
-pub record Rooted (f past : List ℕ) (from : ℕ) : Type 0 where
+-- these each hold what their row says, and the notes are true
+pub record Rooted (root : Parent) (f past : List ℕ) (from : ℕ) : Type 0 where
   pub within : from ≤ length f
-  pub holds : allKept (keptHolds (λ q a. fitsAt 3 q f a) f) (keptFrom FlussoOrdinativi f from) ≡ true
+  pub holds : allKept (keptHolds (λ q a. fitsAt 3 q f a) f) (keptFrom root f from) ≡ true
   pub noted : Noted f past
 
 -- the orders os served one after another on the table t, their outcomes written into the buffer out: how many were accepted, and the two buffers

@@ -29,25 +29,26 @@ fn one_of(code: u8) -> usize
     if code == 0 { 1 } else { 0 }
 }
 
-// Serves the orders from a place of the root's children on, each on the table that the one before left: how many were accepted.
+// Serves the orders among a root's named children from a place on, each on the table that the one before left: how many were accepted.
 pub fn serve_all(
     t: &mut [u8],
     f: &[u8],
     from: usize,
+    root: Parent,
     base: usize,
     n: usize,
     year: u64,
     out: &mut [u8],
     past: &[u32],
 ) -> usize
-    requires { ⌜ (base + slotSize * n ≤ length (now t)) × Rooted (now f) (now past) from × (outcomeSize * length (ordersFrom (now f) from) ≤ length (now out)) ⌝ }
-    ensures { λ r. ⌜ AllServed (now (t .entry)) base n year (ordersFrom (now (f .entry)) from) (now (out .entry)) r (now (t .exit)) (now (out .exit)) ⌝ }
+    requires { ⌜ (base + slotSize * n ≤ length (now t)) × Rooted root (now f) (now past) from × (outcomeSize * length (ordersFrom root (now f) from) ≤ length (now out)) ⌝ }
+    ensures { λ r. ⌜ AllServed (now (t .entry)) base n year (ordersFrom root (now (f .entry)) from) (now (out .entry)) r (now (t .exit)) (now (out .exit)) ⌝ }
 {
     let mut i = from;
     let mut to: usize = 0;
     let mut accepted: usize = 0;
     loop {
-        let Next::Named(k) = orders::next_row(f, i, Parent::FlussoOrdinativi, 5, past) else {
+        let Next::Named(k) = orders::next_order(f, i, root, past) else {
             return accepted;
         };
         let c = k.child;

@@ -1,5 +1,6 @@
 -- Laws of the markup's smallest parts, which the crates above cite instead of the definitions' text.
 use mathlib.Core.Path.{_≡_, refl, sym, ap, _∙_}
+use mathlib.Core.Logic.{_⊎_, inl, inr, ⊎-elim}
 use mathlib.Core.List.{List}
 use mathlib.Core.Bool.{Bool, true, false, cond, not, _&&_}
 use Prim.Native.Nat.{ℕ, zero, suc, _+_, _-_, _≤_, _<_}
@@ -7,14 +8,14 @@ use native.Mathlib.Omega.{arith}
 use lib.ListN.{length, List·getD-eq-default}
 use lib.Seq.{drop-cons}
 use lib.Dec.{leb, eqb}
-use borrow.Author.Tests.{eq-eqb, ne-eqb, le-leb, lt-leb, leb-true}
+use borrow.Author.Tests.{eqb-true, eq-eqb, ne-eqb, le-leb, lt-leb, leb-true}
 use Rattle.scan.specs.declared.Walk.{Walk}
 use Rattle.scan.specs.declared.Walk.the-variants.{Past, Broken}
-use Rattle.scan.specs.Bytes.{bytes, byteAt, part, isLetter, isNameByte, runEnd, startsWith, hasAt}
+use Rattle.scan.specs.Bytes.{bytes, byteAt, part, between, isLetter, isNameByte, runEnd, startsWith, hasAt}
 use Rattle.scan.specs.Characters.{isChar, sized, charAt}
 use Rattle.scan.specs.References.{refAt}
-use Rattle.scan.proofs.Laws.{never, both, not-is, cond-past, Advance, inside, stands, run-more, run-from, run-within, has-within, ref-past, char-past, char-some, size-one}
-use Rattle.tokens.specs.Tokens.{andThen, repeat, until, nameAt, pieceAt, textAt, endTagAt, optionalAt, isPlain}
+use Rattle.scan.proofs.Laws.{never, both, not-is, in-range, cond-past, Advance, inside, stands, run-more, run-from, run-within, has-within, ref-past, char-past, char-some, size-one}
+use Rattle.tokens.specs.Tokens.{andThen, repeat, until, nameAt, idAt, tagEndAt, refAt, pieceAt, textAt, endTagAt, optionalAt, isPlain}
 
 pub then-past : (w : Walk) (k : ℕ → Walk) {q : ℕ} → andThen w k ≡ Past q → (p : ℕ) × (w ≡ Past p) × (k p ≡ Past q)
 then-past (Past p) k e = (p, refl, e)
@@ -93,6 +94,93 @@ module _ (s : List ℕ) (at : ℕ) where
     pub name-long : 48 < e - at → nameAt s at ≡ Broken at
     unfolding nameAt
     name-long h = rw (← r, l, lt-leb (e - at) 48 h)
+
+-- AN ID
+-- idAt, a way out of the code at a time: e is the end of its value
+module _ (s : List ℕ) (at : ℕ) where
+  pub id-none : hasAt (bytes " Id=\"") s at ≡ false → idAt s at ≡ Broken at
+  unfolding idAt
+  id-none h = rw h
+
+  module _ (h : hasAt (bytes " Id=\"") s at ≡ true) (e : ℕ) (r : e ≡ runEnd isNameByte s (at + 5)) where
+    pub id-empty : e ≡ at + 5 → idAt s at ≡ Broken at
+    unfolding idAt
+    id-empty k = rw (← r, h, lt-leb 1 (e - (at + 5)) (omega arith))
+
+    pub id-long : 64 < e - (at + 5) → idAt s at ≡ Broken at
+    unfolding idAt
+    id-long k = rw (← r, h, le-leb 1 (e - (at + 5)) (omega arith), lt-leb (e - (at + 5)) 64 k)
+
+    module _ (l : at + 5 < e) (k : e - (at + 5) ≤ 64) where
+      pub id-open : hasAt (bytes "\">") s e ≡ false → idAt s at ≡ Broken at
+      unfolding idAt
+      id-open x = rw (← r, h, le-leb 1 (e - (at + 5)) (omega arith), le-leb (e - (at + 5)) 64 k, x)
+
+      pub id-some : hasAt (bytes "\">") s e ≡ true → idAt s at ≡ Past (e + 2)
+      unfolding idAt
+      id-some x = rw (← r, h, le-leb 1 (e - (at + 5)) (omega arith), le-leb (e - (at + 5)) 64 k, x)
+
+-- what an Id that is read is made of
+pub record IdParts (s : List ℕ) (at e q : ℕ) : Type 0 where
+  pub opens : hasAt (bytes " Id=\"") s at ≡ true
+  pub ends : e ≡ runEnd isNameByte s (at + 5)
+  pub some : at + 5 < e
+  pub short : e - (at + 5) ≤ 64
+  pub closes : hasAt (bytes "\">") s e ≡ true
+  pub past : q ≡ e + 2
+
+pub id-parts : (s : List ℕ) (at q : ℕ) → idAt s at ≡ Past q → IdParts s at (runEnd isNameByte s (at + 5)) q
+unfolding idAt
+id-parts s at q h =
+    let e = runEnd isNameByte s (at + 5) in
+    let c = cond-past (hasAt (bytes " Id=\"") s at && (between 1 64 (e - (at + 5)) && hasAt (bytes "\">") s e)) (Past (e + 2)) at h in
+    let a = both (hasAt (bytes " Id=\"") s at) (between 1 64 (e - (at + 5)) && hasAt (bytes "\">") s e) (c .0) in
+    let b = both (between 1 64 (e - (at + 5))) (hasAt (bytes "\">") s e) (a .1) in
+    let r = in-range 1 64 (e - (at + 5)) (b .0) in
+    let f = c .1 in
+    let z : q ≡ e + 2 = cc in
+    record { opens = a .0; ends = refl; some = omega arith; short = r .1; closes = b .1; past = z }
+
+-- tagEndAt, a way out of the code at a time
+module _ (s : List ℕ) (at : ℕ) where
+  pub tag-plain : (ids : Bool) → byteAt s at ≡ 62 → tagEndAt ids s at ≡ Past (at + 1)
+  unfolding tagEndAt
+  tag-plain ids e = rw (eq-eqb _ _ e)
+
+  module _ (e : byteAt s at ≡ 62 → ⊥) where
+    pub tag-id : (ids : Bool) → ids ≡ true → tagEndAt ids s at ≡ idAt s at
+    unfolding tagEndAt
+    tag-id ids i = rw (ne-eqb _ _ e, i)
+
+    pub tag-none : (ids : Bool) → ids ≡ false → tagEndAt ids s at ≡ Broken at
+    unfolding tagEndAt
+    tag-none ids i = rw (ne-eqb _ _ e, i)
+
+-- what is read there is a >, or an Id where one may stand
+pub tag-parts : (ids : Bool) (s : List ℕ) (at q : ℕ) → tagEndAt ids s at ≡ Past q
+    → ((byteAt s at ≡ 62) × (q ≡ at + 1)) ⊎ ((ids ≡ true) × IdParts s at (runEnd isNameByte s (at + 5)) q)
+unfolding tagEndAt
+tag-parts ids s at q h = go (eqb (byteAt s at) 62) refl ids h
+  where
+    go : (b : Bool) → eqb (byteAt s at) 62 ≡ b → (i : Bool) → cond b (Past (at + 1)) (cond i (idAt s at) (Broken at)) ≡ Past q
+        → ((byteAt s at ≡ 62) × (q ≡ at + 1)) ⊎ ((i ≡ true) × IdParts s at (runEnd isNameByte s (at + 5)) q)
+    go true e i h = let z : q ≡ at + 1 = cc in inl (eqb-true _ _ e, z)
+    go false e true h = inr (refl, id-parts s at q h)
+    go false e false h = never h
+
+pub tag-past : (ids : Bool) (s : List ℕ) (at q : ℕ) → at ≤ length s → tagEndAt ids s at ≡ Past q → Advance s at q
+tag-past ids s at q l h = ⊎-elim plain id (tag-parts ids s at q h)
+  where
+    plain : (byteAt s at ≡ 62) × (q ≡ at + 1) → Advance s at q
+    plain k = let i = stands 61 s at (eq-eqb _ _ (k .0)) in let z = k .1 in record { on = omega arith; within = omega arith }
+
+    id : (ids ≡ true) × IdParts s at (runEnd isNameByte s (at + 5)) q → Advance s at q
+    id k =
+        let w = run-within isNameByte s (at + 5) (has-within (bytes " Id=\"") s at l (k .1 .opens)) in
+        let x = has-within (bytes "\">") s (runEnd isNameByte s (at + 5)) w (k .1 .closes) in
+        let y = k .1 .some in
+        let z = k .1 .past in
+        record { on = omega arith; within = omega arith }
 
 -- PIECES OF A TEXT
 pub piece-past : (s : List ℕ) → Steps s (pieceAt s)

@@ -30,6 +30,16 @@ unfoldable pub nameAt : List ℕ → ℕ → Walk
 nameAt s at =
     cond (isLetter (byteAt s at) && leb (runEnd isNameByte s at - at) 48) (Past (runEnd isNameByte s at)) (Broken at)
 
+-- document 02, Req 05: one Id attribute, "one space, Id, an equals sign, 1 to 64 letters, digits or `_` in double quotes"; past it and the tag's >
+unfoldable pub idAt : List ℕ → ℕ → Walk
+idAt s at =
+    cond (hasAt (bytes " Id=\"") s at && (between 1 64 (runEnd isNameByte s (at + 5) - (at + 5)) && hasAt (bytes "\">") s (runEnd isNameByte s (at + 5))))
+    (Past (runEnd isNameByte s (at + 5) + 2)) (Broken at)
+
+-- what stands after the name in a start tag: a >, or before it an Id where one may stand
+unfoldable pub tagEndAt : Bool → List ℕ → ℕ → Walk
+tagEndAt ids s at = cond (eqb (byteAt s at) (byte ">")) (Past (at + 1)) (cond ids (idAt s at) (Broken at))
+
 -- past the white space
 abbrev pub whiteAt : List ℕ → ℕ → ℕ
 whiteAt s at = runEnd isWhite s at

@@ -1,10 +1,10 @@
-// The markup's smallest parts: a name, text, an end tag, bytes that may stand or not.
+// The markup's smallest parts: a name, the end of a start tag, text, an end tag, bytes that may stand or not.
 use scan::Walk;
 ghost use mathlib.Core.Path.{_≡_};
 ghost use Prim.Native.Nat.{ℕ, _+_, _-_, _≤_, _<_};
 ghost use lib.ListN.{length};
 ghost use Rattle.scan.specs.Bytes.{bytes, hasAt};
-ghost use Rattle.tokens.specs.Tokens.{nameAt, pieceAt, isPlain, textAt, endTagAt, optionalAt};
+ghost use Rattle.tokens.specs.Tokens.{nameAt, idAt, tagEndAt, pieceAt, isPlain, textAt, endTagAt, optionalAt};
 
 // A name at a position.
 pub fn name_end(s: &[u8], at: usize) -> Walk
@@ -20,6 +20,40 @@ pub fn name_end(s: &[u8], at: usize) -> Walk
     } else {
         Walk::Broken(at)
     }
+}
+
+// One Id attribute, byte for byte, and the `>` after it.
+fn id_end(s: &[u8], at: usize) -> Walk
+    requires { ⌜ at ≤ length (now s) ⌝ }
+    ensures { λ r. ⌜ r ≡ idAt (now (s .entry)) at ⌝ }
+{
+    if !scan::has(s, at, b" Id=\"") {
+        return Walk::Broken(at);
+    }
+    let a = at + 5;
+    let e = scan::name_run(s, a);
+    if e == a {
+        return Walk::Broken(at);
+    }
+    if 64 < e - a {
+        return Walk::Broken(at);
+    }
+    if scan::has(s, e, b"\">") {
+        Walk::Past(e + 2)
+    } else {
+        Walk::Broken(at)
+    }
+}
+
+// What stands after the name in a start tag: `>`, or before it an Id where one may stand.
+pub fn tag_end(s: &[u8], at: usize, ids: bool) -> Walk
+    requires { ⌜ at ≤ length (now s) ⌝ }
+    ensures { λ r. ⌜ r ≡ tagEndAt ids (now (s .entry)) at ⌝ }
+{
+    if scan::byte(s, at) == b'>' {
+        return Walk::Past(at + 1);
+    }
+    if ids { id_end(s, at) } else { Walk::Broken(at) }
 }
 
 // Whether an end tag begins here.

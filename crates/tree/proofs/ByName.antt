@@ -16,7 +16,7 @@ use Rattle.rows.specs.declared.Holds.the-variants.{Text, Rows}
 use Rattle.rows.specs.declared.Spot.{Spot}
 use Rattle.rows.specs.declared.Spot.the-variants.{At, Passed}
 use Rattle.rows.specs.Table.{Named, _is_, Row, table}
-use Rattle.structure.specs.Structure.{ranges, isRow, inOrder}
+use Rattle.structure.specs.Structure.{ranges, isRow, inOrder, levels}
 use Rattle.tree.specs.Tree.{tree, Held, says, holds, Trees, none, more, nameOf, kidsIn}
 use Rattle.tree.specs.Structure.{Said, named, passed, saidBy, said, keepName, keptNames, hasName, front, inRows, treeFits, heldFits, allFit}
 use Rattle.tree.specs.Fields.{treeFields, heldFields, allFields}
@@ -151,6 +151,16 @@ ranked InformazioniBeneficiario = refl
 ranked InformazioniVersante = refl
 ranked Beneficiario = refl
 ranked Versante = refl
+
+-- no parent is deeper than the levels that are looked at
+pub rank-levels : (p : Parent) → rank p < levels
+rank-levels FlussoOrdinativi = omega arith
+rank-levels Mandato = omega arith
+rank-levels Reversale = omega arith
+rank-levels InformazioniBeneficiario = omega arith
+rank-levels InformazioniVersante = omega arith
+rank-levels Beneficiario = omega arith
+rank-levels Versante = omega arith
 
 rank-said : (p q : Parent) (x : List ℕ) → said (table p) x ≡ named (Rows q) → rank q < rank p
 rank-said p q x e = let b = below-rows (rank p) x (table p) (ranked p) in leb-true (suc (rank q)) (rank p) (rw e at b)

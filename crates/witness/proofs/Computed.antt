@@ -6,9 +6,9 @@ use mathlib.Core.List.{List, [], _∷_, _++_}
 use lib.ListN.{length, take}
 use lib.Dec.{leb}
 use Rattle.order.specs.Ordinativo.{Ordinativo}
-use Rattle.orders.specs.Orders.{Header, inRow, textIn as ordersTextIn, inside, lineOf, linesOf, eight, linesIn, orderOf, ordersOf}
+use Rattle.orders.specs.Orders.{Header, those, textIn, as, ordersTextIn, inside, lineOf, linesOf, eight, linesIn, orderOf, ordersOf}
 use Rattle.flow.specs.declared.Verdict.the-variants.{Stands}
-use Rattle.flow.specs.Flow.{headerOf, flowOrders, verdictOf}
+use Rattle.flow.specs.Flow.{headerOf, flowOrders, verdictBy, verdictOf}
 use Rattle.table.specs.Table.{tableOk}
 use Rattle.desk.specs.declared.FlowAnswer.the-variants.{BrokenField}
 use Rattle.desk.specs.Desk.{refused, maxFlow, forBank, flowReads}
@@ -24,8 +24,8 @@ use Rattle.digits.specs.Digits.{digitsAfter, digits, esercizio, numero, zeroInF
 use Rattle.dates.specs.Dates.{dataOf, clock, signs, dataOraWritten, dataOraWithin, dataOra}
 use Rattle.names.specs.Names.{replacedAfter, charactersAfter, anagrafica}
 use Rattle.fields.specs.Fields.{fieldStands}
-use Rattle.tokens.specs.Tokens.{repeat, until, nameAt, pieceAt, textAt, endTagAt, optionalAt}
-use Rattle.markup.specs.Markup.{elementBy, childBy, childrenBy, contentBy, elementAt, contentAt, rootAt, markupOf}
+use Rattle.tokens.specs.Tokens.{repeat, until, nameAt, tagEndAt, pieceAt, textAt, endTagAt, optionalAt}
+use Rattle.markup.specs.Markup.{elementBy, childBy, childrenBy, contentBy, elementAt, contentAt, rootAt, rootFrom, markupOf}
 use Rattle.children.specs.Child.{childAt, childrenBy as childrenChildrenBy, childrenFrom}
 use Rattle.rows.specs.Kept.{keep, keptFrom}
 use Rattle.rows.specs.Table.{nameIs}
@@ -46,7 +46,7 @@ pub record Flows : Type 0 where
   pub more : ReadAs two (headerFor "471") (order 1 ∷ order 2 ∷ [])
 
 pub flows : Flows
-unfolding isLetter isDigit isAlnum isNameByte isWhite all run runEnd startsWith hasAt textIs isChar sized isTail charSize pastOr charAt leap monthLength isDate isIdentifying codiceAbi identificativo codiceEnte tipoOperazione digitsAfter digits esercizio numero zeroInFront importo progressivo dataOf clock signs dataOraWritten dataOraWithin dataOra whichAt replacedAfter charactersAfter anagrafica fieldStands repeat until nameAt pieceAt textAt endTagAt optionalAt elementBy childBy childrenBy contentBy elementAt contentAt rootAt markupOf childAt childrenChildrenBy childrenFrom keep keptFrom nameIs allKept rowsOf inOrder textOnly fitBy fitsAt fieldsBy fieldsAt firstBad inRow ordersTextIn inside lineOf linesOf eight linesIn orderOf ordersOf verdictOf
+unfolding isLetter isDigit isAlnum isNameByte isWhite all run runEnd startsWith hasAt textIs isChar sized isTail charSize pastOr charAt leap monthLength isDate isIdentifying codiceAbi identificativo codiceEnte tipoOperazione digitsAfter digits esercizio numero zeroInFront importo progressivo dataOf clock signs dataOraWritten dataOraWithin dataOra whichAt replacedAfter charactersAfter anagrafica fieldStands repeat until nameAt tagEndAt pieceAt textAt endTagAt optionalAt elementBy childBy childrenBy contentBy elementAt contentAt rootAt rootFrom markupOf childAt childrenChildrenBy childrenFrom keep keptFrom nameIs allKept rowsOf inOrder textOnly fitBy fitsAt fieldsBy fieldsAt firstBad those ordersTextIn inside lineOf linesOf eight linesIn orderOf ordersOf verdictBy
 flows = record {
   own = record { at = 19; short = refl; stands = refl; header = refl; orders = refl };
   other = record { at = 19; short = refl; stands = refl; header = refl; orders = refl };

@@ -1,15 +1,15 @@
-use mathlib.Core.Path.{refl, sym, _∙_}
-use Rattle.serving.specs.Served.{ordersFrom}
-use Rattle.header.proofs.Laws.{ente-part, ente-within, year-part}
-use Rattle.address.proofs.Laws.{named-slots}
-use Rattle.desk.specs.Steps.{headerFrom}
-use Rattle.desk.proofs.Laws.{body-read}
 use borrow.Author.Needs.{needs}
+use mathlib.Core.Path.{refl, sym, _∙_}
+use Rattle.rows.specs.declared.Parent.the-variants.{FlussoOrdinativi}
+use Rattle.serving.specs.Served.{ordersFrom}
+use Rattle.header.specs.Heading.{headerBy}
+use Rattle.address.proofs.Laws.{named-slots}
+use Rattle.desk.proofs.Laws.{body-read}
 use Rattle.desk.proofs.for_body.Statement.{statement}
 use Rattle.desk.proofs.for_body.Tie as tie
 
 part-at-requires : tie.Need-part-at-requires
-part-at-requires c κs = ente-within (c .before .before .before .before .before .args .f .now) (c .before .before .before .before .before .args .from) (c .before .before .before .before .before .args .h) (c .before .before .before .before .before .pre .3)
+part-at-requires c κs = c .before .before .before .before .before .pre .1 .ente
 
 body-named-requires : tie.Need-body-named-requires
 body-named-requires c κs = search needs
@@ -20,7 +20,7 @@ enum-known-base c = search needs
 with-room-requires : tie.Need-with-room-requires
 with-room-requires c κs =
     let s = named-slots (c .before .before .before .before .before .before .before .before .before .before .before .before .before .args .t .now) _ (c .before .before .before .before .before .before .before .before .before .before .before .before .before .pre .0) (sym (c .before .before .before .before .before .body-named .ensures) ∙ c .before .before .before .base .given .1) in
-    (s .inside, c .before .before .before .before .before .before .before .before .before .before .before .before .before .pre .1, c .before .before .before .before .before .before .before .before .before .before .before .before .before .pre .2, year-part (c .before .before .before .before .before .before .before .before .before .before .before .before .before .args .f .now) (c .before .before .before .before .before .before .before .before .before .before .before .before .before .args .from) (c .before .before .before .before .before .before .before .before .before .before .before .before .before .args .h) (c .before .before .before .before .before .before .before .before .before .before .before .before .before .pre .3))
+    (s .inside, c .before .before .before .before .before .before .before .before .before .before .before .before .before .pre .2, c .before .before .before .before .before .before .before .before .before .before .before .before .before .pre .3)
 
 enum-told : tie.Need-enum-told
 enum-told c = search needs
@@ -35,19 +35,19 @@ same-length-2 : tie.Need-same-length-2
 same-length-2 c = search needs
 
 returns : tie.Need-returns
-returns c = body-read (c .before .before .before .before .before .before .before .before .before .before .before .before .before .before .before .before .before .before .args .t .now) (c .before .before .before .before .before .before .before .before .before .before .before .before .before .before .before .before .before .before .args .out .now) (headerFrom (c .before .before .before .before .before .before .before .before .before .before .before .before .before .before .before .before .before .before .args .f .now) (c .before .before .before .before .before .before .before .before .before .before .before .before .before .before .before .before .before .before .args .from)) (ordersFrom (c .before .before .before .before .before .before .before .before .before .before .before .before .before .before .before .before .before .before .args .f .now) (c .before .before .before .before .before .before .before .before .before .before .before .before .before .before .before .before .before .before .args .from)) (c .before .before .before .before .before .before .before .before .before .before .before .before .part-at .ensures ∙ ente-part (c .before .before .before .before .before .before .before .before .before .before .before .before .before .before .before .before .before .before .args .f .now) (c .before .before .before .before .before .before .before .before .before .before .before .before .before .before .before .before .before .before .args .from) (c .before .before .before .before .before .before .before .before .before .before .before .before .before .before .before .before .before .before .args .h) (c .before .before .before .before .before .before .before .before .before .before .before .before .before .before .before .before .before .before .pre .3)) (c .before .before .before .before .before .before .before .before .before .before .body-named .ensures) (c .before .before .before .before .before .before .before .before .base .given .1) (c .before .before .before .before .with-room .ensures)
+returns c = body-read (c .before .before .before .before .before .before .before .before .before .before .before .before .before .before .before .before .before .before .args .t .now) (c .before .before .before .before .before .before .before .before .before .before .before .before .before .before .before .before .before .before .args .out .now) (headerBy (c .before .before .before .before .before .before .before .before .before .before .before .before .before .before .before .before .before .before .args .f .now) (c .before .before .before .before .before .before .before .before .before .before .before .before .before .before .before .before .before .before .args .h)) (ordersFrom FlussoOrdinativi (c .before .before .before .before .before .before .before .before .before .before .before .before .before .before .before .before .before .before .args .f .now) (c .before .before .before .before .before .before .before .before .before .before .before .before .before .before .before .before .before .before .args .h .orders)) (c .before .before .before .before .before .before .before .before .before .before .before .before .part-at .ensures) (c .before .before .before .before .before .before .before .before .before .before .body-named .ensures) (c .before .before .before .before .before .before .before .before .base .given .1) (c .before .before .before .before .with-room .ensures)
 
 same-length-3 : tie.Need-same-length-3
 same-length-3 c = search needs
 
 returns-2 : tie.Need-returns-2
-returns-2 c = body-read (c .before .before .before .before .before .before .before .before .before .before .args .t .now) (c .before .before .before .before .before .before .before .before .before .before .args .out .now) (headerFrom (c .before .before .before .before .before .before .before .before .before .before .args .f .now) (c .before .before .before .before .before .before .before .before .before .before .args .from)) (ordersFrom (c .before .before .before .before .before .before .before .before .before .before .args .f .now) (c .before .before .before .before .before .before .before .before .before .before .args .from)) (c .before .before .before .before .part-at .ensures ∙ ente-part (c .before .before .before .before .before .before .before .before .before .before .args .f .now) (c .before .before .before .before .before .before .before .before .before .before .args .from) (c .before .before .before .before .before .before .before .before .before .before .args .h) (c .before .before .before .before .before .before .before .before .before .before .pre .3)) (c .before .before .body-named .ensures) (c .enum-told .given .1) (refl, refl, refl)
+returns-2 c = body-read (c .before .before .before .before .before .before .before .before .before .before .args .t .now) (c .before .before .before .before .before .before .before .before .before .before .args .out .now) (headerBy (c .before .before .before .before .before .before .before .before .before .before .args .f .now) (c .before .before .before .before .before .before .before .before .before .before .args .h)) (ordersFrom FlussoOrdinativi (c .before .before .before .before .before .before .before .before .before .before .args .f .now) (c .before .before .before .before .before .before .before .before .before .before .args .h .orders)) (c .before .before .before .before .part-at .ensures) (c .before .before .body-named .ensures) (c .enum-told .given .1) (refl, refl, refl)
 
 same-length-4 : tie.Need-same-length-4
 same-length-4 c = search needs
 
 returns-3 : tie.Need-returns-3
-returns-3 c = body-read (c .before .before .before .before .before .before .before .before .before .before .args .t .now) (c .before .before .before .before .before .before .before .before .before .before .args .out .now) (headerFrom (c .before .before .before .before .before .before .before .before .before .before .args .f .now) (c .before .before .before .before .before .before .before .before .before .before .args .from)) (ordersFrom (c .before .before .before .before .before .before .before .before .before .before .args .f .now) (c .before .before .before .before .before .before .before .before .before .before .args .from)) (c .before .before .before .before .part-at .ensures ∙ ente-part (c .before .before .before .before .before .before .before .before .before .before .args .f .now) (c .before .before .before .before .before .before .before .before .before .before .args .from) (c .before .before .before .before .before .before .before .before .before .before .args .h) (c .before .before .before .before .before .before .before .before .before .before .pre .3)) (c .before .before .body-named .ensures) (c .enum-told2 .given .1) (refl, refl, refl)
+returns-3 c = body-read (c .before .before .before .before .before .before .before .before .before .before .args .t .now) (c .before .before .before .before .before .before .before .before .before .before .args .out .now) (headerBy (c .before .before .before .before .before .before .before .before .before .before .args .f .now) (c .before .before .before .before .before .before .before .before .before .before .args .h)) (ordersFrom FlussoOrdinativi (c .before .before .before .before .before .before .before .before .before .before .args .f .now) (c .before .before .before .before .before .before .before .before .before .before .args .h .orders)) (c .before .before .before .before .part-at .ensures) (c .before .before .body-named .ensures) (c .enum-told2 .given .1) (refl, refl, refl)
 
 pub for-body-spec : {M : Type 1} → statement M
 for-body-spec =
