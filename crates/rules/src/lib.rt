@@ -11,7 +11,7 @@ ghost use lib.Dec.{ltb};
 ghost use Rattle.order.specs.Ordinativo.{linesThere, ordinativo};
 ghost use Rattle.record.specs.Slot.{acquiredState, annulledState, waitingLine, keyOf};
 ghost use Rattle.rules.specs.Rules.{asksOf, anyExecuted, situationIn, stepCode, eightPlaces, amountsOf, sameList, sameOrder, keyFor, recordWith, recordOf, written, lineMoves, noticeIn};
-ghost use Rattle.rules.specs.Inner.{rowOf, columnOf};
+ghost use Rattle.rules.specs.Inner.{rowOf, columnOf, meantCode, recordCode, absentCode};
 
 // Where the step table's columns stand.
 pub enum Situation {
@@ -197,7 +197,8 @@ pub fn same_order(o: Order, r: Record) -> bool
     same_list(&a, &b)
 }
 
-fn inserted_by(year: u64, o: Order) -> Record
+// The record of an order that fills an empty slot.
+pub fn inserted_by(year: u64, o: Order) -> Record
     ensures { λ w. ⌜ w ≡ recordOf (keyFor year (ordinativo o)) acquiredState (ordinativo o) ⌝ }
 {
     let ls = o.lines;
@@ -216,6 +217,39 @@ fn inserted_by(year: u64, o: Order) -> Record
         states,
         amounts,
     }
+}
+
+// 19 for an ANNULLO that means another order than r.
+fn meant_code(c: Change, o: Order, r: Record) -> u8
+    ensures { λ b. ⌜ b ≡ meantCode c (ordinativo o) r ⌝ }
+{
+    match c {
+        Change::Insert => 0,
+        Change::Vary => 0,
+        Change::Annul => { if same_order(o, r) { 0 } else { 19 } }
+    }
+}
+
+// An order's code where its record is r.
+pub fn record_code(c: Change, o: Order, r: Record) -> u8
+    ensures { λ b. ⌜ b ≡ recordCode c (ordinativo o) r ⌝ }
+{
+    let code = step_of(c, situation_in(r));
+    if code != 0 {
+        return code;
+    }
+    meant_code(c, o, r)
+}
+
+// An order's code where none of a body's n records is its own.
+pub fn absent_code(c: Change, n: usize, slots: usize) -> u8
+    ensures { λ b. ⌜ b ≡ absentCode c n slots ⌝ }
+{
+    let code = step_of(c, Situation::Absent);
+    if code != 0 {
+        return code;
+    }
+    if n < slots { 0 } else { 15 }
 }
 
 // Date, total and lines are replaced: nothing is left of the lines it had.

@@ -1,11 +1,10 @@
 -- Laws of orders and notices on a body's bytes, one way out of the code at a time.
 use Prim.Native.Nat.{ℕ, zero, suc, _+_, _*_, _≤_, _<_}
-use mathlib.Core.Bool.{Bool, true, false, cond}
+use mathlib.Core.Bool.{Bool, true}
 use mathlib.Core.List.{List, [], _∷_, _++_}
 use mathlib.Core.Path.{_≡_, refl, sym, ap, _∙_}
 use native.Mathlib.Omega.{arith}
 use lib.ListN.{length}
-use borrow.Author.Tests.{ltb-true, lt-ltb, le-ltb}
 use Rattle.words.specs.Numbers.{put, bytes4, bytes8}
 use Rattle.words.proofs.Laws.{put-put}
 use Rattle.codes.specs.Codes.{operationNumber}
@@ -14,26 +13,30 @@ use Rattle.ranges.specs.declared.Found.the-variants.{At, Nothing}
 use Rattle.order.specs.Ordinativo.{Ordinativo}
 use Rattle.record.specs.declared.Record.{Record}
 use Rattle.record.specs.declared.Key.{Key}
-use Rattle.record.specs.Slot.{slotSize, recordAt, recordBytes}
+use Rattle.record.specs.Slot.{slotSize, acquiredState, recordAt, recordBytes}
+use Rattle.slots.specs.declared.Sought.{Sought}
+use Rattle.slots.specs.declared.Sought.the-variants as sought
 use Rattle.slots.specs.Slots.{usedAt, recordsAt, findIn}
+use Rattle.slots.specs.Inner.{seekIn}
 use Rattle.body.specs.Body.{bodyOk}
 use Rattle.slots.proofs.Laws.{used-le}
-use Rattle.slots.proofs.Search.{found-below}
+use Rattle.slots.proofs.Search.{found-below, seek-at, seek-absent}
 use Rattle.slots.proofs.Index.{length-records, get-record}
 use Rattle.body.proofs.Slots.{valid-at}
 use Rattle.valid.proofs.Valid.{ok-bounds}
-use Rattle.rules.specs.declared.Situation.{Situation}
 use Rattle.rules.specs.declared.Change.{Change}
-use Rattle.rules.specs.declared.Change.the-variants.{Insert, Vary, Annul}
 use Rattle.rules.specs.declared.Asks.{Asks}
+use Rattle.rules.specs.declared.Asks.the-variants.{For, Unserved}
 use Rattle.rules.specs.declared.Ruling.{Ruling}
 use Rattle.rules.specs.declared.Ruling.the-variants.{Accepted, Refused}
 use Rattle.rules.specs.declared.Noticed.the-variants.{Moved, Unmoved}
 use Rattle.lines.specs.Lines.{lineCode}
-use Rattle.rules.specs.Rules.{asksOf, situationIn, situationOf, stepCode, keyFor, nth, noRecord, sameOrder, firstEmpty, placed, unless, stepped, judgeChange, judgeAsked, judgeOrder, written, movedTo, noticeIn, noticeAt, judgeNotice}
+use Rattle.rules.specs.Rules.{asksOf, keyFor, nth, noRecord, unless, stepped, judgeChange, judgeAsked, judgeOrder, recordOf, written, movedTo, noticeIn, noticeAt, judgeNotice}
+use Rattle.rules.specs.Inner.{absentCode}
 use Rattle.rules.proofs.Judging.{accepted-slot, moved}
-use Rattle.service.specs.Inner.{foundIn, atFound}
-use Rattle.service.specs.Service.{orderComes, orderStored, orderLeaves, outcomeBytes, noticeComes, noticeStored, noticeLeaves, statePlace}
+use Rattle.rules.proofs.Codes.{stepped-at, stepped-none, absent-zero}
+use Rattle.service.specs.Inner.{onRecord, onNone, Ruled}
+use Rattle.service.specs.Service.{orderComes, orderStored, OrderServed, outcomeBytes, noticeComes, noticeStored, noticeLeaves, statePlace}
 
 -- A RECORD OF A BODY stands in its slot
 pub record Held (t : List ℕ) (base n i : ℕ) : Type 0 where
@@ -51,104 +54,81 @@ module _ (t : List ℕ) (base n : ℕ) where
       let u : i < usedAt t base n = omega arith in
       record { low = omega (arith, used-le t base n); used = u; same = get-record t base n i noRecord u }
 
-  pub found-held : {f : Found} {i : ℕ} → f ≡ At i → foundIn records f ≡ true → Held t base n i
-  unfolding foundIn
-  found-held {f} {i} e h = held i (ltb-true i (length records) (sym (ap (foundIn records) e) ∙ h))
-
   pub search-held : {f : Found} {i : ℕ} (k : Key) → f ≡ findIn records 0 k → f ≡ At i → Held t base n i
   search-held {f} {i} k e g = held i (found-below records k i noRecord (sym e ∙ g))
 
-  -- a search finds one of the records, or none
-  pub search-in : {f : Found} (k : Key) → f ≡ findIn records 0 k → foundIn records f ≡ true
-  unfolding foundIn
-  search-in {f} k e = go f e
-    where
-      go : (x : Found) → x ≡ findIn records 0 k → foundIn records x ≡ true
-      go Nothing q = refl
-      go (At i) q = lt-ltb i (length records) (found-below records k i noRecord (sym q))
-
-  -- AN ORDER
-
-  module _ {f : Found} {i : ℕ} {r : Record} (e : f ≡ At i) (h : foundIn records f ≡ true) (g : r ≡ recordAt t (base + slotSize * i)) where
-    held-here : nth records i ≡ r
-    held-here = found-held e h .same ∙ sym g
-
-    pub situation-at : situationIn r ≡ situationOf records f
-    unfolding situationOf
-    situation-at = sym (ap (situationOf records) e ∙ ap situationIn held-here)
-
-    module _ (o : Ordinativo) {b : Bool} (s : b ≡ sameOrder o r) where
-      annulled-by : placed n o records Annul f ≡ cond b (Accepted Annul i) (Refused 19)
-      unfolding placed
-      annulled-by = ap (placed n o records Annul) e ∙ ap (λ (x : Bool). cond x (Accepted Annul i) (Refused 19)) (ap (sameOrder o) held-here ∙ sym s)
-
-      pub annulled-same : b ≡ true → placed n o records Annul f ≡ Accepted Annul i
-      annulled-same q = annulled-by ∙ rw q
-
-      pub annulled-other : b ≡ false → placed n o records Annul f ≡ Refused 19
-      annulled-other q = annulled-by ∙ rw q
-
-  pub annulled-none : (o : Ordinativo) {f : Found} → f ≡ Nothing → placed n o records Annul f ≡ Refused 16
-  unfolding placed
-  annulled-none o e = rw e
-
-  pub varied-found : (o : Ordinativo) (f : Found) → placed n o records Vary f ≡ atFound f
-  unfolding placed
-  varied-found o (At i) = refl
-  varied-found o Nothing = refl
-
-  module _ (used : ℕ) (q : used ≡ usedAt t base n) where
-    length-is : length records ≡ used
-    length-is = length-records t base n ∙ sym q
-
-    pub first-there : used < n → firstEmpty n records ≡ Accepted Insert used
-    first-there h = rw (length-is, lt-ltb used n h)
-
-    pub first-full : n ≤ used → firstEmpty n records ≡ Refused 15
-    first-full h = rw (length-is, le-ltb used n h)
+-- AN ORDER
 
 -- a code that isn't 0 is the answer
 unless-stop : (code : ℕ) (next : Ruling) → (code ≡ 0 → ⊥) → unless Refused code next ≡ Refused code
 unless-stop zero next h = absurd (h refl)
 unless-stop (suc code) next h = refl
 
-module _ (slots : ℕ) (o : Ordinativo) (rs : List Record) (c : Change) (f : Found) {s : Situation} {code : ℕ} (q : s ≡ situationOf rs f) (e : code ≡ stepCode c s) where
-  step-is : stepCode c (situationOf rs f) ≡ code
-  step-is = ap (stepCode c) (sym q) ∙ sym e
+-- refused, or not, by a code: where its record is, and where it has none
+module _ (t : List ℕ) (base year : ℕ) (o : Ordinativo) (next : Ruling) {code′ code : ℕ} (e : code ≡ code′) where
+  pub ruled-refused : (code ≡ 0 → ⊥) → Ruled t base year o (unless Refused code′ next) (Refused code) t
+  unfolding orderStored
+  ruled-refused h = rw (← e) (sym (unless-stop code next h), refl)
 
-  pub step-stops : (code ≡ 0 → ⊥) → stepped slots o rs c f ≡ Refused code
-  unfolding stepped
-  step-stops h = rw step-is (unless-stop code _ h)
+  pub ruled-stored : {c : Change} {i : ℕ} {w : Record} {t′ : List ℕ} → next ≡ Accepted c i → code ≡ 0 → w ≡ written year o (recordAt t (base + slotSize * i)) c
+      → t′ ≡ put t (base + slotSize * i) (recordBytes w) → Ruled t base year o (unless Refused code′ next) (Accepted c i) t′
+  unfolding orderStored
+  ruled-stored n h q s = rw (← e, h) (sym n, rw (← q) s)
 
-  pub step-goes : code ≡ 0 → stepped slots o rs c f ≡ placed slots o rs c f
-  unfolding stepped
-  step-goes h = rw (step-is, h)
+-- an order inserted where no record is its own
+module _ (year : ℕ) (o : Ordinativo) (r : Record) (c : Change) (n slots : ℕ) {code : ℕ} (e : code ≡ absentCode c n slots) (h : code ≡ 0) where
+  pub absent-low : n < slots
+  absent-low = absent-zero c n slots (sym e ∙ h) .1
 
-module _ (slots year : ℕ) (o : Ordinativo) (rs : List Record) (c : Change) {code : ℕ} (e : code ≡ lineCode (o .lines) (o .total)) where
-  pub change-lines : (code ≡ 0 → ⊥) → judgeChange slots year o rs c ≡ Refused code
-  change-lines h = rw (← e) (unless-stop code _ h)
+  pub absent-written : {w : Record} → w ≡ recordOf (keyFor year o) acquiredState o → w ≡ written year o r c
+  unfolding written
+  absent-written q = q ∙ sym (ap (written year o r) (absent-zero c n slots (sym e ∙ h) .0))
 
-  pub change-stepped : {f : Found} → code ≡ 0 → f ≡ findIn rs 0 (keyFor year o) → judgeChange slots year o rs c ≡ stepped slots o rs c f
-  change-stepped h q = rw (← e, h, q)
+-- what a change comes to: by its lines, and by the search for its key
+module _ (t : List ℕ) (base n year : ℕ) (o : Ordinativo) (c : Change) {code : ℕ} (e : code ≡ lineCode (o .lines) (o .total)) where
+  pub change-lines : (code ≡ 0 → ⊥) → Ruled t base year o (judgeChange n year o (recordsAt t base n) c) (Refused code) t
+  change-lines h = ruled-refused t base year o (stepped n o (recordsAt t base n) c (findIn (recordsAt t base n) 0 (keyFor year o))) e h
 
-pub comes-by : (t : List ℕ) (base n year : ℕ) (o : Ordinativo) {a b : Asks} → a ≡ asksOf (o .operation) → a ≡ b → orderComes t base n year o ≡ judgeAsked n year o (recordsAt t base n) b
-unfolding orderComes judgeOrder
-comes-by t base n year o e q = ap (judgeAsked n year o (recordsAt t base n)) (sym e ∙ q)
+  module _ {f : Sought} (h : code ≡ 0) (g : f ≡ seekIn (recordsAt t base n) 0 (keyFor year o)) where
+    seek-here : {x : Sought} → f ≡ x → seekIn (recordsAt t base n) 0 (keyFor year o) ≡ x
+    seek-here z = sym g ∙ z
+
+    pub change-held : {i : ℕ} → f ≡ sought.At i → Held t base n i
+    change-held {i} z = held t base n i (found-below (recordsAt t base n) (keyFor year o) i noRecord (seek-at (recordsAt t base n) 0 (keyFor year o) i (seek-here z)))
+
+    pub change-at : {i : ℕ} {j : Ruling} {t′ : List ℕ} → f ≡ sought.At i → Ruled t base year o (onRecord t base i o c) j t′
+        → Ruled t base year o (judgeChange n year o (recordsAt t base n) c) j t′
+    change-at {i} z r =
+        let a = seek-at (recordsAt t base n) 0 (keyFor year o) i (seek-here z) in
+        let b = stepped-at n o (recordsAt t base n) i c in
+        let d = change-held z .same in
+        (r .0 ∙ rw (← e, h, a, b, d), r .1)
+
+    pub change-none : {m : ℕ} {j : Ruling} {t′ : List ℕ} → f ≡ sought.Absent m → Ruled t base year o (onNone c m n) j t′
+        → Ruled t base year o (judgeChange n year o (recordsAt t base n) c) j t′
+    change-none {m} z r =
+        let a = seek-absent (recordsAt t base n) 0 (keyFor year o) m (seek-here z) in
+        let b = stepped-none n o (recordsAt t base n) c in
+        let d : length (recordsAt t base n) ≡ m = omega (arith, a .1) in
+        (r .0 ∙ rw (← e, h, a .0, b, d), r .1)
+
+-- its operation decides
+module _ (t : List ℕ) (base n year : ℕ) (o : Ordinativo) {a : Asks} (e : a ≡ asksOf (o .operation)) where
+  comes-by : {b : Asks} → a ≡ b → orderComes t base n year o ≡ judgeAsked n year o (recordsAt t base n) b
+  unfolding orderComes judgeOrder
+  comes-by q = ap (judgeAsked n year o (recordsAt t base n)) (sym e ∙ q)
+
+  pub served-change : {c : Change} {j : Ruling} {t′ : List ℕ} → a ≡ For c → Ruled t base year o (judgeChange n year o (recordsAt t base n) c) j t′ → OrderServed t base n year o j t′
+  served-change q r = let x = r .0 ∙ sym (comes-by q) in (x, r .1 ∙ ap (orderStored t base year o) x)
+
+  pub served-refused : {code : ℕ} → a ≡ Unserved code → OrderServed t base n year o (Refused code) t
+  unfolding orderStored
+  served-refused q = let x = sym (comes-by q) in (x, ap (orderStored t base year o) x)
 
 -- its slot is one of the body's
 pub order-low : (t : List ℕ) (base n year : ℕ) (o : Ordinativo) (c : Change) (i : ℕ) → orderComes t base n year o ≡ Accepted c i → i < n
 unfolding orderComes
 order-low t base n year o c i e = accepted-slot n year o (recordsAt t base n) c i e (omega (arith, length-records t base n, used-le t base n))
-
-module _ (t : List ℕ) (base n year : ℕ) (o : Ordinativo) where
-  pub order-stored : {c : Change} {i : ℕ} {r w : Record} {t′ : List ℕ} → orderComes t base n year o ≡ Accepted c i → r ≡ recordAt t (base + slotSize * i) → w ≡ written year o r c
-      → t′ ≡ put t (base + slotSize * i) (recordBytes w) → t′ ≡ orderLeaves t base n year o
-  unfolding orderStored
-  order-stored e p q s = rw (e, ← p, ← q) s
-
-  pub order-refused : {c : ℕ} → orderComes t base n year o ≡ Refused c → t ≡ orderLeaves t base n year o
-  unfolding orderStored
-  order-refused e = rw e
 
 -- an order's outcome, put in three
 pub outcome-put : (s s₁ s₂ s₃ : List ℕ) (at : ℕ) (o : Ordinativo) (code : ℕ) {p m : ℕ} → at + 16 ≤ length s → p ≡ operationNumber (o .operation) → m ≡ length (o .lines)

@@ -1,4 +1,4 @@
-// One order or one notice served on a body of a table's bytes: judged first, then stored.
+// One order or one notice served on a body of a table's bytes: judged first, then stored. Each looks at the one record that its search found.
 use order::Order;
 use ranges::Found;
 use record::Key;
@@ -6,7 +6,7 @@ use rules::Asks;
 use rules::Change;
 use rules::Noticed;
 use rules::Ruling;
-use rules::Situation;
+use slots::Sought;
 ghost use mathlib.Core.Path.{_≡_};
 ghost use mathlib.Core.Bool.{true};
 ghost use Prim.Native.Nat.{_+_, _*_, _≤_, _<_};
@@ -16,91 +16,53 @@ ghost use Rattle.order.specs.Ordinativo.{ordinativo};
 ghost use Rattle.record.specs.Slot.{slotSize};
 ghost use Rattle.slots.specs.Slots.{recordsAt};
 ghost use Rattle.body.specs.Body.{bodyOk};
-ghost use Rattle.rules.specs.declared.Change.the-variants.{Annul};
-ghost use Rattle.rules.specs.Rules.{situationOf, firstEmpty, placed, stepped, judgeChange, movedTo};
-ghost use Rattle.service.specs.Service.{outcomeSize, orderComes, OrderServed, outcomeBytes, noticeComes, NoticeServed};
-ghost use Rattle.service.specs.Inner.{foundIn, atFound};
+ghost use Rattle.rules.specs.Rules.{judgeChange, movedTo};
+ghost use Rattle.service.specs.Service.{outcomeSize, OrderServed, outcomeBytes, noticeComes, NoticeServed};
+ghost use Rattle.service.specs.Inner.{onRecord, onNone, Ruled};
 
 // How many bytes an order's outcome takes.
 pub const OUTCOME: usize = 16;
 
-// The situation of the order that a search found, or not, among a body's records.
-fn situation_of(t: &[u8], base: usize, n: usize, f: Found) -> Situation
-    requires { ⌜ (base + slotSize * n ≤ length (now t)) × (foundIn (recordsAt (now t) base n) f ≡ true) ⌝ }
-    ensures { λ r. ⌜ r ≡ situationOf (recordsAt (now (t .entry)) base n) f ⌝ }
+// Serves a change where the search found the order's record, at index i of its body: the only record that is looked at.
+fn serve_record(t: &mut [u8], base: usize, i: usize, year: u64, o: Order, c: Change) -> Ruling
+    requires { ⌜ base + slotSize * i + slotSize ≤ length (now t) ⌝ }
+    ensures { λ j. ⌜ Ruled (now (t .entry)) base year (ordinativo o) (onRecord (now (t .entry)) base i (ordinativo o) c) j (now (t .exit)) ⌝ }
 {
-    match f {
-        Found::At(i) => rules::situation_in(record::record_at(t, base + record::SLOT * i)),
-        Found::Nothing => Situation::Absent,
-    }
-}
-
-// INSERIMENTO: the body's first empty slot.
-fn first_empty(t: &[u8], base: usize, n: usize) -> Ruling
-    requires { ⌜ base + slotSize * n ≤ length (now t) ⌝ }
-    ensures { λ r. ⌜ r ≡ firstEmpty n (recordsAt (now (t .entry)) base n) ⌝ }
-{
-    let used = slots::used_slots(t, base, n);
-    if used < n {
-        Ruling::Accepted(Change::Insert, used)
-    } else {
-        Ruling::Refused(15)
-    }
-}
-
-// VARIAZIONE: the slot of the order.
-fn varied_at(f: Found) -> Ruling
-    ensures { λ r. ⌜ r ≡ atFound f ⌝ }
-{
-    match f {
-        Found::At(i) => Ruling::Accepted(Change::Vary, i),
-        Found::Nothing => Ruling::Refused(16),
-    }
-}
-
-// ANNULLO: the slot of the order, if it is the order that is meant.
-fn annulled_at(t: &[u8], base: usize, n: usize, o: Order, f: Found) -> Ruling
-    requires { ⌜ (base + slotSize * n ≤ length (now t)) × (foundIn (recordsAt (now t) base n) f ≡ true) ⌝ }
-    ensures { λ r. ⌜ r ≡ placed n (ordinativo o) (recordsAt (now (t .entry)) base n) Annul f ⌝ }
-{
-    let Found::At(i) = f else {
-        return Ruling::Refused(16);
-    };
-    if rules::same_order(o, record::record_at(t, base + record::SLOT * i)) {
-        Ruling::Accepted(Change::Annul, i)
-    } else {
-        Ruling::Refused(19)
-    }
-}
-
-// Where an order's record is to stand, once the step table has let it through.
-fn place_for(t: &[u8], base: usize, n: usize, o: Order, c: Change, f: Found) -> Ruling
-    requires { ⌜ (base + slotSize * n ≤ length (now t)) × (foundIn (recordsAt (now t) base n) f ≡ true) ⌝ }
-    ensures { λ r. ⌜ r ≡ placed n (ordinativo o) (recordsAt (now (t .entry)) base n) c f ⌝ }
-{
-    match c {
-        Change::Insert => first_empty(t, base, n),
-        Change::Vary => varied_at(f),
-        Change::Annul => annulled_at(t, base, n, o, f),
-    }
-}
-
-// The step table's code, or the place.
-fn stepped_at(t: &[u8], base: usize, n: usize, o: Order, c: Change, f: Found) -> Ruling
-    requires { ⌜ (base + slotSize * n ≤ length (now t)) × (foundIn (recordsAt (now t) base n) f ≡ true) ⌝ }
-    ensures { λ r. ⌜ r ≡ stepped n (ordinativo o) (recordsAt (now (t .entry)) base n) c f ⌝ }
-{
-    let code = rules::step_of(c, situation_of(t, base, n, f));
+    let at = base + record::SLOT * i;
+    let r = record::record_at(t, at);
+    let code = rules::record_code(c, o, r);
     if code != 0 {
         return Ruling::Refused(code);
     }
-    place_for(t, base, n, o, c, f)
+    record::put_record(t, at, rules::written_by(year, o, r, c));
+    Ruling::Accepted(c, i)
 }
 
-// What an order that asks for a change comes to.
-fn judge_change(t: &[u8], base: usize, n: usize, year: u64, o: Order, c: Change) -> Ruling
+// Serves a change where none of the body's `used` records is the order's: no record is looked at.
+fn serve_absent(
+    t: &mut [u8],
+    base: usize,
+    n: usize,
+    used: usize,
+    year: u64,
+    o: Order,
+    c: Change,
+) -> Ruling
     requires { ⌜ base + slotSize * n ≤ length (now t) ⌝ }
-    ensures { λ r. ⌜ r ≡ judgeChange n year (ordinativo o) (recordsAt (now (t .entry)) base n) c ⌝ }
+    ensures { λ j. ⌜ Ruled (now (t .entry)) base year (ordinativo o) (onNone c used n) j (now (t .exit)) ⌝ }
+{
+    let code = rules::absent_code(c, used, n);
+    if code != 0 {
+        return Ruling::Refused(code);
+    }
+    record::put_record(t, base + record::SLOT * used, rules::inserted_by(year, o));
+    Ruling::Accepted(c, used)
+}
+
+// Serves an order that asks for a change: its lines, then one search for its key.
+fn serve_change(t: &mut [u8], base: usize, n: usize, year: u64, o: Order, c: Change) -> Ruling
+    requires { ⌜ base + slotSize * n ≤ length (now t) ⌝ }
+    ensures { λ j. ⌜ Ruled (now (t .entry)) base year (ordinativo o) (judgeChange n year (ordinativo o) (recordsAt (now (t .entry)) base n) c) j (now (t .exit)) ⌝ }
 {
     let ls = o.lines;
     let code = lines::check_lines(ls, o.total);
@@ -112,18 +74,9 @@ fn judge_change(t: &[u8], base: usize, n: usize, year: u64, o: Order, c: Change)
         esercizio: year,
         number: o.number,
     };
-    stepped_at(t, base, n, o, c, slots::find(t, base, n, key))
-}
-
-// What an order comes to.
-pub fn judge_order(t: &[u8], base: usize, n: usize, year: u64, o: Order) -> Ruling
-    requires { ⌜ base + slotSize * n ≤ length (now t) ⌝ }
-    ensures { λ r. ⌜ r ≡ orderComes (now (t .entry)) base n year (ordinativo o) ⌝ }
-{
-    let operation = o.operation;
-    match rules::asks_of(operation) {
-        Asks::For(c) => judge_change(t, base, n, year, o, c),
-        Asks::Unserved(code) => Ruling::Refused(code),
+    match slots::seek(t, base, n, key) {
+        Sought::At(i) => serve_record(t, base, i, year, o, c),
+        Sought::Absent(used) => serve_absent(t, base, n, used, year, o, c),
     }
 }
 
@@ -132,15 +85,10 @@ pub fn serve_order(t: &mut [u8], base: usize, n: usize, year: u64, o: Order) -> 
     requires { ⌜ base + slotSize * n ≤ length (now t) ⌝ }
     ensures { λ r. ⌜ OrderServed (now (t .entry)) base n year (ordinativo o) r (now (t .exit)) ⌝ }
 {
-    let j = judge_order(t, base, n, year, o);
-    match j {
-        Ruling::Accepted(c, i) => {
-            let at = base + record::SLOT * i;
-            let r = record::record_at(t, at);
-            record::put_record(t, at, rules::written_by(year, o, r, c));
-            Ruling::Accepted(c, i)
-        }
-        Ruling::Refused(code) => Ruling::Refused(code),
+    let operation = o.operation;
+    match rules::asks_of(operation) {
+        Asks::For(c) => serve_change(t, base, n, year, o, c),
+        Asks::Unserved(code) => Ruling::Refused(code),
     }
 }
 

@@ -13,6 +13,8 @@ use Rattle.record.specs.declared.Key.{Key}
 use Rattle.ranges.specs.Ranges.{isNothing}
 use Rattle.ranges.specs.declared.Found.the-variants.{At, Nothing}
 use Rattle.slots.specs.Slots.{usedAt, slotsAt, recordsAt, findIn, distinct}
+use Rattle.slots.specs.Inner.{seekIn}
+use Rattle.slots.specs.declared.Sought.the-variants as sought
 
 -- THE RECORDS OF A BODY
 
@@ -74,6 +76,20 @@ module _ {rs rest : List Record} {r : Record} (e : rs ≡ r ∷ rest) (i : ℕ) 
 pub find-nil : {rs : List Record} → rs ≡ [] → (i : ℕ) (k : Key) → findIn rs i k ≡ Nothing
 unfolding findIn
 find-nil e i k = rw e
+
+-- the search for an order
+module _ {rs rest : List Record} {r : Record} (e : rs ≡ r ∷ rest) (i : ℕ) (k : Key) where
+  pub seek-first : keyIs r k ≡ true → seekIn rs i k ≡ sought.At i
+  unfolding seekIn
+  seek-first h = rw (e, h)
+
+  pub seek-later : keyIs r k ≡ false → seekIn rs i k ≡ seekIn rest (i + 1) k
+  unfolding seekIn
+  seek-later h = rw (e, h)
+
+pub seek-nil : {rs : List Record} → rs ≡ [] → (i : ℕ) (k : Key) → seekIn rs i k ≡ sought.Absent i
+unfolding seekIn
+seek-nil e i k = rw e
 
 pub distinct-more : {rs rest : List Record} {r : Record} → rs ≡ r ∷ rest → distinct rs ≡ (isNothing (findIn rest 0 (keyOf r)) && distinct rest)
 unfolding distinct

@@ -15,6 +15,8 @@ use Rattle.ranges.specs.Ranges.{isNothing}
 use Rattle.ranges.specs.declared.Found.{Found}
 use Rattle.ranges.specs.declared.Found.the-variants.{At, Nothing}
 use Rattle.slots.specs.Slots.{findIn, distinct}
+use Rattle.slots.specs.Inner.{seekIn}
+use Rattle.slots.specs.declared.Sought.the-variants as sought
 use Rattle.valid.proofs.Laws.{same-test}
 
 clash : {A : Type 0} → _≡_ {A = Bool} false true → A
@@ -74,6 +76,30 @@ module _ (rs : List Record) (k : Key) (j : ℕ) (d : Record) (e : findIn rs 0 k 
 
   pub found-key : keyOf (getD rs j d) ≡ k
   found-key = let q : j ≡ j - 0 = omega arith in ap (λ (m : ℕ). keyOf (getD rs m d)) q ∙ find-hit rs 0 k j d e .key
+
+-- THE SEARCH FOR AN ORDER finds what the search does, and counts the records where it finds none
+told : {A : Type 0} {j m : ℕ} → sought.At j ≡ sought.Absent m → A
+told e = let z : _≡_ {A = ℕ} 0 1 = cc in absurd (omega arith)
+
+pub seek-at : (rs : List Record) (i : ℕ) (k : Key) (j : ℕ) → seekIn rs i k ≡ sought.At j → findIn rs i k ≡ At j
+unfolding seekIn findIn
+seek-at [] i k j e = told (sym e)
+seek-at (r ∷ rs) i k j e = go (keyIs r k) e (seek-at rs (i + 1) k j)
+  where
+    go : (b : Bool) → cond b (sought.At i) (seekIn rs (i + 1) k) ≡ sought.At j → (seekIn rs (i + 1) k ≡ sought.At j → findIn rs (i + 1) k ≡ At j)
+        → cond b (At i) (findIn rs (i + 1) k) ≡ At j
+    go true f next = let q : i ≡ j = cc in ap At q
+    go false f next = next f
+
+pub seek-absent : (rs : List Record) (i : ℕ) (k : Key) (m : ℕ) → seekIn rs i k ≡ sought.Absent m → (findIn rs i k ≡ Nothing) × (m ≡ i + length rs)
+unfolding seekIn findIn
+seek-absent [] i k m e = let q : i ≡ m = cc in (refl, omega arith)
+seek-absent (r ∷ rs) i k m e = go (keyIs r k) e (seek-absent rs (i + 1) k m)
+  where
+    go : (b : Bool) → cond b (sought.At i) (seekIn rs (i + 1) k) ≡ sought.Absent m → (seekIn rs (i + 1) k ≡ sought.Absent m → (findIn rs (i + 1) k ≡ Nothing) × (m ≡ i + 1 + length rs))
+        → (cond b (At i) (findIn rs (i + 1) k) ≡ Nothing) × (m ≡ i + suc (length rs))
+    go true f next = told f
+    go false f next = let n = next f in (n .0, omega arith)
 
 -- A RECORD REPLACED BY ONE OF THE SAME KEY
 

@@ -8,7 +8,13 @@ ghost use lib.ListN.{length};
 ghost use Rattle.record.specs.Slot.{slotSize};
 ghost use Rattle.ranges.specs.Ranges.{isNothing};
 ghost use Rattle.slots.specs.Slots.{usedAt, slotsAt, recordsAt, findIn, distinct};
-ghost use Rattle.slots.specs.Inner.{filterSize, markOf};
+ghost use Rattle.slots.specs.Inner.{seekIn, filterSize, markOf};
+
+// What a search for an order tells: the place of its record, or that it is absent, and how many records there are; the next slot is the first empty one.
+pub enum Sought {
+    At(usize),
+    Absent(usize),
+}
 
 // The places of the filter of keys that were seen.
 const FILTER: u64 = 4096;
@@ -30,24 +36,36 @@ pub fn used_slots(t: &[u8], base: usize, n: usize) -> usize
     n
 }
 
-// The place among a body's records of the one with this key. Empty slots are never looked at: they follow the used ones.
-pub fn find(t: &[u8], base: usize, n: usize, key: Key) -> Found
+// The search for an order, one walk over the body's used slots. The key is compared where the bytes stand, and empty slots are never looked at:
+// they follow the used ones.
+pub fn seek(t: &[u8], base: usize, n: usize, key: Key) -> Sought
     requires { ⌜ base + slotSize * n ≤ length (now t) ⌝ }
-    ensures { λ r. ⌜ r ≡ findIn (recordsAt (now (t .entry)) base n) 0 key ⌝ }
+    ensures { λ r. ⌜ r ≡ seekIn (recordsAt (now (t .entry)) base n) 0 key ⌝ }
 {
     let mut at = base;
     let mut i = 0;
     while i < n {
         if t[at] == 0 {
-            return Found::Nothing;
+            return Sought::Absent(i);
         }
         if record::hit_at(t, at, key) {
-            return Found::At(i);
+            return Sought::At(i);
         }
         at += record::SLOT;
         i += 1;
     }
-    Found::Nothing
+    Sought::Absent(i)
+}
+
+// The place among a body's records of the one with this key.
+pub fn find(t: &[u8], base: usize, n: usize, key: Key) -> Found
+    requires { ⌜ base + slotSize * n ≤ length (now t) ⌝ }
+    ensures { λ r. ⌜ r ≡ findIn (recordsAt (now (t .entry)) base n) 0 key ⌝ }
+{
+    match seek(t, base, n, key) {
+        Sought::At(i) => Found::At(i),
+        Sought::Absent(_) => Found::Nothing,
+    }
 }
 
 // Whether none of the n used slots from base on has this key.

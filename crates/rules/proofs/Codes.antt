@@ -1,0 +1,102 @@
+-- An order's code as the code takes it (specs/Inner) is the rules': what a search told gives the same ruling.
+use Prim.Native.Nat.{ℕ, zero, suc, _≤_, _<_}
+use mathlib.Core.Path.{_≡_, refl, sym, ap, _∙_}
+use mathlib.Core.Bool.{Bool, true, false, cond}
+use mathlib.Core.List.{List}
+use native.Mathlib.Omega.{arith}
+use lib.ListN.{length}
+use lib.Dec.{eqb, ltb}
+use borrow.Author.Tests.{ltb-true, lt-ltb, le-ltb}
+use Rattle.ranges.specs.declared.Found.the-variants.{At, Nothing}
+use Rattle.order.specs.Ordinativo.{Ordinativo}
+use Rattle.record.specs.declared.Record.{Record}
+use Rattle.rules.specs.declared.Situation.{Situation}
+use Rattle.rules.specs.declared.Situation.the-variants.{Absent, Annulled, Waiting, Executed}
+use Rattle.rules.specs.declared.Change.{Change}
+use Rattle.rules.specs.declared.Change.the-variants.{Insert, Vary, Annul}
+use Rattle.rules.specs.declared.Ruling.{Ruling}
+use Rattle.rules.specs.declared.Ruling.the-variants.{Accepted, Refused}
+use Rattle.rules.specs.Rules.{anyExecuted, situationIn, situationOf, row, stepCode, nth, sameOrder, firstEmpty, placed, unless, stepped}
+use Rattle.rules.specs.Inner.{firstCode, meantCode, recordCode, absentCode}
+
+-- a code that isn't 0 comes first
+first-stops : (code next : ℕ) → (code ≡ 0 → ⊥) → firstCode code next ≡ code
+first-stops zero next h = absurd (h refl)
+first-stops (suc code) next h = refl
+
+-- THE WAYS OUT of the code
+module _ (o : Ordinativo) (r : Record) {c : Change} (a : c ≡ Annul) {b : Bool} (e : b ≡ sameOrder o r) where
+  pub meant-same : b ≡ true → 0 ≡ meantCode c o r
+  meant-same h = rw (a, ← e, h)
+
+  pub meant-other : b ≡ false → 19 ≡ meantCode c o r
+  meant-other h = rw (a, ← e, h)
+
+module _ (c : Change) (o : Ordinativo) (r : Record) {s : Situation} {code : ℕ} (q : s ≡ situationIn r) (e : code ≡ stepCode c s) where
+  step-is : stepCode c (situationIn r) ≡ code
+  step-is = ap (stepCode c) (sym q) ∙ sym e
+
+  pub record-stops : (code ≡ 0 → ⊥) → code ≡ recordCode c o r
+  record-stops h = rw step-is (sym (first-stops code (meantCode c o r) h))
+
+  pub record-goes : {m : ℕ} → code ≡ 0 → m ≡ meantCode c o r → m ≡ recordCode c o r
+  record-goes h g = rw (step-is, h) g
+
+module _ (c : Change) (n slots : ℕ) {code : ℕ} (e : code ≡ stepCode c Absent) where
+  pub absent-stops : (code ≡ 0 → ⊥) → code ≡ absentCode c n slots
+  absent-stops h = rw (← e) (sym (first-stops code (cond (ltb n slots) 0 15) h))
+
+  pub absent-room : code ≡ 0 → n < slots → 0 ≡ absentCode c n slots
+  absent-room h l = rw (← e, h, lt-ltb n slots l)
+
+  pub absent-full : code ≡ 0 → slots ≤ n → 15 ≡ absentCode c n slots
+  absent-full h l = rw (← e, h, le-ltb n slots l)
+
+-- THE RECORD IS THERE, at index i
+module _ (slots : ℕ) (o : Ordinativo) (rs : List Record) (i : ℕ) where
+  pub stepped-at : (c : Change) → stepped slots o rs c (At i) ≡ unless Refused (recordCode c o (nth rs i)) (Accepted c i)
+  unfolding stepped placed situationOf situationIn
+  stepped-at Insert = go (eqb (nth rs i .state) 2) (anyExecuted (nth rs i .states))
+    where
+      go : (a b : Bool) → unless Refused (row 0 14 14 14 (cond a Annulled (cond b Executed Waiting))) (firstEmpty slots rs)
+          ≡ unless Refused (firstCode (row 0 14 14 14 (cond a Annulled (cond b Executed Waiting))) 0) (Accepted Insert i)
+      go true b = refl
+      go false true = refl
+      go false false = refl
+  stepped-at Vary = go (eqb (nth rs i .state) 2) (anyExecuted (nth rs i .states))
+    where
+      go : (a b : Bool) → unless Refused (row 16 17 0 18 (cond a Annulled (cond b Executed Waiting))) (Accepted Vary i)
+          ≡ unless Refused (firstCode (row 16 17 0 18 (cond a Annulled (cond b Executed Waiting))) 0) (Accepted Vary i)
+      go true b = refl
+      go false true = refl
+      go false false = refl
+  stepped-at Annul = go (eqb (nth rs i .state) 2) (anyExecuted (nth rs i .states)) (sameOrder o (nth rs i))
+    where
+      go : (a b s : Bool) → unless Refused (row 16 17 0 18 (cond a Annulled (cond b Executed Waiting))) (cond s (Accepted Annul i) (Refused 19))
+          ≡ unless Refused (firstCode (row 16 17 0 18 (cond a Annulled (cond b Executed Waiting))) (cond s 0 19)) (Accepted Annul i)
+      go true b s = refl
+      go false true s = refl
+      go false false true = refl
+      go false false false = refl
+
+-- NO RECORD IS ITS OWN: the first empty slot comes after the last of them
+module _ (slots : ℕ) (o : Ordinativo) (rs : List Record) where
+  pub stepped-none : (c : Change) → stepped slots o rs c Nothing ≡ unless Refused (absentCode c (length rs) slots) (Accepted c (length rs))
+  unfolding stepped placed situationOf
+  stepped-none Insert = go (ltb (length rs) slots)
+    where
+      go : (b : Bool) → cond b (Accepted Insert (length rs)) (Refused 15) ≡ unless Refused (cond b 0 15) (Accepted Insert (length rs))
+      go true = refl
+      go false = refl
+  stepped-none Vary = refl
+  stepped-none Annul = refl
+
+-- an order that no record refuses is inserted, into a slot that there is
+pub absent-zero : (c : Change) (n slots : ℕ) → absentCode c n slots ≡ 0 → (c ≡ Insert) × (n < slots)
+absent-zero Insert n slots e = go (ltb n slots) refl e
+  where
+    go : (b : Bool) → ltb n slots ≡ b → _≡_ {A = ℕ} (cond b 0 15) 0 → (Insert ≡ Insert) × (n < slots)
+    go true h z = (refl, ltb-true n slots h)
+    go false h z = absurd (omega arith)
+absent-zero Vary n slots e = absurd (omega arith)
+absent-zero Annul n slots e = absurd (omega arith)
