@@ -111,7 +111,8 @@ fn say_text(t: &[u8]) -> bool {
 fn say_longest(f: Form) -> bool {
     match fields::longest_of(f) {
         Longest::Bytes(n) => say_number(n as u64) && say(b" bytes"),
-        Longest::Characters(n) => say_number(n as u64) && say(b" characters, each reference counting as one"),
+        Longest::Characters(n) => say_number(n as u64)
+            && say(b" characters, each reference counting as one"),
     }
 }
 

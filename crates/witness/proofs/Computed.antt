@@ -6,7 +6,7 @@ use mathlib.Core.List.{List, [], _∷_, _++_}
 use lib.ListN.{length, take}
 use lib.Dec.{leb}
 use Rattle.order.specs.Ordinativo.{Ordinativo}
-use Rattle.orders.specs.Orders.{Header, those, textIn, as, ordersTextIn, inside, lineOf, linesOf, eight, linesIn, orderOf, ordersOf}
+use Rattle.orders.specs.Orders.{Header, those, textIn as ordersTextIn, inside, lineOf, linesOf, eight, linesIn, orderOf, ordersOf}
 use Rattle.flow.specs.declared.Verdict.the-variants.{Stands}
 use Rattle.flow.specs.Flow.{headerOf, flowOrders, verdictBy, verdictOf}
 use Rattle.table.specs.Table.{tableOk}
