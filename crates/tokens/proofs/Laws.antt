@@ -15,7 +15,7 @@ use Rattle.scan.specs.Bytes.{bytes, byteAt, part, between, isLetter, isNameByte
 use Rattle.scan.specs.Characters.{isChar, sized, charAt}
 use Rattle.scan.specs.References.{refAt}
 use Rattle.scan.proofs.Laws.{never, both, not-is, in-range, cond-past, Advance, inside, stands, run-more, run-from, run-within, has-within, ref-past, char-past, char-some, size-one}
-use Rattle.tokens.specs.Tokens.{andThen, repeat, until, nameAt, idAt, tagEndAt, refAt, pieceAt, textAt, endTagAt, optionalAt, isPlain}
+use Rattle.tokens.specs.Tokens.{andThen, repeat, until, nameAt, idAt, tagEndAt, pieceAt, textAt, endTagAt, optionalAt, isPlain}
 
 pub then-past : (w : Walk) (k : ℕ → Walk) {q : ℕ} → andThen w k ≡ Past q → (p : ℕ) × (w ≡ Past p) × (k p ≡ Past q)
 then-past (Past p) k e = (p, refl, e)
