@@ -117,10 +117,10 @@ those-end [] e = refl
 those-end (k ∷ ks) e = no-next (sym e)
 
 -- where f holds of all of them
-pub those-all : (f : Kept → Bool) (ks : List Kept) → all f ks ≡ true → those f ks ≡ ks
-unfolding those all
+pub those-all : (f : Kept → Bool) (ks : List Kept) → allKept f ks ≡ true → those f ks ≡ ks
+unfolding those allKept
 those-all f [] e = refl
-those-all f (k ∷ ks) e = let b = both (f k) (all f ks) e in rw (b .0) (ap (λ t. k ∷ t) (those-all f ks (b .1)))
+those-all f (k ∷ ks) e = let b = both (f k) (allKept f ks) e in rw (b .0) (ap (λ t. k ∷ t) (those-all f ks (b .1)))
 
 -- BY ROWS
 module _ (n : ℕ) (p : Parent) (s : List ℕ) (i : ℕ) (k : Kept) (e : nextOf (keptFrom p s i) ≡ Named k) where
