@@ -7,7 +7,7 @@ use Rattle.grammar.specs.Grammar.{Name, Text, startTag, endTag}
 use Rattle.rows.specs.declared.Parent.the-variants.{FlussoOrdinativi}
 use Rattle.flow.specs.declared.Verdict.the-variants.{Stands}
 use Rattle.flow.specs.Flow.{verdictOf, headerOf, flowOrders}
-use Rattle.tree.specs.Tree.{Tree, tree, Held, says, holds, Trees, none, more, heldOf, kidsIn}
+use Rattle.tree.specs.Tree.{Tree, tree, Held, says, holds, Trees, none, more, heldOf, kidsIn, Reads}
 use Rattle.tree.specs.Fields.{AllStand}
 use Rattle.tree.specs.Orders.{HeaderIn, OrdersIn}
 use Rattle.order.specs.Ordinativo.{ordinativo}
@@ -51,14 +51,16 @@ mutual
     good-last : {d : ℕ} {t : Tree} → Good d t → GoodTrees d (more t none)
     good-next : {d : ℕ} {t : Tree} {ts : Trees} → Good d t → GoodTrees d ts → GoodTrees d (more t ts)
 
--- A TREE THAT IS A FLOW: it can be written, has the structure, and its fields stand. (None of these sees its places)
+-- A TREE THAT IS A FLOW, but for its length: it can be written, has the structure, and its fields stand. (None of these sees its places)
 pub record Message (t : Tree) : Type 0 where
   pub good : Good 12 t
   pub structured : Structured "flusso_ordinativi" FlussoOrdinativi t
   pub fields : AllStand (fieldsOf FlussoOrdinativi t)
 
--- WRITTEN AND READ BACK: it stands, and its header and orders are the tree's
+-- WRITTEN AND READ BACK: it is read as that tree, its elements at the places that they then have; it stands, and its header and orders are the tree's.
+-- Proved: `message-read-back` (proofs/Places.antt)
 pub record ReadBack (t : Tree) (at : ℕ) : Type 0 where
+  pub tree-again : Reads (bytesOf t) (placed 0 t)
   pub stands : verdictOf (bytesOf t) ≡ Stands at
   pub header : HeaderIn (kidsIn (heldOf t)) (headerOf (bytesOf t) at)
   pub orders : OrdersIn (kidsIn (heldOf t)) (flowOrders (bytesOf t) at)
