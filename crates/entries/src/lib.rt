@@ -8,12 +8,16 @@ ghost use lib.ListN.{length};
 ghost use Rattle.scan.specs.Bytes.{textIs};
 ghost use Rattle.bounds.specs.Bounds.{maxCode, maxLength};
 ghost use Rattle.ranges.specs.Ranges.{isNothing};
-ghost use Rattle.entries.specs.Entry.{entrySize, requestSize, codeLength, codeAt, slotsOf, placeOf, formOk, formsOk, codesFrom, findCode, distinctCodes};
+ghost use Rattle.entries.specs.Entry.{entryFixed, requestSize, codeLength, codeAt, slotsOf, placeOf, formOk, formsOk, codesFrom, findCode, distinctCodes};
 
-pub const ENTRY: usize = 32;
+pub const ENTRY: usize = 48;
 
-// An entry's bytes before its body's own.
+// An entry's bytes before its body's own, which begin with the cents paid and collected; the rest after these.
 pub const FIXED: usize = 24;
+
+pub const COLLECTED: usize = 32;
+
+pub const REST: usize = 40;
 
 pub const REQUEST: usize = 20;
 
@@ -27,7 +31,7 @@ pub fn slots_of(t: &[u8], at: usize) -> usize
 
 // Place of the first slot of the body whose entry begins at a place.
 pub fn place_of(t: &[u8], at: usize) -> usize
-    requires { ⌜ at + entrySize ≤ length (now t) ⌝ }
+    requires { ⌜ at + entryFixed ≤ length (now t) ⌝ }
     ensures { λ r. ⌜ (r ≡ placeOf (now (t .entry)) at) × (r < 4294967296) ⌝ }
 {
     words::read4(t, at + 20) as usize

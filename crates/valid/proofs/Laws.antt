@@ -10,6 +10,8 @@ use lib.Seq.{drop-cons}
 use lib.Dec.{eqb}
 use borrow.Author.Tests.{eq-eqb, ne-eqb, eqb-true, eqb-false}
 use Rattle.valid.specs.Valid.{allFrom, sum, executedIn}
+use Rattle.valid.specs.Inner.{told}
+use Rattle.valid.specs.declared.Judged.the-variants.{Broken, Right}
 
 -- TESTS OF ONE AFTER THE OTHER
 
@@ -66,3 +68,13 @@ executed-sum (x ∷ s) (y ∷ a) = go (eqb x 2) (executed-sum s a) where
   go : (b : Bool) → executedIn s a ≤ sum a → cond b y 0 + executedIn s a ≤ y + sum a
   go true h = omega arith
   go false h = omega arith
+
+-- WHAT IS TOLD
+
+pub told-right : (b : Bool) (x c : ℕ) → told b x ≡ Right c → (b ≡ true) × (x ≡ c)
+told-right true x c e = (refl, cc)
+told-right false x c e = let z : _≡_ {A = ℕ} 0 1 = cc in absurd (omega arith)
+
+pub told-broken : (b : Bool) (x : ℕ) → told b x ≡ Broken → b ≡ false
+told-broken true x e = let z : _≡_ {A = ℕ} 0 1 = cc in absurd (omega arith)
+told-broken false x e = refl
