@@ -150,11 +150,11 @@ module _ {t : List ℕ} {base n at left paid collected : ℕ} (s : Sofar t base 
       let b = s .right ∙ slots-ok-none t at left l in
       sym ((λ i. cond (b i) (Sums.Right (p i) (q i)) Sums.Broken))
 
-summed-right : (b : Bool) (rs : List Record) (p q : ℕ) → summed b rs ≡ Sums.Right p q → (b ≡ true) × (Sums.Right p q ≡ summed true rs)
+pub summed-right : (b : Bool) (rs : List Record) (p q : ℕ) → summed b rs ≡ Sums.Right p q → (b ≡ true) × (Sums.Right p q ≡ summed true rs)
 summed-right true rs p q e = (refl, sym e)
 summed-right false rs p q e = let z : _≡_ {A = ℕ} 0 1 = cc in absurd (omega arith)
 
-summed-broken : (b : Bool) (rs : List Record) → summed b rs ≡ Sums.Broken → b ≡ false
+pub summed-broken : (b : Bool) (rs : List Record) → summed b rs ≡ Sums.Broken → b ≡ false
 summed-broken true rs e = let z : _≡_ {A = ℕ} 0 1 = cc in absurd (omega arith)
 summed-broken false rs e = refl
 

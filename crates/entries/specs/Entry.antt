@@ -2,11 +2,11 @@
 -- entry's bytes 0 to 19.
 use Prim.Native.Nat.{ℕ, zero, suc, _+_, _-_, _*_}
 use mathlib.Core.Bool.{Bool, true, _&&_, cond}
-use mathlib.Core.List.{List, [], _∷_}
+use mathlib.Core.List.{List, [], _∷_, _++_}
 use lib.ListN.{getD}
 use Rattle.scan.specs.Bytes.{between, part, textIs}
 use Rattle.bounds.specs.Bounds.{isCode, maxSlots}
-use Rattle.words.specs.Numbers.{be2, be4, be8}
+use Rattle.words.specs.Numbers.{be2, be4, be8, bytes8}
 use Rattle.ranges.specs.Ranges.{zeros, isNothing}
 use Rattle.ranges.specs.declared.Found.{Found}
 use Rattle.ranges.specs.declared.Found.the-variants.{At, Nothing}
@@ -50,6 +50,10 @@ placeOf t at = be4 t (at + 20)
 abbrev pub kept : ℕ → List ℕ → ℕ → ℕ
 kept kind t at = be8 t (at + keptPlace kind)
 
+-- their sixteen bytes
+unfoldable pub keptBytes : ℕ → ℕ → List ℕ
+keptBytes paid collected = bytes8 paid ++ bytes8 collected
+
 -- bytes 0 to 19: a code of 1 to 16 letters and digits, zeros after it up to byte 17, 1 to 512 slots
 unfoldable pub formOk : List ℕ → ℕ → Bool
 formOk t at =
@@ -65,6 +69,11 @@ formsOk size t at (suc n) = formOk t at && formsOk size t (at + size) n
 unfoldable pub codesFrom : ℕ → List ℕ → ℕ → ℕ → List (List ℕ)
 codesFrom size t at zero = []
 codesFrom size t at (suc n) = codeAt t at ∷ codesFrom size t (at + size) n
+
+-- their slots, together
+unfoldable pub slotsFrom : ℕ → List ℕ → ℕ → ℕ → ℕ
+slotsFrom size t at zero = 0
+slotsFrom size t at (suc n) = slotsOf t at + slotsFrom size t (at + size) n
 
 -- the first of the codes that is this one, byte by byte and of the same length; i is the first code's index
 unfoldable pub findCode : List (List ℕ) → ℕ → List ℕ → Found
