@@ -1,7 +1,7 @@
 -- What a valid table tells of each body: its slots lie past the entries, within the table and apart from those of every other body, and its code is its own.
 use mathlib.Core.Path.{_≡_, refl, sym, ap, _∙_}
 use mathlib.Core.List.{List}
-use mathlib.Core.Bool.{Bool, true, false}
+use mathlib.Core.Bool.{Bool, true, false, _&&_}
 use mathlib.Core.Logic.{_⊎_, inl, inr}
 use Prim.Native.Nat.{ℕ, zero, suc, _+_, _-_, _*_, _≤_, _<_}
 use native.Mathlib.Nat.{add-zero, mul-zero, mul-le-mul-left}
@@ -47,7 +47,7 @@ module _ {L : Layout} (K : Known L) (t : List ℕ) where
       (λ i. layoutOk L t (q i) (r i) (placeOf t (q i)))
       ∙ lay-at (at + L .entry) (n - 1) (p + slotSize * slotsOf t at) b (lay-next L t at n p (omega arith) e) (omega arith)
 
-  lay-past : (at n p b : ℕ) → layoutOk L t at n p ≡ true → b < n → p ≤ placeOf t (at + L .entry * b)
+  pub lay-past : (at n p b : ℕ) → layoutOk L t at n p ≡ true → b < n → p ≤ placeOf t (at + L .entry * b)
   lay-past at n p zero e h =
       omega (arith, ap (placeOf t) (start at), entry L t at p (lay-split L t at n (n - 1) p (omega arith) e .0) .placed)
   lay-past at n p (suc b) e h =
@@ -57,6 +57,14 @@ module _ {L : Layout} (K : Known L) (t : List ℕ) where
   bodies-at at n zero e h = ap (bodyHolds L t) (start at) ∙ bodies-split L t at n (n - 1) (omega arith) e .0
   bodies-at at n (suc b) e h =
       ap (bodyHolds L t) (step at b) ∙ bodies-at (at + L .entry) (n - 1) b (bodies-split L t at n (n - 1) (omega arith) e .1) (omega arith)
+
+  pub bodies-each : (at n : ℕ) → ((b : ℕ) → b < n → bodyHolds L t (at + L .entry * b) ≡ true) → bodiesOk L t at n ≡ true
+  unfolding bodiesOk
+  bodies-each at zero f = refl
+  bodies-each at (suc n) f =
+      let a = ap (bodyHolds L t) (sym (start at)) ∙ f 0 (omega arith) in
+      let c = bodies-each (at + L .entry) n (λ b h. ap (bodyHolds L t) (sym (step at b)) ∙ f (suc b) (omega arith)) in
+      λ i. a i && c i
 
 -- where body b's entry begins in a table of a layout
 abbrev pub entryAt : Layout → ℕ → ℕ
