@@ -126,7 +126,7 @@ module _ (q : List ℕ) (ok : requestOk q ≡ true) where
   opened-body b h =
       let e = entryOf b in
       let n = headSize + entrySize * asked q in
-      let z = λ i (l : placeOf (opened q) e ≤ i). past i (omega (arith, lay-past known-2 (opened q) headSize (asked q) n b opened-layout h)) in
+      let z : (i : ℕ) → placeOf (opened q) e ≤ i → getD (opened q) i 0 ≡ 0 = λ i l. past i (omega (arith, lay-past known-2 (opened q) headSize (asked q) n b opened-layout h)) in
       let k = written-kept (omega arith) headSize firstBody (asked q) n b written h in
       let u = empty-used (opened q) (placeOf (opened q) e) (slotsOf (opened q) e) z in
       let rs : recordsOf (opened q) e ≡ [] = empty-records (opened q) (placeOf (opened q) e) (slotsOf (opened q) e) z in

@@ -1,83 +1,88 @@
+use borrow.Author.Needs.{needs}
+use Prim.Native.Nat.{ℕ, _≤_, _-_, _+_, _*_}
+use mathlib.Core.Path.{_≡_, refl, sym, ap, _∙_}
+use native.Mathlib.Omega.{arith}
+use lib.ListN.{length}
+use Rattle.words.specs.Numbers.{put}
+use Rattle.record.specs.Slot.{slotSize}
+use Rattle.entries.specs.Entry.{entrySize, requestSize}
+use Rattle.table.specs.Table.{headSize}
+use Rattle.contents.specs.Contents.{entriesBytes}
+use Rattle.contents.proofs.Laws.{length-part, entries-more, entries-done}
+use Rattle.request.specs.Request.{firstBody}
+use Rattle.opening.specs.Opening.{noCents}
 use Rattle.opening.proofs.put_entries.Statement.{statement}
 use Rattle.opening.proofs.put_entries.Tie as tie
-use Rattle.opening.proofs.put_entries.Reads as reads
-use Rattle.opening.proofs.put_entries.Lts as lts
-use Rattle.contents.proofs.put_entry.Reads as put-entry-reads
-use Rattle.entries.proofs.slots_of.Reads as slots-of-reads
 
 abbrev Inv-loop : tie.InvT-loop
-Inv-loop t₀ q n to₀ at₀ p₀ left₀ t to at p left = ?
+Inv-loop t₀ q n to₀ at₀ p₀ left₀ t to at p left =
+    (to + entrySize * left ≡ headSize + entrySize * n)
+    × (at + requestSize * left ≡ firstBody + requestSize * n)
+    × (p + 6291360 * left ≤ headSize + entrySize * n + 6291360 * n)
+    × (length t ≡ length t₀)
+    × (put t₀ headSize (entriesBytes requestSize noCents q firstBody n (headSize + entrySize * n)) ≡ put t to (entriesBytes requestSize noCents q at left p))
 
 abbrev μ-loop : tie.MeasureT-loop
-μ-loop t₀ q n to₀ at₀ p₀ left₀ t to at p left = ?
+μ-loop t₀ q n to₀ at₀ p₀ left₀ t to at p left = left
 
--- src/lib.rt:39:31
 mul-p : tie.Need-mul-p Inv-loop μ-loop
-mul-p c = ?
+mul-p c = search needs
 
--- src/lib.rt:39:17
 add-p : tie.Need-add-p Inv-loop μ-loop
-add-p c = ?
+add-p c = search needs
 
--- src/lib.rt:41:5
 loop-holds : tie.Need-loop-holds Inv-loop μ-loop
-loop-holds c = ?
+loop-holds c = (refl, refl, omega arith, refl, refl)
 
--- src/lib.rt:42:17
 add-e : tie.Need-add-e Inv-loop μ-loop
-add-e c = ?
+add-e c = search needs
 
--- src/lib.rt:43:36
 sub-put-entry : tie.Need-sub-put-entry Inv-loop μ-loop
-sub-put-entry c = ?
+sub-put-entry c = search needs
 
--- src/lib.rt:43:36
 part-put-entry-start : tie.Need-part-put-entry-start Inv-loop μ-loop
-part-put-entry-start c = ?
+part-put-entry-start c = search needs
 
--- src/lib.rt:43:36
 part-put-entry-end : tie.Need-part-put-entry-end Inv-loop μ-loop
-part-put-entry-end c = ?
+part-put-entry-end c = search needs
 
--- src/lib.rt:43:9
 put-entry-requires : tie.Need-put-entry-requires Inv-loop μ-loop
-put-entry-requires c κs = ?
+put-entry-requires c κs = (omega arith, length-part (c .before .before .before .before .before .before .args .q .now) (c .before .before .before .loop .at) requestSize (omega arith))
 
--- src/lib.rt:44:29
 slots-of-requires : tie.Need-slots-of-requires Inv-loop μ-loop
-slots-of-requires c κs = ?
+slots-of-requires c κs = search needs
 
--- src/lib.rt:44:14
 mul-p-2 : tie.Need-mul-p-2 Inv-loop μ-loop
-mul-p-2 c = ?
+mul-p-2 c = search needs
 
--- src/lib.rt:44:9
 add-p-2 : tie.Need-add-p-2 Inv-loop μ-loop
-add-p-2 c = ?
+add-p-2 c = search needs
 
--- src/lib.rt:45:9
 add-to : tie.Need-add-to Inv-loop μ-loop
-add-to c = ?
+add-to c = search needs
 
--- src/lib.rt:47:9
 sub-left : tie.Need-sub-left Inv-loop μ-loop
-sub-left c = ?
+sub-left c = search needs
 
--- src/lib.rt:41:5
 loop-less : tie.Need-loop-less Inv-loop μ-loop
-loop-less c = ?
+loop-less c = search needs
 
--- src/lib.rt:41:5
 loop-again : tie.Need-loop-again Inv-loop μ-loop
-loop-again c = ?
+loop-again c =
+    let l = c .before .before .before .before .before .before .before .loop in
+    let q = c .before .before .before .before .before .before .before .before .before .before .args .q .now in
+    let t = c .before .before .before .put-entry .last .0 in
+    let s = c .slots-of .ensures .0 in
+    let more = entries-more requestSize noCents q (omega arith) (l .t) t (l .to) (l .at) (l .left) (l .left - 1) (l .p) (omega arith) (omega arith) (omega arith) (c .before .before .before .put-entry .ensures) in
+    (omega arith, omega arith, omega arith, omega arith, l .inv .4 ∙ more ∙ ap (λ (k : ℕ). put t (l .to + entrySize) (entriesBytes requestSize noCents q (l .at + requestSize) (l .left - 1) (l .p + slotSize * k))) (sym s))
 
--- src/lib.rt:32:1
 same-length : tie.Need-same-length Inv-loop μ-loop
-same-length c = ?
+same-length c = search needs
 
--- src/lib.rt:32:1
 returns : tie.Need-returns Inv-loop μ-loop
-returns c = ?
+returns c =
+    let l = c .before .loop in
+    sym (l .inv .4 ∙ entries-done requestSize noCents (c .before .before .before .before .args .q .now) (omega arith) (l .t) (l .to) (l .at) (l .left) (l .p) (omega arith))
 
 pub put-entries-spec : {M : Type 1} → statement M
 put-entries-spec =
