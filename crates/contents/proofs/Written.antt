@@ -234,8 +234,7 @@ module _ {size : ℕ} {cents : ℕ → ℕ → ℕ} (wide : requestSize ≤ size
       let x : to + entrySize * 0 ≡ to = omega arith in
       let y : at + size * 0 ≡ at = ap (λ (z : ℕ). at + z) (mul-zero size) ∙ add-zero at in
       let f = part s at (at + requestSize) in
-      rw (x, y)
-      (
+      rw (x, y) (
         entry-paid o to f p (cents 1 at) (cents 2 at) (its-form w) (written-first w),
         entry-collected o to f p (cents 1 at) (cents 2 at) (its-form w) (written-first w),
       )
