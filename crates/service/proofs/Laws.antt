@@ -197,11 +197,6 @@ module _ (t : List ℕ) (base n : ℕ) (executing : Bool) (k : Key) (line : ℕ)
       let q : nth (recordsAt t base n) i .lines ≡ recordAt t (base + slotSize * i) .lines = ap (λ (x : Record). x .lines) (h .same) in
       record { low = h .low; first = m .1 .first; last = omega (arith, m .1 .last) }
 
-  pub notice-stored : {i cents s : ℕ} {t′ : List ℕ} → noticeComes t base n executing k line ≡ Moved i cents → s ≡ movedTo executing
-      → t′ ≡ put t (statePlace base i line) (s ∷ []) → t′ ≡ noticeLeaves t base n executing k line
+  pub notice-refused : (e : ℕ) {c : ℕ} → noticeComes t base n executing k line ≡ Unmoved c → t ≡ noticeLeaves t e base n executing k line
   unfolding noticeStored
-  notice-stored e q p = rw (e, ← q) p
-
-  pub notice-refused : {c : ℕ} → noticeComes t base n executing k line ≡ Unmoved c → t ≡ noticeLeaves t base n executing k line
-  unfolding noticeStored
-  notice-refused e = rw e
+  notice-refused e q = rw q

@@ -5,8 +5,8 @@ use mathlib.Core.Path.{_≡_, refl, sym, ap, _∙_}
 use mathlib.Core.Bool.{Bool, true, false, cond, _||_}
 use mathlib.Core.List.{List, [], _∷_, _++_}
 use native.Mathlib.Omega.{arith}
-use lib.ListN.{length, getD, set, replicate}
-use lib.Seq.{set-split}
+use lib.ListN.{length, getD, set, replicate, drop-of-length-le}
+use lib.Seq.{set-split, take-all}
 use lib.Dec.{eqb}
 use borrow.Author.Tests.{eqb-true, ne-eqb}
 use Rattle.scan.proofs.Laws.{both}
@@ -16,7 +16,8 @@ use Rattle.record.specs.declared.Record.{Record}
 use Rattle.record.specs.Slot.{keyOf, keyIs}
 use Rattle.slots.specs.Slots.{findIn, distinct}
 use Rattle.slots.proofs.Search.{found-below, found-key}
-use Rattle.body.specs.Body.{executedIn, centsOf}
+use Rattle.valid.specs.Valid.{executedIn}
+use Rattle.body.specs.Body.{centsOf}
 use Rattle.valid.proofs.Valid.{Valid, ok-bounds}
 use Rattle.order.specs.Ordinativo.{Ordinativo}
 use Rattle.rules.specs.declared.Change.{Change}
@@ -25,15 +26,20 @@ use Rattle.rules.specs.declared.Ruling.the-variants.{Accepted, Refused}
 use Rattle.ranges.specs.declared.Found.the-variants.{At}
 use Rattle.rules.specs.declared.Noticed.the-variants.{Moved}
 use Rattle.rules.specs.Rules.{anyExecuted, keyFor, nth, noRecord, eight, judgeOrder, written, lineMoves, movedTo, judgeNotice}
-use Rattle.rules.specs.Effects.{storedAt, recordsBy, allRecords, withState}
+use Rattle.rules.specs.Effects.{storedAt, recordsBy, allRecords, withState, recordsMoved}
 use Rattle.rules.proofs.Judging.{Stands, inserting, varying, annulling, accepted, Moves, moved}
 use Rattle.rules.proofs.Kept.{waiting-all}
-use Rattle.service.proofs.Kept.{stored-end}
-use Rattle.theorems.specs.History.{Which, Value, worthIn, worth, ofKind, itsCents, withKey, onLine}
+use Rattle.rules.specs.Worth.{Which, Value, worthIn, worth, ofKind, itsCents, withKey, onLine}
 
 -- WHERE AN ORDER'S RECORD STANDS: in place of the one at i, or after the last
 stored-set : (rs : List Record) (i : ℕ) (r : Record) → i < length rs → storedAt rs i r ≡ set rs i r
 stored-set rs i r h = sym (set-split rs i r h)
+
+pub stored-end : (rs : List Record) (i : ℕ) (r : Record) → i ≡ length rs → storedAt rs i r ≡ rs ++ r ∷ []
+stored-end rs i r e =
+    let a = take-all i rs (omega arith) in
+    let b = drop-of-length-le rs {i = suc i} (omega arith) in
+    λ k. a k ++ r ∷ b k
 
 -- LINES THAT WAIT
 none-paid : (v : Value) (n : ℕ) (states amounts : List ℕ) → anyExecuted states ≡ false → worthIn v n states amounts ≡ 0
@@ -132,7 +138,7 @@ module _ (p : Which) (v : Value) where
         let z : lines new ≡ 0 = rw y (none-paid v 1 (nth rs i .states) _ (w .waits)) in
         ap (worth p v) (stored-set rs i new h) ∙ omega (arith, set-worth rs i new h, none-in new z, none-in (nth rs i) (none-paid v 1 (nth rs i .states) _ (w .waits)))
 
-    order-worth : (j : Ruling) → judgeOrder slots year o rs ≡ j → worth p v (recordsBy year o rs j) ≡ worth p v rs
+    pub order-worth : (j : Ruling) → judgeOrder slots year o rs ≡ j → worth p v (recordsBy year o rs j) ≡ worth p v rs
     order-worth (Accepted c i) e = by-stand c i (accepted slots year o rs c i e)
     order-worth (Refused code) e = refl
 
@@ -214,6 +220,27 @@ cents-worth kind (r ∷ rs) =
     let x = cents-in 1 (r .states) (r .amounts) in
     let y = cents-worth kind rs in
     λ i. cond (eqb (r .kind) kind) (x i) 0 + y i
+
+-- no order moves cash; an accepted notice moves that of its order's kind by exactly its cents
+pub order-cash : (slots year : ℕ) (o : Ordinativo) (rs : List Record) (j : Ruling) → judgeOrder slots year o rs ≡ j → (kind : ℕ)
+    → centsOf kind (recordsBy year o rs j) ≡ centsOf kind rs
+order-cash slots year o rs j e kind =
+    cents-worth kind (recordsBy year o rs j) ∙ order-worth (ofKind kind) itsCents slots year o rs j e ∙ sym (cents-worth kind rs)
+
+module _ (key : Key) (line : ℕ) (rs : List Record) (i cents kind : ℕ) where
+  pub execute-cash : judgeNotice true key line rs ≡ Moved i cents → Valid (nth rs i)
+      → centsOf kind (recordsMoved true line rs (Moved i cents)) ≡ centsOf kind rs + cond (eqb (key .kind) kind) cents 0
+  execute-cash e ok =
+      let x = cents-worth kind (recordsMoved true line rs (Moved i cents)) in
+      let y = cents-worth kind rs in
+      omega (arith, execute-worth (ofKind kind) itsCents key line rs i cents e ok)
+
+  pub reverse-cash : judgeNotice false key line rs ≡ Moved i cents → Valid (nth rs i)
+      → centsOf kind (recordsMoved false line rs (Moved i cents)) + cond (eqb (key .kind) kind) cents 0 ≡ centsOf kind rs
+  reverse-cash e ok =
+      let x = cents-worth kind (recordsMoved false line rs (Moved i cents)) in
+      let y = cents-worth kind rs in
+      omega (arith, reverse-worth (ofKind kind) itsCents key line rs i cents e ok)
 
 -- ONE LINE of one order: among records of distinct keys it is 0 or 1
 module _ (line : ℕ) where
