@@ -36,7 +36,7 @@ noticeBy t executing k line (Body e base n) = noticed (noticeComes t base n exec
 unfoldable pub noticeTableBy : List ℕ → Bool → Key → ℕ → Addressed → List ℕ
 noticeTableBy t executing k line Invalid = t
 noticeTableBy t executing k line Unknown = t
-noticeTableBy t executing k line (Body e base n) = noticeLeaves t base n executing k line
+noticeTableBy t executing k line (Body e base n) = noticeLeaves t e base n executing k line
 
 -- what a notice of execution (true) or reversal (false) answers, and the table afterwards
 abbrev pub noticeAnswer : List ℕ → Bool → List ℕ → Key → ℕ → NoticeAnswer
