@@ -56,7 +56,7 @@ fn refused_flows_change_nothing() {
 
 #[test]
 fn bytes_that_are_no_table() {
-    for bytes in [&mut [][..], &mut [0; 15], &mut [0xFF; 848]] {
+    for bytes in [&mut [][..], &mut [0; 15], &mut [0xFF; 880]] {
         let mut table = Table::over(bytes);
         assert_eq!(table.flow(RUN, &mut [0; 32]), Err(Refusal::TableNotValid));
         assert_eq!(table.execute(&LINE), Err(Refusal::TableNotValid));

@@ -29,17 +29,17 @@ unfolding orderStored
 stored t base year o (Accepted c i) f = absurd (f refl)
 stored t base year o (Refused c) f = refl
 
-moved : (t : List ℕ) (base : ℕ) (executing : Bool) (line : ℕ) (m : Noticed) → (noticeCodeOf (noticed m) ≡ 0 → ⊥) → noticeStored t base executing line m ≡ t
+moved : (t : List ℕ) (e base n : ℕ) (executing : Bool) (line : ℕ) (m : Noticed) → (noticeCodeOf (noticed m) ≡ 0 → ⊥) → noticeStored t e base n executing line m ≡ t
 unfolding noticeStored
-moved t base executing line (Moved i cents) f = absurd (f refl)
-moved t base executing line (Unmoved c) f = refl
+moved t e base n executing line (Moved i cents) f = absurd (f refl)
+moved t e base n executing line (Unmoved c) f = refl
 
 addressed-keeps : (t : List ℕ) (executing : Bool) (k : Key) (line : ℕ) (a : Addressed)
     → (noticeCodeOf (noticeBy t executing k line a) ≡ 0 → ⊥) → noticeTableBy t executing k line a ≡ t
 unfolding noticeBy noticeTableBy
 addressed-keeps t executing k line Invalid f = refl
 addressed-keeps t executing k line Unknown f = refl
-addressed-keeps t executing k line (Body e base n) f = moved t base executing line (noticeComes t base n executing k line) f
+addressed-keeps t executing k line (Body e base n) f = moved t e base n executing line (noticeComes t base n executing k line) f
 
 opening-keeps : (q t : List ℕ) (a : Opened) → (openCode a ≡ 0 → ⊥) → openTable a q t ≡ t
 opening-keeps q t Open f = absurd (f refl)

@@ -7,7 +7,6 @@ pub mod Good
 pub mod Named
 pub mod Steps
 pub mod Calls
-pub mod Worth
 pub mod Condition3
 pub mod History
 pub mod NoSecond

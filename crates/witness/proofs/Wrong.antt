@@ -68,8 +68,8 @@ module _ (a : FlowAnswer) (t′ out′ : List ℕ) (p : FlowPromise sampleTable 
   pub taken : a ≡ Taken 1 1
   taken = by-reading sampleTable (single "471") (room 1) own-reads p .0 ∙ facts .answer
 
-  pub stored : getD t′ 464 0 ≡ 1
-  stored = byte 464 (by-reading sampleTable (single "471") (room 1) own-reads p .1) ∙ facts .slot
+  pub stored : getD t′ 496 0 ≡ 1
+  stored = byte 496 (by-reading sampleTable (single "471") (room 1) own-reads p .1) ∙ facts .slot
 
 -- the same of the exported function, in document 01's numbers
 pub taken-reply : (n : FlowReply) (t′ out′ : List ℕ) → FlowReplies sampleTable (single "471") (room 1) n t′ out′
@@ -92,8 +92,8 @@ module _ (a : FlowAnswer) (t′ out′ : List ℕ) (p : FlowPromise second two (
       let e = by-reading second two (room 2) more-reads p .2 in
       (byte 2 e ∙ facts .code-0, byte 18 e ∙ facts .code-1)
 
-  pub more-stored : getD t′ 560 0 ≡ 1
-  more-stored = byte 560 (by-reading second two (room 2) more-reads p .1) ∙ facts .next
+  pub more-stored : getD t′ 592 0 ≡ 1
+  more-stored = byte 592 (by-reading second two (room 2) more-reads p .1) ∙ facts .next
 
 -- THE RIGHT ONE: something keeps the promise
 abbrev pub right : Taker
@@ -126,12 +126,12 @@ module _ (T : Taker) (keeps : Keeps T) where
   pub stores-nothing : StoresNothing T → ⊥
   stores-nothing r =
       let k = keeps sampleTable (single "471") (room 1) in
-      omega (arith, stored _ _ _ k, facts .slot-empty, byte 464 (r sampleTable (single "471") (room 1) (ap code (taken _ _ _ k))))
+      omega (arith, stored _ _ _ k, facts .slot-empty, byte 496 (r sampleTable (single "471") (room 1) (ap code (taken _ _ _ k))))
 
   pub first-only : FirstOnly T → ⊥
   first-only r =
-      let z = r second two (room 2) 464 4 2021 (order 1) (order 2 ∷ []) more-reads in
-      omega (arith, more-stored _ _ _ (keeps second two (room 2)), facts .next-empty, byte 560 z)
+      let z = r second two (room 2) 496 4 2021 (order 1) (order 2 ∷ []) more-reads in
+      omega (arith, more-stored _ _ _ (keeps second two (room 2)), facts .next-empty, byte 592 z)
 
   pub invents-accepted : InventsAccepted T → ⊥
   invents-accepted r = r .other (condition2 .accepted (r .table) (r .flow) (r .lent) _ _ _ (keeps (r .table) (r .flow) (r .lent)) (r .taken))
@@ -148,14 +148,14 @@ module _ (T : Taker) (keeps : Keeps T) where
   pub keeps-amounts : KeepsAmounts T → ⊥
   keeps-amounts r =
       let e = by-reading twoLined changing (room 1) changed-reads (keeps twoLined changing (room 1)) .1 in
-      let z = r twoLined changing (room 1) 464 4 2021 0 1 change changed-reads refl (facts .comes-change) (omega arith) in
-      omega (arith, facts .amount-old, facts .amount-new, z, ap (λ (x : List ℕ). getD (recordAt x 464 .amounts) 1 0) e)
+      let z = r twoLined changing (room 1) 496 4 2021 0 1 change changed-reads refl (facts .comes-change) (omega arith) in
+      omega (arith, facts .amount-old, facts .amount-new, z, ap (λ (x : List ℕ). getD (recordAt x 496 .amounts) 1 0) e)
 
   -- its ANNULLO with another amount is refused (19)
   pub annuls-by-number : AnnulsByNumber T → ⊥
   annuls-by-number r =
       let e = by-reading twoLined annulling (room 1) annulled-reads (keeps twoLined annulling (room 1)) .0 ∙ facts .answer-annul in
-      let z = r twoLined annulling (room 1) 464 4 2021 0 annul annulled-reads refl (facts .lines-right) (facts .found) (facts .waits) in
+      let z = r twoLined annulling (room 1) 496 4 2021 0 annul annulled-reads refl (facts .lines-right) (facts .found) (facts .waits) in
       omega (arith, ap accepted e)
 
   -- 15 is given exactly where the body is full
@@ -182,8 +182,8 @@ module _ (T : Taker) (keeps : Keeps T) where
   pub serves-elsewhere : ServesElsewhere T → ⊥
   serves-elsewhere r =
       let e = by-reading sampleTable (single "471") (room 1) own-reads (keeps sampleTable (single "471") (room 1)) .1 in
-      let z = r sampleTable (single "471") (room 1) 464 4 2021 (order 1 ∷ []) own-reads in
-      omega (arith, facts .slots-used, facts .slots-empty, byte 0 z, ap (λ (x : List ℕ). getD (part x 464 848) 0 0) e)
+      let z = r sampleTable (single "471") (room 1) 496 4 2021 (order 1 ∷ []) own-reads in
+      omega (arith, facts .slots-used, facts .slots-empty, byte 0 z, ap (λ (x : List ℕ). getD (part x 496 880) 0 0) e)
 
   -- on the table that mandato 1 of 000471 left: refused (14) for 000471, accepted for 471
   pub by-number : ByNumber T → ⊥
@@ -232,6 +232,6 @@ module _ (S : Teller) (keeps : KeepsTotals S) where
 -- document 01's own table is opened
 pub open-by-number : (O : Opener) → KeepsOpen O → OpenByNumber O → ⊥
 open-by-number O keeps r =
-    let z = r (requestOf 4) (replicate 848 0) 0 1 (omega arith) (omega (arith, facts .asked-two)) (facts .value-asked) in
-    let y : _≡_ {A = ℕ} 9 0 = ap openCode (sym z ∙ keeps (requestOf 4) (replicate 848 0) .0 ∙ facts .opens) in
+    let z = r (requestOf 4) (replicate 880 0) 0 1 (omega arith) (omega (arith, facts .asked-two)) (facts .value-asked) in
+    let y : _≡_ {A = ℕ} 9 0 = ap openCode (sym z ∙ keeps (requestOf 4) (replicate 880 0) .0 ∙ facts .opens) in
     omega arith

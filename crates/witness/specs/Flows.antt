@@ -62,14 +62,14 @@ linesCode o = lineCode (o .lines) (o .total)
 
 -- TABLES: document 01's after mandato 1 for 000471, and after mandato 1 for 471
 abbrev pub first : List ℕ
-first = orderLeaves sampleTable 80 4 2021 (order 1)
+first = orderLeaves sampleTable 112 4 2021 (order 1)
 
 abbrev pub second : List ℕ
-second = orderLeaves sampleTable 464 4 2021 (order 1)
+second = orderLeaves sampleTable 496 4 2021 (order 1)
 
 -- after a mandato 1 of two lines for 471
 abbrev pub twoLined : List ℕ
-twoLined = orderLeaves sampleTable 464 4 2021 (twoLines 1)
+twoLined = orderLeaves sampleTable 496 4 2021 (twoLines 1)
 
 -- for the same bodies with one slot each
 abbrev pub small : List ℕ

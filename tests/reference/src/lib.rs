@@ -1,6 +1,6 @@
-//! Document 01 written a second time.
+//! Documents 01 and 02 written a second time.
 //!
-//! This crate answers the order desk's five calls from the words of document 01 and the readings of its open points, and from
+//! This crate answers the order desk's six calls from the words of documents 01 and 02 and the readings of its open points, and from
 //! nothing else: it shares no line, no structure and no order of work with the library it is compared with. A flow is read into a
 //! tree with a stack of open elements, a table is decoded into plain structs (bodies with a list of orders), and a changed table is
 //! encoded afresh. Where clear and fast part ways, this crate is clear.
@@ -8,7 +8,7 @@
 //! ```
 //! use reference::{open, request, totals};
 //!
-//! let mut table = vec![0; 848];
+//! let mut table = vec![0; 880];
 //! assert_eq!(open(&request(b"01234", &[(b"000471", 4), (b"471", 4)]), &mut table), 0);
 //! assert_eq!(totals(&table, b"471").code, 0);
 //! assert_eq!(totals(&table, b"0471").code, 7);
@@ -20,8 +20,8 @@ pub mod markup;
 pub mod structure;
 pub mod table;
 
-pub use desk::{FlowAnswer, Notice, NoticeAnswer, Totals, execute, flow, open, request, reverse, totals};
-pub use table::{Body, Date, Kind, Line, Order, State, Table};
+pub use desk::{FlowAnswer, Notice, NoticeAnswer, Totals, convert, execute, flow, open, request, reverse, totals};
+pub use table::{Body, Date, Form, Kind, Line, Order, State, Table};
 
 /// The most bytes a flow has.
 pub const LONGEST_FLOW: usize = 32_768;
