@@ -118,8 +118,7 @@ module _ {s t : List ℕ} {e base n : ℕ} (a : Agree s base t base (slotSize * 
       let f = agree-after x (e + entryFixed) v base (omega arith) (slotSize * n) (omega arith) in
       let g = agree-after y (e + entryFixed) v base (omega arith) (slotSize * n) (omega arith) in
       let z : e + entryFixed ≡ e + entryFixed + 0 = omega arith in
-      rw rs
-      (
+      rw rs (
         record { same = λ j k. f .same j k ∙ c .same j k ∙ sym (g .same j k) },
         rw (ap (λ (q : ℕ). put x q v) z, ap (λ (q : ℕ). put y q v) z) (put-agree (tailed b i low many) 0 v (omega arith) (omega arith)),
       )

@@ -1,7 +1,7 @@
 -- CONDITION 1, proved. (Its codes: Codes and Accepted; a refused flow: crates/desk/proofs/Refusals.antt.)
 use Prim.Native.Nat.{ℕ}
 use mathlib.Core.Path.{_≡_, refl, ap, _∙_}
-use mathlib.Core.Bool.{Bool}
+use mathlib.Core.Bool.{Bool, true}
 use mathlib.Core.List.{List}
 use Rattle.order.specs.Ordinativo.{Ordinativo}
 use Rattle.record.specs.declared.Key.{Key}
@@ -18,7 +18,11 @@ use Rattle.notices.specs.Notices.{noticed, noticeBy, noticeTableBy, noticeCodeO
 use Rattle.opening.specs.declared.Opened.{Opened}
 use Rattle.opening.specs.declared.Opened.the-variants.{Open, WrongRequest, WrongLength}
 use Rattle.opening.specs.Opening.{openCode, openTable}
+use Rattle.convert.specs.declared.Converted.{Converted}
+use Rattle.convert.specs.declared.Converted.the-variants as Converted
+use Rattle.convert.specs.Convert.{convertCode, convertTable}
 use Rattle.desk.proofs.Refusals.{code-keeps}
+use Rattle.theorems.specs.Codes.{oneOf, convertCodes}
 use Rattle.theorems.specs.Condition1.{Condition1}
 use Rattle.theorems.proofs.Steps.{answer, after, steps}
 use Rattle.theorems.proofs.Codes.{open-codes, call-codes}
@@ -46,9 +50,20 @@ opening-keeps q t Open f = absurd (f refl)
 opening-keeps q t WrongRequest f = refl
 opening-keeps q t WrongLength f = refl
 
+convert-keeps : (o t : List ℕ) (a : Converted) → (convertCode a ≡ 0 → ⊥) → convertTable a o t ≡ t
+convert-keeps o t Converted.Converts f = absurd (f refl)
+convert-keeps o t Converted.InvalidTable f = refl
+convert-keeps o t Converted.WrongLength f = refl
+
+convert-codes : (a : Converted) → oneOf convertCodes (convertCode a) ≡ true
+convert-codes Converted.Converts = refl
+convert-codes Converted.InvalidTable = refl
+convert-codes Converted.WrongLength = refl
+
 pub condition1 : Condition1
 condition1 = record {
   opening-numbered = λ q t a t′ p. open-codes a;
+  conversion-numbered = λ o t a t′ p. convert-codes a;
   call-numbered = call-codes;
   orders-numbered = outcomes-coded;
   answered = λ c t. (answer c t, after c t, steps c t);
@@ -57,4 +72,5 @@ condition1 = record {
   refused-notice = λ t executing code k line a t′ p f.
       p .1 ∙ addressed-keeps t executing k line (addressed t code) (λ e. f (ap noticeCodeOf (p .0) ∙ e));
   refused-opening = λ q t a t′ p f. p .1 ∙ opening-keeps q t a f;
+  refused-conversion = λ o t a t′ p f. p .1 ∙ convert-keeps o t a f;
 }

@@ -47,7 +47,7 @@ module _ (E : Engine) (t₀ : List ℕ) (r : tableOk t₀ ≡ true) (cs : List C
   abbrev now : List ℕ
   now = tableAfter E t₀ cs
 
-  good : Good t₀ now
+  pub good : Good t₀ now
   good = good-run (machine E t₀) (Good t₀) (laws E t₀ r) cs t₀ (fresh t₀ r)
 
   records-now : (b : ℕ) → b < bodies t₀ → recordsOf b now ≡ recordsAt now (base t₀ b) (size t₀ b)

@@ -12,3 +12,4 @@ pub mod History
 pub mod NoSecond
 pub mod Condition1
 pub mod Exactly
+pub mod Totals

@@ -110,7 +110,7 @@ fn p10_two_bodies() {
     assert_eq!(codes(&mut table, &whole("000471", &orders)), [0; 4]);
     assert_eq!(codes(&mut table, &whole("471", &orders)), [0; 4]);
     assert_eq!(codes(&mut table, &whole("471", &[mandato("INSERIMENTO", "5", "1.00", ONE)])), [15]);
-    let mut alone = vec![0; 16 + 32 + 96];
+    let mut alone = vec![0; 16 + 48 + 96];
     assert_eq!(open(&request(b"01234", &[(b"471", 1)]), &mut alone), 0);
     assert_eq!(refusal(&alone, whole("000471", &orders[..1]).as_bytes(), 16), (7, 0));
     assert_eq!(codes(&mut alone, &whole("471", &orders[..1])), [0]);
@@ -204,8 +204,11 @@ fn notices_and_totals() {
         let before = table.clone();
         let call = if execution { execute } else { reverse };
         let answer = call(&mut table, body.as_bytes(), &notice);
-        let changed = before.iter().zip(&table).filter(|(old, new)| old != new).count();
+        // One byte of a slot, and what the entry of 471 keeps.
+        let changed = before[112..].iter().zip(&table[112..]).filter(|(old, new)| old != new).count();
         assert_eq!(changed, usize::from(answer.code == 0));
+        assert!(before[..88] == table[..88] && before[104..112] == table[104..112]);
+        assert_eq!(before[88..104] != table[88..104], answer.cents != 0);
         assert!(answer.code == 0 || answer.cents == 0);
         (answer.code, answer.cents)
     };
@@ -235,7 +238,7 @@ fn notices_and_totals() {
     let expected = Totals { code: 0, used: 3, paid: 100, collected: 40, balance: -60 };
     assert_eq!(totals(&table, b"471"), expected);
     assert_eq!(totals(&table, b"47"), Totals { code: 7, ..Totals::default() });
-    table[3] = 2;
+    table[3] = 1;
     assert_eq!(totals(&table, b"471"), Totals { code: 1, ..Totals::default() });
     assert_eq!(execute(&mut table, b"none", &notice(1, 1, 1)).code, 1);
 }

@@ -77,21 +77,19 @@ same-length : tie.Need-same-length
 same-length c = search needs
 
 returns : tie.Need-returns
-returns c =
-    (
-    sym (c .before .before .before .before .before .before .before .before .before .before .before .m .given .1) ∙ c .before .before .before .before .before .before .before .before .before .before .before .before .before .judge-notice .ensures,
-    notice-stored (c .before .before .before .before .before .before .before .before .before .before .before .before .before .before .before .before .args .t .now) (c .before .before .before .before .before .before .before .before .before .before .before .before .before .before .before .before .args .e) (c .before .before .before .before .before .before .before .before .before .before .before .before .before .before .before .before .args .base) (c .before .before .before .before .before .before .before .before .before .before .before .before .before .before .before .before .args .n) (c .before .before .before .before .before .before .before .before .before .before .before .before .before .before .before .before .args .executing) (c .before .before .before .before .before .before .before .before .before .before .before .before .before .before .before .before .args .key) (c .before .before .before .before .before .before .before .before .before .before .before .before .before .before .before .before .args .line) (c .before .before .before .before .before .before .before .before .before .before .before .before .before .before .before .before .pre) (sym (c .before .before .before .before .before .before .before .before .before .before .before .before .before .judge-notice .ensures) ∙ c .before .before .before .before .before .before .before .before .before .before .before .m .given .1) (c .before .before .before .before .before .before .before .before .before .moved-to .ensures) (c .before .before .before .before .before .before .copy-in .ensures) (c .before .before .move-kept .ensures),
-    )
+returns c = (
+  sym (c .before .before .before .before .before .before .before .before .before .before .before .m .given .1) ∙ c .before .before .before .before .before .before .before .before .before .before .before .before .before .judge-notice .ensures,
+  notice-stored (c .before .before .before .before .before .before .before .before .before .before .before .before .before .before .before .before .args .t .now) (c .before .before .before .before .before .before .before .before .before .before .before .before .before .before .before .before .args .e) (c .before .before .before .before .before .before .before .before .before .before .before .before .before .before .before .before .args .base) (c .before .before .before .before .before .before .before .before .before .before .before .before .before .before .before .before .args .n) (c .before .before .before .before .before .before .before .before .before .before .before .before .before .before .before .before .args .executing) (c .before .before .before .before .before .before .before .before .before .before .before .before .before .before .before .before .args .key) (c .before .before .before .before .before .before .before .before .before .before .before .before .before .before .before .before .args .line) (c .before .before .before .before .before .before .before .before .before .before .before .before .before .before .before .before .pre) (sym (c .before .before .before .before .before .before .before .before .before .before .before .before .before .judge-notice .ensures) ∙ c .before .before .before .before .before .before .before .before .before .before .before .m .given .1) (c .before .before .before .before .before .before .before .before .before .moved-to .ensures) (c .before .before .before .before .before .before .copy-in .ensures) (c .before .before .move-kept .ensures),
+)
 
 same-length-2 : tie.Need-same-length-2
 same-length-2 c = search needs
 
 returns-2 : tie.Need-returns-2
-returns-2 c =
-    (
-    sym (c .before .m2 .given .1) ∙ c .before .before .before .judge-notice .ensures,
-    notice-refused (c .before .before .before .before .before .before .args .t .now) (c .before .before .before .before .before .before .args .base) (c .before .before .before .before .before .before .args .n) (c .before .before .before .before .before .before .args .executing) (c .before .before .before .before .before .before .args .key) (c .before .before .before .before .before .before .args .line) (c .before .before .before .before .before .before .args .e) (sym (c .before .before .before .judge-notice .ensures) ∙ c .before .m2 .given .1),
-    )
+returns-2 c = (
+  sym (c .before .m2 .given .1) ∙ c .before .before .before .judge-notice .ensures,
+  notice-refused (c .before .before .before .before .before .before .args .t .now) (c .before .before .before .before .before .before .args .base) (c .before .before .before .before .before .before .args .n) (c .before .before .before .before .before .before .args .executing) (c .before .before .before .before .before .before .args .key) (c .before .before .before .before .before .before .args .line) (c .before .before .before .before .before .before .args .e) (sym (c .before .before .before .judge-notice .ensures) ∙ c .before .m2 .given .1),
+)
 
 pub serve-notice-spec : {M : Type 1} → statement M
 serve-notice-spec =
