@@ -3,10 +3,10 @@
 /*
  * Hondivole: the order tables of a treasury house's order desk.
  *
- * Five functions open an order table, take a body's flow of payment and collection orders, take the bank's notices of execution and
- * reversal, and report a body's totals. Each answers with a code: 0, or the number of a refusal in the list below. A sixth shows the field
- * that a flow was refused for. Each checks its own inputs: tables, flows, requests, codes and numbers may be any bytes and any values.
- * Each writes all its results on every path. What stands below them, written in C and not proved, says codes in words and lays out a request.
+ * Six functions open an order table, convert one of the old form, take a body's flow of payment and collection orders, take the bank's
+ * notices of execution and reversal, and report a body's totals. Each answers with a code: 0, or the number of a refusal in the list below.
+ * A seventh shows the field that a flow was refused for. Each checks its own inputs: tables, flows, requests, codes and numbers may be any
+ * bytes and any values. Each writes all its results on every path. What stands below them, written in C and not proved, says codes in words and lays out a request.
  * None reads or writes anything but the buffers and results it is lent, and none keeps anything from one call to the next, so that
  * calls on different tables may be made at the same time.
  *
@@ -49,7 +49,7 @@ enum hondivole_code {
     HONDIVOLE_NO_SUCH_BODY = 7,         /* no body has this code */
     HONDIVOLE_OUTCOMES_TOO_SHORT = 8,   /* the outcome buffer has under 16 bytes per order */
     HONDIVOLE_REQUEST_WRONG = 9,        /* the request to open a table is wrong */
-    HONDIVOLE_BUFFER_LENGTH_WRONG = 10, /* the buffer to open a table in hasn't the needed length */
+    HONDIVOLE_BUFFER_LENGTH_WRONG = 10, /* the buffer to open or convert a table in hasn't the needed length */
     HONDIVOLE_SUBSTITUTION = 11,        /* the order is a SOSTITUZIONE */
     HONDIVOLE_LINES_MISNUMBERED = 12,   /* the order's lines aren't numbered 1, 2, 3 and so on */
     HONDIVOLE_LINES_DONT_SUM = 13,      /* the order's line amounts don't sum to its total */
@@ -81,7 +81,13 @@ enum {
 };
 
 /* The bytes of the opened table for so many bodies and, over all of them, so many slots. */
-#define HONDIVOLE_TABLE_BYTES(bodies, slots) (16u + 32u * (bodies) + 96u * (slots))
+#define HONDIVOLE_TABLE_BYTES(bodies, slots) (16u + 48u * (bodies) + 96u * (slots))
+
+/* A table is at most so long. */
+#define HONDIVOLE_MOST_TABLE_BYTES 65792u
+
+/* The bytes of the table that a table 1 of so many bytes and bodies is converted to. */
+#define HONDIVOLE_CONVERTED_BYTES(old, bodies) ((old) + 16u * (bodies))
 
 /* The bytes of the request to open a table for so many bodies. */
 #define HONDIVOLE_REQUEST_BYTES(bodies) (5u + 20u * (bodies))
@@ -97,6 +103,7 @@ enum {
  * beside its own. tests/stack makes each call on a stack of exactly so many bytes.
  */
 #define HONDIVOLE_OPEN_STACK 1024u
+#define HONDIVOLE_CONVERT_STACK 8192u
 #define HONDIVOLE_FLOW_STACK 49152u
 #define HONDIVOLE_NOTICE_STACK 8192u
 #define HONDIVOLE_TOTALS_STACK 8192u
@@ -105,11 +112,19 @@ enum {
 /*
  * Opens a table. The request is five ABI digits and then 20 bytes per body: the code's length, the code in 16 bytes with zeros after it,
  * a zero, and the number of slots (1 to 512) in two bytes, the higher first: hondivole_request lays it out. 1 to 16 bodies, codes of 1 to
- * 16 letters and digits, all distinct. The table buffer has exactly the needed length, see HONDIVOLE_TABLE_BYTES, at most 65,536. It
+ * 16 letters and digits, all distinct. The table buffer has exactly the needed length, see HONDIVOLE_TABLE_BYTES, at most 65,792. It
  * answers 0 and fills the whole buffer, every slot empty, whatever the buffer held; or 9 when the request is wrong, or 10 when the buffer's
  * length is. It never changes a byte with 9 or 10.
  */
 uint64_t hondivole_open(const uint8_t *request, size_t request_len, uint8_t *table, size_t table_len);
+
+/*
+ * Converts a table 1, of entries of 32 bytes and the number 1 in its head, into a table 2, in a second buffer of exactly the length that
+ * HONDIVOLE_CONVERTED_BYTES says. It answers 0 and fills the whole second buffer, whatever it held, with the same bank, bodies and records,
+ * each entry keeping the cents paid and collected of its body's records; or 1 when the old table isn't a valid table 1, or 10 when the second
+ * buffer's length isn't right. It never changes the old table, and no byte with 1 or 10. Every other call takes tables 2 alone.
+ */
+uint64_t hondivole_convert(const uint8_t *old, size_t old_len, uint8_t *table, size_t table_len);
 
 /*
  * Takes a body's flow. It answers 0 when the flow is taken: its orders are then served as written, each on the table the one before left;
@@ -128,8 +143,8 @@ uint64_t hondivole_flow(uint8_t *table, size_t table_len, const uint8_t *flow, s
  * Takes the bank's notice that a line is executed. It names the body by its code, the order by kind (1 mandato, 2 reversale), esercizio
  * and number, and the line, counted from 1; year, month and day are its date, which has to be a TARGET day. It answers 0 and sets the line
  * executed, *cents being the line's amount; or the first of 1 (table not valid), 27 (no date, or outside 2002 to 2099), 28 (closing day),
- * 7 (no such body), 16 (no such order), 17 (annulled), 20 (no such line) and 21 (already executed) that applies, *cents being 0. It never
- * changes more than one byte of the table, and none on a refusal.
+ * 7 (no such body), 16 (no such order), 17 (annulled), 20 (no such line) and 21 (already executed) that applies, *cents being 0. It changes
+ * the line's state and the cents that the body's entry keeps, and no other byte, and none on a refusal.
  */
 uint64_t hondivole_execute(uint8_t *table, size_t table_len, const uint8_t *body, size_t body_len, uint64_t kind, uint64_t esercizio,
                            uint64_t number, uint64_t line, uint64_t year, uint64_t month, uint64_t day, uint64_t *cents);
@@ -137,7 +152,8 @@ uint64_t hondivole_execute(uint8_t *table, size_t table_len, const uint8_t *body
 /*
  * Takes the bank's notice that an executed line is reversed (storno). It names a line and has a date as hondivole_execute does. It answers
  * 0 and sets the line waiting again, so that it may be executed again, *cents being the line's amount; or the first of 1, 27, 28, 7, 16,
- * 17, 20 and 22 (not executed) that applies, *cents being 0. It never changes more than one byte of the table, and none on a refusal.
+ * 17, 20 and 22 (not executed) that applies, *cents being 0. It changes the line's state and the cents that the body's entry keeps, and no
+ * other byte, and none on a refusal.
  */
 uint64_t hondivole_reverse(uint8_t *table, size_t table_len, const uint8_t *body, size_t body_len, uint64_t kind, uint64_t esercizio,
                            uint64_t number, uint64_t line, uint64_t year, uint64_t month, uint64_t day, uint64_t *cents);
@@ -236,7 +252,7 @@ static inline size_t hondivole_table_bytes(const struct hondivole_body *bodies, 
     size_t slots = 0;
     for (size_t i = 0; i < count; i++)
         slots += bodies[i].slots;
-    return 16 + 32 * count + 96 * slots;
+    return 16 + 48 * count + 96 * slots;
 }
 
 /*

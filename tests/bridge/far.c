@@ -117,6 +117,12 @@ uint64_t hondivole_open(const uint8_t *request, size_t request_len, uint8_t *tab
     return forward(&call, table, request, table, table_len, none).code;
 }
 
+uint64_t hondivole_convert(const uint8_t *old, size_t old_len, uint8_t *table, size_t table_len)
+{
+    struct call call = {.function = CONVERT, .lengths = {table_len, old_len, 0}};
+    return forward(&call, table, old, table, table_len, none).code;
+}
+
 uint64_t hondivole_flow(uint8_t *table, size_t table_len, const uint8_t *flow, size_t flow_len, uint8_t *outcomes, size_t outcomes_len,
                         uint64_t *place, uint64_t *orders, uint64_t *accepted, uint64_t *cause)
 {

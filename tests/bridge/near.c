@@ -149,6 +149,8 @@ static uint64_t make(const struct call *call)
     switch (call->function) {
     case OPEN:
         return hondivole_open(input, input_len, table, table_len);
+    case CONVERT:
+        return hondivole_convert(input, input_len, table, table_len);
     case FLOW:
         return hondivole_flow(table, table_len, input, input_len, outcomes, outcomes_len, results[0], results[1], results[2],
                               results[3]);

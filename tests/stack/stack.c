@@ -23,13 +23,13 @@ enum { NO_ACCESS = 0, READ_AND_WRITE = 3, PRIVATE_AND_ANONYMOUS = 0x22 };
 #define PAINT 0xA5
 
 static uint8_t *stack; /* its lowest byte; below it lie pages that may not be touched */
-static uint8_t table[65520], outcomes[HONDIVOLE_MOST_OUTCOME_BYTES];
+static uint8_t table[HONDIVOLE_MOST_TABLE_BYTES], old[HONDIVOLE_MOST_TABLE_BYTES], outcomes[HONDIVOLE_MOST_OUTCOME_BYTES];
 static uint8_t flow[HONDIVOLE_MOST_FLOW_BYTES + 1];
 static size_t flow_len;
 static uint64_t code, results[4];
 static int64_t balance;
 static uint8_t request[HONDIVOLE_REQUEST_BYTES(16)];
-static size_t request_len, table_len;
+static size_t request_len, table_len, old_len;
 static const uint8_t body[] = {'0', '0', '0', '4', '7', '1'};
 
 static void say(const char *text)
@@ -125,6 +125,7 @@ static void late_field(void)
 }
 
 static void call_open(void) { code = hondivole_open(request, request_len, table, table_len); }
+static void call_convert(void) { code = hondivole_convert(old, old_len, table, table_len); }
 static void call_flow(void)
 {
     code = hondivole_flow(table, table_len, flow, flow_len, outcomes, sizeof outcomes, &results[0], &results[1], &results[2],
@@ -146,6 +147,24 @@ static void call_field_at(void)
 {
     hondivole_field_at(flow, flow_len, 0, &results[0], &results[1], &results[2], &results[3]);
     code = results[1] == 0;
+}
+
+/* The table of two bodies as a table 1: entries of 32 bytes, the places that go with them, and the number 1. */
+static void make_old(void)
+{
+    old_len = table_len - 32;
+    memcpy(old, table, 16);
+    memcpy(old + 80, table + 112, table_len - 112);
+    old[3] = 1;
+    old[6] = (uint8_t)(old_len >> 8);
+    old[7] = (uint8_t)old_len;
+    for (int i = 0; i < 2; i++) {
+        uint8_t *entry = old + 16 + 32 * i;
+        memcpy(entry, table + 16 + 48 * i, 24);
+        size_t place = (size_t)entry[22] * 256 + entry[23] - 32;
+        entry[22] = (uint8_t)(place >> 8);
+        entry[23] = (uint8_t)place;
+    }
 }
 
 static void on(uint8_t *top, void (*call)(void))
@@ -213,6 +232,9 @@ int main(void)
     hold("execute", call_execute, 0, HONDIVOLE_NOTICE_STACK);
     hold("reverse", call_reverse, 0, HONDIVOLE_NOTICE_STACK);
     hold("totals", call_totals, 0, HONDIVOLE_TOTALS_STACK);
+    make_old();
+    hold("convert", call_convert, 0, HONDIVOLE_CONVERT_STACK);
+    hold("totals of the converted table", call_totals, 0, HONDIVOLE_TOTALS_STACK);
     say(wrong ? "a call answered otherwise\n" : "each call is made on the stack that the header states\n");
     return wrong;
 }

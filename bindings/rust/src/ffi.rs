@@ -1,4 +1,4 @@
-//! The eight C functions as `include/hondivole.h` declares them.
+//! The nine C functions as `include/hondivole.h` declares them.
 //!
 //! All but [`hondivole_field_at`] answer with a code (0, or the number of a [`Refusal`](crate::Refusal)); each writes all its results on every path.
 //!
@@ -6,7 +6,7 @@
 //! use hondivole::ffi::hondivole_open;
 //!
 //! let request = b"01234\x03471\0\0\0\0\0\0\0\0\0\0\0\0\0\0\0\x01";
-//! let mut table = [0; 144];
+//! let mut table = [0; 160];
 //! // SAFETY: the pointers and lengths are those of two arrays that don't overlap.
 //! let code = unsafe { hondivole_open(request.as_ptr(), request.len(), table.as_mut_ptr(), table.len()) };
 //! assert_eq!(code, 0);
@@ -20,6 +20,13 @@ unsafe extern "C" {
     /// `request` points at `request_len` bytes that can be read, `table` at `table_len` bytes that can be written, and they don't
     /// overlap.
     pub fn hondivole_open(request: *const u8, request_len: usize, table: *mut u8, table_len: usize) -> u64;
+
+    /// Converts a table 1 into a table 2: see [`Table::convert`](crate::Table::convert).
+    ///
+    /// # Safety
+    ///
+    /// `old` points at `old_len` bytes that can be read, `table` at `table_len` bytes that can be written, and they don't overlap.
+    pub fn hondivole_convert(old: *const u8, old_len: usize, table: *mut u8, table_len: usize) -> u64;
 
     /// Takes a flow: see [`Table::flow`](crate::Table::flow).
     ///

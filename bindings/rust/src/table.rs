@@ -114,24 +114,53 @@ impl Table {
     ///
     /// # Errors
     ///
-    /// [`Refusal::RequestWrong`] for wrong digits, codes or slots, a code repeated, not 1 to 16 bodies, or a table above 65,536 bytes.
+    /// [`Refusal::RequestWrong`] for wrong digits, codes or slots, a code repeated, not 1 to 16 bodies, or a table above 65,792 bytes.
     ///
     /// ```
     /// use hondivole::{Refusal, Table};
     ///
     /// let table = Table::open("01234", &[("000471", 4), ("471", 4)])?;
-    /// assert_eq!(table.bytes().len(), 848);
+    /// assert_eq!(table.bytes().len(), 880);
     /// assert_eq!(Table::open("1234", &[("471", 4)]), Err(Refusal::RequestWrong));
     /// assert_eq!(Table::open("01234", &[("471", 4), ("471", 4)]), Err(Refusal::RequestWrong));
     /// # Ok::<(), Refusal>(())
     /// ```
     pub fn open(abi: &str, bodies: &[(&str, u16)]) -> Result<Table, Refusal> {
         let request = request(abi, bodies)?;
-        let length = bodies.iter().map(|(_, slots)| 32 + 96 * usize::from(*slots)).sum::<usize>() + 16;
+        let length = bodies.iter().map(|(_, slots)| 48 + 96 * usize::from(*slots)).sum::<usize>() + 16;
         let mut bytes = vec![0; length];
         // SAFETY: the pointers and lengths are those of two vectors.
         let code = unsafe { ffi::hondivole_open(request.as_ptr(), request.len(), bytes.as_mut_ptr(), bytes.len()) };
         Refusal::answer(code, 0, 0)?;
+        Ok(Table { bytes })
+    }
+
+    /// Converts a table of the old form, table 1, whose entries have 32 bytes and keep no totals, into a table with the same bank, bodies
+    /// and records.
+    ///
+    /// # Errors
+    ///
+    /// [`Refusal::TableNotValid`] where the bytes are no valid table 1.
+    ///
+    /// ```
+    /// use hondivole::{Refusal, Table};
+    ///
+    /// // One body, 471, of one empty slot.
+    /// let mut old = [0; 16 + 32 + 96];
+    /// old[..13].copy_from_slice(b"\0\x01\0\x01\0\0\0\x9001234");
+    /// old[16..20].copy_from_slice(b"\x03471");
+    /// (old[35], old[39]) = (1, 48);
+    /// let table = Table::convert(&old)?;
+    /// assert_eq!(table, Table::open("01234", &[("471", 1)])?);
+    /// assert_eq!(Table::convert(table.bytes()), Err(Refusal::TableNotValid));
+    /// # Ok::<(), Refusal>(())
+    /// ```
+    pub fn convert(old: &[u8]) -> Result<Table, Refusal> {
+        let bodies = old.first_chunk().map_or(0, |count| usize::from(u16::from_be_bytes(*count)));
+        let mut bytes = vec![0; old.len() + 16 * bodies];
+        // SAFETY: the pointers and lengths are those of a slice and of a vector.
+        let code = unsafe { ffi::hondivole_convert(old.as_ptr(), old.len(), bytes.as_mut_ptr(), bytes.len()) };
+        Refusal::answer(code, 0)?;
         Ok(Table { bytes })
     }
 }
@@ -142,7 +171,7 @@ impl<B: AsRef<[u8]>> Table<B> {
     /// ```
     /// use hondivole::{Refusal, Table};
     ///
-    /// assert_eq!(Table::over([0; 848]).totals("471"), Err(Refusal::TableNotValid));
+    /// assert_eq!(Table::over([0; 880]).totals("471"), Err(Refusal::TableNotValid));
     /// ```
     pub fn over(bytes: B) -> Table<B> {
         Table { bytes }
@@ -165,7 +194,7 @@ impl<B: AsRef<[u8]>> Table<B> {
     /// ```
     /// # use hondivole::{Refusal, Table};
     /// let bytes: Vec<u8> = Table::open("01234", &[("471", 1)])?.into_bytes();
-    /// assert_eq!(bytes.len(), 144);
+    /// assert_eq!(bytes.len(), 160);
     /// # Ok::<(), Refusal>(())
     /// ```
     pub fn into_bytes(self) -> B {

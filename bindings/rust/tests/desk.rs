@@ -80,7 +80,7 @@ fn causes() {
 
 #[test]
 fn bytes_that_are_no_table() {
-    for bytes in [&mut [][..], &mut [0; 15], &mut [0xFF; 848]] {
+    for bytes in [&mut [][..], &mut [0; 15], &mut [0xFF; 880]] {
         let mut table = Table::over(bytes);
         assert_eq!(table.flow(RUN, &mut [0; 32]), Err(Refusal::TableNotValid));
         assert_eq!(table.execute(&LINE), Err(Refusal::TableNotValid));
@@ -127,7 +127,8 @@ fn openings() {
     assert!(refused("01234", &[("471", 513)]));
     assert!(refused("01234", &[("471", 1), ("471", 1)]));
     assert!(refused("01234", &[("A", 512), ("a", 512)]));
-    assert_eq!(Table::open("01234", &[("A", 512), ("a", 169)]).unwrap().bytes().len(), 65_456);
+    assert!(refused("01234", &[("A", 512), ("a", 173)]));
+    assert_eq!(Table::open("01234", &[("A", 512), ("a", 172)]).unwrap().bytes().len(), 65_776);
 }
 
 /// The element at a place of a flow in which no element holds another of its name, found by searching for its end tag.

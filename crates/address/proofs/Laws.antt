@@ -8,10 +8,11 @@ use lib.ListN.{length}
 use Rattle.ranges.specs.declared.Found.{Found}
 use Rattle.ranges.specs.declared.Found.the-variants.{At, Nothing}
 use Rattle.record.specs.Slot.{slotSize}
+use Rattle.slots.specs.Slots.{recordsAt}
 use Rattle.body.specs.Body.{bodyOk}
 use Rattle.entries.specs.Entry.{entrySize, slotsOf, placeOf}
 use Rattle.bounds.specs.Bounds.{maxSlots, maxLength}
-use Rattle.table.specs.Table.{tableOk, bodyOf, entryOf}
+use Rattle.table.specs.Table.{table2, agrees, tableOk, bodyOf, entryOf}
 use Rattle.table.proofs.Laws.{head, table, body-same}
 use Rattle.table.proofs.Bodies.{body-at, found-body}
 use Rattle.address.specs.declared.Addressed.{Addressed}
@@ -23,11 +24,13 @@ pub record Row (t : List ℕ) (b : ℕ) : Type 0 where
   pub ends : entryOf b + entrySize ≤ length t
   pub fits : length t ≤ maxLength
 
--- THE BODY THAT A CODE NAMES: its slots lie within the table and are valid
-pub record Slots (t : List ℕ) (base n : ℕ) : Type 0 where
+-- THE BODY THAT A CODE NAMES: its slots lie after its entry and within the table, they are valid, and the entry agrees with them
+pub record Slots (t : List ℕ) (e base n : ℕ) : Type 0 where
+  pub entry : e + entrySize ≤ base
   pub inside : base + slotSize * n ≤ length t
   pub few : n ≤ maxSlots
   pub valid : bodyOk t base n ≡ true
+  pub agreed : agrees t e (recordsAt t base n) ≡ true
 
 module _ (t code : List ℕ) where
   pub to-unknown : bodyOf t code ≡ Nothing → Unknown ≡ bodyNamed t code
@@ -47,26 +50,35 @@ module _ (t code : List ℕ) where
 
     pub row : (b : ℕ) → bodyOf t code ≡ At b → Row t b
     row b e =
-        let h = head t (table t ok .head-ok) in
+        let h = head table2 t (table table2 t ok .head-ok) in
         let w = body-at t ok b (found-body t ok code b e) .entry-in in
         record { ends = omega (arith, h .room); fits = h .fits }
 
-    pub named-slots : {e base n : ℕ} → bodyNamed t code ≡ Body e base n → Slots t base n
+    pub named-slots : {e base n : ℕ} → bodyNamed t code ≡ Body e base n → Slots t e base n
     named-slots {e} {base} {n} q = go (bodyOf t code) refl q
       where
-        go : (f : Found) → bodyOf t code ≡ f → bodyAt t f ≡ Body e base n → Slots t base n
+        go : (f : Found) → bodyOf t code ≡ f → bodyAt t f ≡ Body e base n → Slots t e base n
         go Nothing g q = let z : _≡_ {A = ℕ} 0 1 = cc in absurd (omega arith)
         go (At b) g q =
             let w = body-at t ok b (found-body t ok code b g) in
+            let d : entryOf b ≡ e = cc in
             let p : placeOf t (entryOf b) ≡ base = cc in
             let s : slotsOf t (entryOf b) ≡ n = cc in
             let i = w .inside in
             let m = w .own-form .most-slots in
-            record { inside = omega arith; few = omega arith; valid = sym (body-same t p s) ∙ w .valid }
+            let x = w .entry-in in
+            let y = w .past in
+            record {
+              entry = omega arith;
+              inside = omega arith;
+              few = omega arith;
+              valid = sym (body-same t p s) ∙ w .holds .body;
+              agreed = sym (λ j. agrees t (d j) (recordsAt t (p j) (s j))) ∙ w .holds .kept refl;
+            }
 
-  pub slots : {e base n : ℕ} → addressed t code ≡ Body e base n → Slots t base n
+  pub slots : {e base n : ℕ} → addressed t code ≡ Body e base n → Slots t e base n
   slots {e} {base} {n} q = whether (tableOk t) refl
     where
-      whether : (x : Bool) → tableOk t ≡ x → Slots t base n
+      whether : (x : Bool) → tableOk t ≡ x → Slots t e base n
       whether true o = named-slots o (to-named o refl ∙ q)
       whether false o = let d = to-invalid o in let z : _≡_ {A = ℕ} 0 1 = cc in absurd (omega arith)

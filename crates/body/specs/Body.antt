@@ -3,10 +3,10 @@ use Prim.Native.Nat.{ℕ, zero, suc, _+_, _*_}
 use mathlib.Core.Bool.{Bool, true, _&&_, cond}
 use mathlib.Core.List.{List, [], _∷_}
 use lib.Dec.{eqb}
-use Rattle.record.specs.Slot.{slotSize, executedLine, recordAt, restZero}
+use Rattle.record.specs.Slot.{slotSize, recordAt, restZero}
 use Rattle.record.specs.declared.Record.{Record}
 use Rattle.ranges.specs.Ranges.{zeros}
-use Rattle.valid.specs.Valid.{recordOk}
+use Rattle.valid.specs.Valid.{recordOk, executed}
 use Rattle.slots.specs.Slots.{usedAt, recordsAt, distinct}
 
 -- A VALID BODY
@@ -28,15 +28,6 @@ bodyOk t at n =
     && distinct (recordsAt t at n))
 
 -- THE TOTALS
-
--- the cents of a record's executed lines
-unfoldable pub executedIn : List ℕ → List ℕ → ℕ
-executedIn [] amounts = 0
-executedIn (s ∷ states) [] = 0
-executedIn (s ∷ states) (a ∷ amounts) = cond (eqb s executedLine) a 0 + executedIn states amounts
-
-abbrev pub executed : Record → ℕ
-executed r = executedIn (r .states) (r .amounts)
 
 -- the cents of the executed lines of all records of a kind: paid for a mandato's, collected for a reversale's
 unfoldable pub centsOf : ℕ → List Record → ℕ

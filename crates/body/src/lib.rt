@@ -1,106 +1,71 @@
-// One body: whether its slots are valid, and the sums of its executed lines.
-use record::Record;
+// One body: whether its slots are valid, and the sums of its executed lines, in one walk.
+use valid::Judged;
 ghost use mathlib.Core.Path.{_≡_};
-ghost use mathlib.Core.Bool.{true, cond};
 ghost use Prim.Native.Nat.{_+_, _*_, _≤_};
 ghost use lib.ListN.{length};
-ghost use lib.Dec.{eqb};
-ghost use Rattle.bounds.specs.Bounds.{maxCents, maxSlots};
+ghost use Rattle.bounds.specs.Bounds.{maxSlots};
 ghost use Rattle.record.specs.Slot.{slotSize, recordAt};
-ghost use Rattle.valid.specs.Valid.{recordOk};
-ghost use Rattle.slots.specs.Slots.{recordsAt};
-ghost use Rattle.body.specs.Body.{slotOk, slotsOk, bodyOk, executedIn, executed, centsOf};
+ghost use Rattle.valid.specs.Valid.{executed};
+ghost use Rattle.valid.specs.Inner.{told};
+ghost use Rattle.slots.specs.Slots.{slotsAt, recordsAt};
+ghost use Rattle.body.specs.Body.{slotOk, slotsOk, bodyOk};
+ghost use Rattle.body.specs.Inner.{summed};
 
-fn slot_ok(t: &[u8], at: usize) -> bool
-    requires { ⌜ at + slotSize ≤ length (now t) ⌝ }
-    ensures { λ r. ⌜ r ≡ slotOk (now (t .entry)) at ⌝ }
-{
-    if !record::rest_zero(t, at) {
-        return false;
-    }
-    valid::record_ok_at(t, at)
+// A body judged: broken, or valid with the cents of its executed lines, paid and collected.
+pub enum Sums {
+    Broken,
+    Right(u64, u64),
 }
 
-fn slots_ok(t: &[u8], base: usize, n: usize) -> bool
-    requires { ⌜ base + slotSize * n ≤ length (now t) ⌝ }
-    ensures { λ r. ⌜ r ≡ slotsOk (now (t .entry)) base n ⌝ }
+// Whether the used slot at a place is valid, and the cents of its record's executed lines.
+fn judge_slot(t: &[u8], at: usize) -> Judged
+    requires { ⌜ at + slotSize ≤ length (now t) ⌝ }
+    ensures { λ j. ⌜ j ≡ told (slotOk (now (t .entry)) at) (executed (recordAt (now (t .entry)) at)) ⌝ }
+{
+    if !record::rest_zero(t, at) {
+        return Judged::Broken;
+    }
+    valid::judge_at(t, at)
+}
+
+// Whether the n used slots from a place on are valid, and the cents of their executed lines.
+fn judge_slots(t: &[u8], base: usize, n: usize) -> Sums
+    requires { ⌜ (base + slotSize * n ≤ length (now t)) × (n ≤ maxSlots) ⌝ }
+    ensures { λ s. ⌜ s ≡ summed (slotsOk (now (t .entry)) base n) (slotsAt (now (t .entry)) base n) ⌝ }
 {
     let mut at = base;
     let mut left = n;
+    let mut paid: u64 = 0;
+    let mut collected: u64 = 0;
     while 0 < left {
-        if !slot_ok(t, at) {
-            return false;
-        }
+        let Judged::Right(cents) = judge_slot(t, at) else {
+            return Sums::Broken;
+        };
+        let kind = t[at];
+        paid += valid::line_cents(kind == record::MANDATO, cents);
+        collected += valid::line_cents(kind == record::REVERSALE, cents);
         at += record::SLOT;
         left -= 1;
     }
-    true
+    Sums::Right(paid, collected)
 }
 
-pub fn body_ok(t: &[u8], base: usize, n: usize) -> bool
-    requires { ⌜ base + slotSize * n ≤ length (now t) ⌝ }
-    ensures { λ r. ⌜ r ≡ bodyOk (now (t .entry)) base n ⌝ }
+// Whether a body of n slots is valid, and the cents of its executed lines.
+pub fn judge(t: &[u8], base: usize, n: usize) -> Sums
+    requires { ⌜ (base + slotSize * n ≤ length (now t)) × (n ≤ maxSlots) ⌝ }
+    ensures { λ s. ⌜ s ≡ summed (bodyOk (now (t .entry)) base n) (recordsAt (now (t .entry)) base n) ⌝ }
 {
     let used = slots::used_slots(t, base, n);
     let first = base + record::SLOT * used;
     let end = base + record::SLOT * n;
-    if !slots_ok(t, base, used) {
-        return false;
-    }
+    let Sums::Right(paid, collected) = judge_slots(t, base, used) else {
+        return Sums::Broken;
+    };
     if !ranges::are_zero(t, first, end) {
-        return false;
+        return Sums::Broken;
     }
-    slots::keys_distinct(t, base, used)
-}
-
-fn line_cents(executed: bool, amount: u64) -> u64
-    ensures { λ c. ⌜ c ≡ cond executed amount 0 ⌝ }
-{
-    if executed { amount } else { 0 }
-}
-
-// The cents of a record's executed lines.
-fn executed_cents(r: Record) -> u64
-    requires { ⌜ recordOk r ≡ true ⌝ }
-    ensures { λ c. ⌜ (c ≡ executed r) × (c ≤ maxCents) ⌝ }
-{
-    let states = r.states;
-    let amounts = r.amounts;
-    let mut c: u64 = 0;
-    let mut k: usize = 0;
-    while k < 8 {
-        c += line_cents(states[k] == record::EXECUTED, amounts[k]);
-        k += 1;
+    if !slots::keys_distinct(t, base, used) {
+        return Sums::Broken;
     }
-    c
-}
-
-// The cents of the executed lines of the record at a place, if it is of this kind.
-fn cents_at(t: &[u8], at: usize, kind: u8) -> u64
-    requires { ⌜ (at + slotSize ≤ length (now t)) × (recordOk (recordAt (now t) at) ≡ true) ⌝ }
-    ensures { λ c. ⌜ (c ≡ cond (eqb (recordAt (now (t .entry)) at .kind) kind) (executed (recordAt (now (t .entry)) at)) 0) × (c ≤ maxCents) ⌝ }
-{
-    if t[at] != kind {
-        return 0;
-    }
-    executed_cents(record::record_at(t, at))
-}
-
-// The cents of the executed lines of a body's records of a kind: paid for a mandato's, collected for a reversale's.
-pub fn cents_of(t: &[u8], base: usize, n: usize, kind: u8) -> u64
-    requires { ⌜ (base + slotSize * n ≤ length (now t)) × (n ≤ maxSlots) × (bodyOk (now t) base n ≡ true) ⌝ }
-    ensures { λ r. ⌜ (r ≡ centsOf kind (recordsAt (now (t .entry)) base n)) × (r ≤ maxCents * maxSlots) ⌝ }
-{
-    let mut at = base;
-    let mut i: usize = 0;
-    let mut c: u64 = 0;
-    while i < n {
-        if t[at] == 0 {
-            return c;
-        }
-        c += cents_at(t, at, kind);
-        at += record::SLOT;
-        i += 1;
-    }
-    c
+    Sums::Right(paid, collected)
 }

@@ -27,12 +27,13 @@ maxCode = 16
 abbrev pub isCode : ℕ → List ℕ → Bool
 isCode n c = between 1 maxCode n && all isAlnum c
 
--- a table: "number of bodies, 1 to 16", "number of slots, 1 to 512", "at most 65,536" bytes
+-- a table: "number of bodies, 1 to 16", "number of slots, 1 to 512"
 abbrev pub maxBodies : ℕ
 maxBodies = 16
 
 abbrev pub maxSlots : ℕ
 maxSlots = 512
 
+-- document 02, Req 04: "The greatest table length becomes 65,792"
 abbrev pub maxLength : ℕ
-maxLength = 65536
+maxLength = 65792

@@ -16,4 +16,4 @@ pub const MAX_BODIES: usize = 16;
 
 pub const MAX_SLOTS: usize = 512;
 
-pub const MAX_LENGTH: usize = 65536;
+pub const MAX_LENGTH: usize = 65792;

@@ -90,7 +90,7 @@ fn run_totals(t: &[u8], body: &[u8]) {
 fn run_open(t: &mut [u8], request: &[u8], n: u64) -> usize
     ensures { λ r. ⌜ r ≤ length (now (t .exit)) ⌝ }
 {
-    if 65536 < n {
+    if 65800 < n {
         return 0;
     }
     let k = n as usize;
@@ -246,6 +246,6 @@ fn run_lines(s: &[u8], t: &mut [u8])
 fn main() {
     let mut input = [0u8; 262144];
     let n = io::read_full(libc::STDIN_FILENO, &mut input);
-    let mut table = [0u8; 65536];
+    let mut table = [0u8; 65800];
     run_lines(&input[..n], &mut table);
 }

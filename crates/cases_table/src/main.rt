@@ -9,6 +9,7 @@ ghost use mathlib.Core.Path.{_≡_};
 ghost use mathlib.Core.Bool.{true};
 ghost use Prim.Native.Nat.{_+_, _≤_, _<_};
 ghost use lib.ListN.{length};
+ghost use Rattle.bounds.specs.Bounds.{maxLength};
 ghost use Rattle.table.specs.Table.{tableOk};
 
 fn least(a: usize, b: usize) -> usize
@@ -17,12 +18,15 @@ fn least(a: usize, b: usize) -> usize
     if a < b { a } else { b }
 }
 
-// Column k as a number, but at most 65,536.
+// Column k as a number, but at most 8 more than the greatest length.
 fn number(s: &[u8], a: usize, e: usize, k: usize) -> usize
     requires { ⌜ (a ≤ e) × (e ≤ length (now s)) ⌝ }
-    ensures { λ r. ⌜ r ≤ 65536 ⌝ }
+    ensures { λ r. ⌜ r ≤ maxLength + 8 ⌝ }
 {
-    least(casebook::number(s, a, e, k) as usize, 65536)
+    least(
+        casebook::number(s, a, e, k) as usize,
+        bounds::MAX_LENGTH + 8,
+    )
 }
 
 // A buffer before it is opened: no byte of a table's contents is 170.
@@ -95,7 +99,7 @@ fn say_bodies(t: &[u8])
 
 // Whether a table begins with these bytes and all others are zero.
 fn say_contents(t: &[u8], x: &[u8])
-    requires { ⌜ length (now t) ≤ 65536 ⌝ }
+    requires { ⌜ length (now t) ≤ maxLength + 8 ⌝ }
 {
     if t.len() < x.len() {
         return say(b", contents differ");
@@ -111,7 +115,7 @@ fn say_contents(t: &[u8], x: &[u8])
 }
 
 fn say_table(t: &[u8], code: &[u8], x: &[u8])
-    requires { ⌜ length (now t) ≤ 65536 ⌝ }
+    requires { ⌜ length (now t) ≤ maxLength + 8 ⌝ }
 {
     if !table::table_ok(t) {
         return say(b", not valid");
@@ -138,7 +142,7 @@ fn open_case(s: &[u8], a: usize, e: usize, t: &mut [u8])
 }
 
 fn show_case(s: &[u8], a: usize, e: usize, t: &[u8])
-    requires { ⌜ (a ≤ e) × (e ≤ length (now s)) × (length (now s) ≤ 65536) × (length (now t) ≤ 65536) ⌝ }
+    requires { ⌜ (a ≤ e) × (e ≤ length (now s)) × (length (now s) ≤ 65536) × (length (now t) ≤ maxLength + 8) ⌝ }
 {
     let mut c = [0u8; 64];
     let mut x = [0u8; 1024];
@@ -149,7 +153,7 @@ fn show_case(s: &[u8], a: usize, e: usize, t: &[u8])
 
 // One case: the line from a up to e.
 fn run_case(s: &[u8], a: usize, e: usize, t: &mut [u8])
-    requires { ⌜ (a ≤ e) × (e ≤ length (now s)) × (length (now s) ≤ 65536) × (length (now t) ≤ 65536) ⌝ }
+    requires { ⌜ (a ≤ e) × (e ≤ length (now s)) × (length (now s) ≤ 65536) × (length (now t) ≤ maxLength + 8) ⌝ }
 {
     casebook::say_column(s, a, e, 0);
     open_case(s, a, e, t);
@@ -179,7 +183,7 @@ fn run_cases(s: &[u8], room: &mut [u8])
 
 fn main() {
     let mut input = io::large_buffer();
-    let mut room = io::large_buffer();
+    let mut room = [0u8; bounds::MAX_LENGTH + 8];
     let n = io::read_full(libc::STDIN_FILENO, &mut input);
     run_cases(&input[..n], &mut room);
 }

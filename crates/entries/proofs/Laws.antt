@@ -1,6 +1,6 @@
 -- Laws of entries, an entry at a time.
 use mathlib.Core.Path.{_≡_, ap, _∙_}
-use mathlib.Core.List.{List}
+use mathlib.Core.List.{List, _++_}
 use mathlib.Core.Bool.{true, false, _&&_}
 use Prim.Native.Nat.{ℕ, suc, _+_, _-_, _*_, _≤_, _<_}
 use native.Mathlib.Nat.{mul-suc}
@@ -10,14 +10,25 @@ use lib.Dec.{leb}
 use borrow.Author.Tests.{leb-true, le-leb, lt-leb}
 use Rattle.scan.specs.Bytes.{between, part, all, isAlnum, textIs}
 use Rattle.scan.proofs.Laws.{both}
+use Rattle.words.specs.Numbers.{put, bytes8}
+use Rattle.words.proofs.Laws.{put-put}
 use Rattle.ranges.specs.Ranges.{zeros, isNothing}
 use Rattle.ranges.specs.declared.Found.the-variants.{At, Nothing}
 use Rattle.bounds.specs.Bounds.{maxCode, isCode, maxSlots}
-use Rattle.entries.specs.Entry.{codeLength, codeAt, slotsOf, formOk, formsOk, codesFrom, findCode, distinctCodes}
+use Rattle.entries.specs.Entry.{entryFixed, entryRest, keptBytes, codeLength, codeAt, slotsOf, formOk, formsOk, codesFrom, slotsFrom, findCode, distinctCodes}
 
 -- room for one entry more
 pub times : (size k m : ℕ) → k ≡ suc m → size * k ≡ size + size * m
 times size k m e = ap (λ (x : ℕ). size * x) e ∙ mul-suc size m ∙ omega arith
+
+-- a neighbour is put after what was put
+pub put-next : (s : List ℕ) (at : ℕ) (v w : List ℕ) (n : ℕ) {t u : List ℕ} → at ≤ length s → at + length v ≡ n → t ≡ put s at v → u ≡ put t n w → u ≡ put s at (v ++ w)
+put-next s at v w n h l e f = f ∙ ap (λ (x : List ℕ). put x n w) e ∙ put-put s at v w n h l
+
+pub settled-by : (s t u : List ℕ) (at paid collected : ℕ) → at + entryRest ≤ length s → t ≡ put s (at + 24) (bytes8 paid) → u ≡ put t (at + 32) (bytes8 collected)
+    → u ≡ put s (at + entryFixed) (keptBytes paid collected)
+unfolding keptBytes
+settled-by s t u at paid collected h e f = put-next s (at + 24) (bytes8 paid) (bytes8 collected) (at + 32) (omega arith) (omega arith) e f
 
 -- FORM: what the tests of a form say
 pub record Form (t : List ℕ) (at : ℕ) : Type 0 where
@@ -88,6 +99,10 @@ module _ (size : ℕ) (t : List ℕ) (at k m : ℕ) (e : k ≡ suc m) where
   unfolding formsOk
   forms-split h = both (formOk t at) (formsOk size t (at + size) m) (rw e at h)
 
+  pub slots-more : slotsFrom size t at k ≡ slotsOf t at + slotsFrom size t (at + size) m
+  unfolding slotsFrom
+  slots-more = rw e
+
   pub find-hit : (i : ℕ) (c : List ℕ) → textIs (codeAt t at) c ≡ true → findCode (codesFrom size t at k) i c ≡ At i
   unfolding findCode codesFrom
   find-hit i c h = rw (e, h)
@@ -108,6 +123,10 @@ module _ (size : ℕ) (t : List ℕ) (at k : ℕ) (h : k ≤ 0) where
   pub forms-done : formsOk size t at k ≡ true
   unfolding formsOk
   forms-done = let e : k ≡ 0 = omega arith in rw e
+
+  pub slots-done : slotsFrom size t at k ≡ 0
+  unfolding slotsFrom
+  slots-done = let e : k ≡ 0 = omega arith in rw e
 
   pub find-done : (i : ℕ) (c : List ℕ) → findCode (codesFrom size t at k) i c ≡ Nothing
   unfolding findCode codesFrom

@@ -1,4 +1,5 @@
-// The bodies' entries: their form, their codes compared byte by byte, and the search for a body by its code. A code is never a number.
+// The bodies' entries: their form, their codes compared byte by byte, the search for a body by its code, and the totals that they keep. A code is never
+// a number.
 use ranges::Class;
 use ranges::Found;
 ghost use mathlib.Core.Path.{_≡_};
@@ -6,14 +7,19 @@ ghost use mathlib.Core.Bool.{true};
 ghost use Prim.Native.Nat.{_+_, _*_, _≤_, _<_};
 ghost use lib.ListN.{length};
 ghost use Rattle.scan.specs.Bytes.{textIs};
+ghost use Rattle.words.specs.Numbers.{put};
 ghost use Rattle.bounds.specs.Bounds.{maxCode, maxLength};
 ghost use Rattle.ranges.specs.Ranges.{isNothing};
-ghost use Rattle.entries.specs.Entry.{entrySize, requestSize, codeLength, codeAt, slotsOf, placeOf, formOk, formsOk, codesFrom, findCode, distinctCodes};
+ghost use Rattle.entries.specs.Entry.{entryFixed, entryRest, requestSize, keptBytes, codeLength, codeAt, slotsOf, placeOf, formOk, formsOk, codesFrom, findCode, distinctCodes};
 
-pub const ENTRY: usize = 32;
+pub const ENTRY: usize = 48;
 
-// An entry's bytes before its body's own.
+// An entry's bytes before its body's own, which begin with the cents paid and collected; the rest after these.
 pub const FIXED: usize = 24;
+
+pub const COLLECTED: usize = 32;
+
+pub const REST: usize = 40;
 
 pub const REQUEST: usize = 20;
 
@@ -27,10 +33,19 @@ pub fn slots_of(t: &[u8], at: usize) -> usize
 
 // Place of the first slot of the body whose entry begins at a place.
 pub fn place_of(t: &[u8], at: usize) -> usize
-    requires { ⌜ at + entrySize ≤ length (now t) ⌝ }
+    requires { ⌜ at + entryFixed ≤ length (now t) ⌝ }
     ensures { λ r. ⌜ (r ≡ placeOf (now (t .entry)) at) × (r < 4294967296) ⌝ }
 {
     words::read4(t, at + 20) as usize
+}
+
+// Writes the cents paid and collected that an entry keeps.
+pub fn settle(t: &mut [u8], at: usize, paid: u64, collected: u64)
+    requires { ⌜ at + entryRest ≤ length (now t) ⌝ }
+    ensures { λ _. ⌜ now (t .exit) ≡ put (now (t .entry)) (at + entryFixed) (keptBytes paid collected) ⌝ }
+{
+    words::write8(t, at + FIXED, paid);
+    words::write8(t, at + COLLECTED, collected);
 }
 
 fn wide(x: u8) -> usize

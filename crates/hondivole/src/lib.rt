@@ -1,4 +1,4 @@
-// The C interface: eight thin functions over the desk, each with its promise. Every result is written on every path.
+// The C interface: nine thin functions over the desk, each with its promise. Every result is written on every path.
 use calendar::Date;
 use record::Key;
 ghost use mathlib.Core.Bool.{true, false};
@@ -6,6 +6,7 @@ ghost use Rattle.days.specs.Days.{dateOf, daysTold, DaysPromise};
 ghost use Rattle.target_days.specs.Target.{firstTold, FirstPromise};
 ghost use Rattle.children.specs.Child.{FieldPromise};
 ghost use Rattle.opening.specs.Opening.{OpenReplies};
+ghost use Rattle.convert.specs.Convert.{ConvertReplies};
 ghost use Rattle.desk.specs.Desk.{FlowReplies};
 ghost use Rattle.notices.specs.Notices.{keyed, NoticeReplies, totalled, TotalsPromise};
 
@@ -15,6 +16,14 @@ pub extern "C" fn hondivole_open(request: &[u8], table: &mut [u8]) -> u64
     ensures { λ r. ⌜ OpenReplies (now (request .entry)) (now (table .entry)) r (now (table .exit)) ⌝ }
 {
     opening::code_of(opening::open_table(request, table))
+}
+
+// Converts a table 1 into a table 2.
+#[no_mangle]
+pub extern "C" fn hondivole_convert(old: &[u8], table: &mut [u8]) -> u64
+    ensures { λ r. ⌜ ConvertReplies (now (old .entry)) (now (table .entry)) r (now (table .exit)) ⌝ }
+{
+    convert::code_of(convert::convert(old, table))
 }
 
 // Takes a flow.

@@ -15,8 +15,13 @@ use Rattle.target_days.specs.Target.{targetCode}
 use Rattle.record.specs.declared.Key.{Key}
 use Rattle.slots.specs.Slots.{recordsAt, usedAt}
 use Rattle.body.specs.Body.{centsOf}
+use Rattle.body.proofs.Laws.{cents-most}
+use Rattle.bounds.specs.Bounds.{maxCents, maxSlots}
+use Rattle.entries.specs.Entry.{kept}
 use Rattle.rules.specs.declared.Noticed.{Noticed}
 use Rattle.service.specs.Service.{noticeComes, noticeLeaves}
+use Rattle.service.specs.Inner.{Served}
+use Rattle.service.proofs.Totals.{agrees-is}
 use Rattle.address.specs.declared.Addressed.{Addressed}
 use Rattle.address.specs.declared.Addressed.the-variants.{Invalid, Unknown, Body}
 use Rattle.notices.specs.declared.NoticeAnswer.{NoticeAnswer}
@@ -25,6 +30,7 @@ use Rattle.notices.specs.declared.TotalsAnswer.{TotalsAnswer}
 use Rattle.table.specs.Table.{tableOk}
 use Rattle.address.specs.Address.{addressed}
 use Rattle.notices.specs.Notices.{noticed, noticeBy, noticeTableBy, onDay, tableOnDay, NoticePromise, bodyTotals, totalsBy, totalsOf}
+use Rattle.address.proofs.Laws.{Slots}
 
 -- A NOTICE
 module _ (t code : List ℕ) (x : Bool) (k : Key) (line : ℕ) where
@@ -37,7 +43,7 @@ module _ (t code : List ℕ) (x : Bool) (k : Key) (line : ℕ) where
   no-body e = (sym (ap (noticeBy t x k line) e), sym (ap (noticeTableBy t x k line) e))
 
   pub served : {e base n : ℕ} {m : Noticed} {r : NoticeAnswer} {u : List ℕ} → addressed t code ≡ Body e base n
-      → m ≡ noticeComes t base n x k line → u ≡ noticeLeaves t base n x k line → r ≡ noticed m
+      → m ≡ noticeComes t base n x k line → u ≡ noticeLeaves t e base n x k line → r ≡ noticed m
       → (r ≡ noticeBy t x k line (addressed t code)) × (u ≡ noticeTableBy t x k line (addressed t code))
   unfolding noticeBy noticeTableBy
   served q f g h = (h ∙ ap noticed f ∙ sym (ap (noticeBy t x k line) q), g ∙ sym (ap (noticeTableBy t x k line) q))
@@ -73,6 +79,20 @@ unfolding bodyTotals
 totals-made t base n e f g h =
     let d = h ∙ (λ i. pos (g i) -ℤ pos (f i)) in
     λ i. record { code = 0; used = e i; paid = f i; collected = g i; balance = d i }
+
+-- what the entry of a body keeps is what its records have, and it is bounded
+module _ {t : List ℕ} {e base n : ℕ} (S : Served t e base n) where
+  pub paid-is : kept 1 t e ≡ centsOf 1 (recordsAt t base n)
+  paid-is = agrees-is t e (recordsAt t base n) (S .agreed) .0
+
+  pub collected-is : kept 2 t e ≡ centsOf 2 (recordsAt t base n)
+  collected-is = agrees-is t e (recordsAt t base n) (S .agreed) .1
+
+  pub few-cents : (kind : ℕ) → centsOf kind (recordsAt t base n) ≤ maxCents * maxSlots
+  few-cents kind = omega (arith, cents-most t base n kind (S .valid), S .few)
+
+pub slots-served : {t : List ℕ} {e base n : ℕ} → Slots t e base n → Served t e base n
+slots-served s = record { entry = s .entry; inside = s .inside; few = s .few; valid = s .valid; agreed = s .agreed }
 
 -- A DIFFERENCE of two numbers that a signed one holds
 mag-sub : (a b : ℕ) → a < 2 ^ 63 → b < 2 ^ 63 → mag (subℕ a b) < 2 ^ 63

@@ -41,7 +41,7 @@ noticeBy t executing k line (Body e base n) = noticed (noticeComes t base n exec
 unfoldable pub noticeTableBy : List ℕ → Bool → Key → ℕ → Addressed → List ℕ
 noticeTableBy t executing k line Invalid = t
 noticeTableBy t executing k line Unknown = t
-noticeTableBy t executing k line (Body e base n) = noticeLeaves t base n executing k line
+noticeTableBy t executing k line (Body e base n) = noticeLeaves t e base n executing k line
 
 -- of a date's code c: "27 no date or outside the years, 28 closing day, both after 1 and before 7" (document 02, Req 08)
 abbrev pub onDay : ℕ → List ℕ → NoticeAnswer → NoticeAnswer

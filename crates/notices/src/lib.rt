@@ -5,13 +5,11 @@ use record::Key;
 use rules::Noticed;
 ghost use mathlib.Core.Path.{_≡_};
 ghost use mathlib.Core.Bool.{true, false};
-ghost use Prim.Native.Nat.{ℕ, _+_, _*_, _≤_, _<_};
+ghost use Prim.Native.Nat.{ℕ, _*_, _≤_};
 ghost use lib.IntN.{pos, _-ℤ_};
-ghost use lib.ListN.{length};
 ghost use Rattle.bounds.specs.Bounds.{maxCents, maxSlots};
-ghost use Rattle.record.specs.Slot.{slotSize};
-ghost use Rattle.body.specs.Body.{bodyOk};
 ghost use Rattle.address.specs.Address.{addressed};
+ghost use Rattle.service.specs.Inner.{Served};
 ghost use Rattle.notices.specs.Notices.{noticed, noticeBy, noticeTableBy, noticeReply, NoticePromise, zeroTotals, bodyTotals, TotalsPromise};
 
 // What a notice's call answers.
@@ -55,8 +53,9 @@ fn notice(t: &mut [u8], code: &[u8], executing: bool, key: Key, line: u64) -> No
     match address::addressed_by(t, code) {
         Addressed::Invalid => NoticeAnswer::InvalidTable,
         Addressed::Unknown => NoticeAnswer::UnknownBody,
-        Addressed::Body(_, base, n) => answer_of(service::serve_notice(
+        Addressed::Body(e, base, n) => answer_of(service::serve_notice(
             t,
+            e,
             base,
             n,
             executing,
@@ -130,14 +129,14 @@ fn difference(a: u64, b: u64) -> i64
     (a as i64) - (b as i64)
 }
 
-// The totals of a valid body.
-fn body_totals(t: &[u8], base: usize, n: usize) -> TotalsAnswer
-    requires { ⌜ (base + slotSize * n ≤ length (now t)) × (n ≤ maxSlots) × (bodyOk (now t) base n ≡ true) ⌝ }
+// The totals of a valid body, as its entry keeps them.
+fn body_totals(t: &[u8], e: usize, base: usize, n: usize) -> TotalsAnswer
+    requires { ⌜ Served (now t) e base n ⌝ }
     ensures { λ r. ⌜ r ≡ bodyTotals (now (t .entry)) base n ⌝ }
 {
     let used = slots::used_slots(t, base, n) as u64;
-    let paid = body::cents_of(t, base, n, record::MANDATO);
-    let collected = body::cents_of(t, base, n, record::REVERSALE);
+    let paid = words::read8(t, e + entries::FIXED);
+    let collected = words::read8(t, e + entries::COLLECTED);
     let balance = difference(collected, paid);
     TotalsAnswer {
         code: 0,
@@ -155,6 +154,6 @@ pub fn totals(t: &[u8], code: &[u8]) -> TotalsAnswer
     match address::addressed_by(t, code) {
         Addressed::Invalid => no_totals(1),
         Addressed::Unknown => no_totals(7),
-        Addressed::Body(_, base, n) => body_totals(t, base, n),
+        Addressed::Body(e, base, n) => body_totals(t, e, base, n),
     }
 }

@@ -1,39 +1,29 @@
 -- Opening a table (document 01, "The table": "Opening takes five ABI digits followed by 20 bytes per body (an entry's bytes 0 to 19) and a buffer of
 -- exactly the needed length, and fills it, every slot empty; its answer is a code").
-use Prim.Native.Nat.{ℕ, zero, suc, _+_, _*_}
+use Prim.Native.Nat.{ℕ, _+_, _*_}
 use mathlib.Core.Path.{_≡_}
 use mathlib.Core.Bool.{cond}
-use mathlib.Core.List.{List, [], _∷_, _++_}
+use mathlib.Core.List.{List, _++_}
 use lib.ListN.{length, replicate}
 use lib.Dec.{eqb}
 use Rattle.scan.specs.Bytes.{part}
-use Rattle.words.specs.Numbers.{bytes2, bytes4}
 use Rattle.record.specs.Slot.{slotSize}
-use Rattle.entries.specs.Entry.{entrySize, requestSize, slotsOf}
+use Rattle.entries.specs.Entry.{entrySize, requestSize}
 use Rattle.table.specs.Table.{headSize}
+use Rattle.contents.specs.Contents.{headBytes, entriesBytes}
 use Rattle.request.specs.Request.{firstBody, asked, slotsAsked, needed, requestOk}
 use Rattle.opening.specs.declared.Opened.{Opened}
 use Rattle.opening.specs.declared.Opened.the-variants.{Open, WrongRequest, WrongLength}
 
--- the head's 16 bytes
-unfoldable pub headBytes : List ℕ → List ℕ
-headBytes q = bytes2 (asked q) ++ bytes2 1 ++ bytes4 (needed q) ++ part q 0 firstBody ++ 0 ∷ 0 ∷ 0 ∷ []
-
--- the entry of the body asked for at `at`, whose first slot is at p
-unfoldable pub entryBytes : List ℕ → ℕ → ℕ → List ℕ
-entryBytes q at p = part q at (at + requestSize) ++ bytes4 p ++ replicate 8 0
-
--- the entries of the n bodies from `at` on, the first one's slots at p
-unfoldable pub entriesBytes : List ℕ → ℕ → ℕ → ℕ → List ℕ
-entriesBytes q at zero p = []
-entriesBytes q at (suc n) p =
-    entryBytes q at p ++ entriesBytes q (at + requestSize) n (p + slotSize * slotsOf q at)
+-- no cents are paid or collected yet
+abbrev pub noCents : ℕ → ℕ → ℕ
+noCents kind at = 0
 
 -- every byte of the opened table: head, entries, and all slots empty
 unfoldable pub opened : List ℕ → List ℕ
 opened q =
-    headBytes q ++ entriesBytes q firstBody (asked q) (headSize + entrySize * asked q)
-    ++ replicate (slotSize * slotsAsked q firstBody (asked q)) 0
+    headBytes (asked q) (needed q) (part q 0 firstBody) ++ entriesBytes requestSize noCents q firstBody (asked q) (headSize + entrySize * asked q)
+    ++ replicate (slotSize * slotsAsked q) 0
 
 -- what opening answers for a request and a buffer of n bytes
 unfoldable pub openOf : List ℕ → ℕ → Opened

@@ -7,8 +7,9 @@ ghost use Rattle.words.specs.Numbers.{put};
 ghost use Rattle.bounds.specs.Bounds.{maxBodies};
 ghost use Rattle.entries.specs.Entry.{entrySize, requestSize};
 ghost use Rattle.table.specs.Table.{headSize};
+ghost use Rattle.contents.specs.Contents.{entriesBytes};
 ghost use Rattle.request.specs.Request.{firstBody, asked, needed, requestOk};
-ghost use Rattle.opening.specs.Opening.{headBytes, entryBytes, entriesBytes, opened, openCode, OpenPromise};
+ghost use Rattle.opening.specs.Opening.{noCents, opened, openCode, OpenPromise};
 
 // What opening answers.
 pub enum Opened {
@@ -27,45 +28,22 @@ fn clear(t: &mut [u8])
     }
 }
 
-// Writes the head of a table of n bodies.
-fn put_head(t: &mut [u8], q: &[u8], n: usize)
-    requires { ⌜ (n ≡ asked (now q)) × (n ≤ maxBodies) × (firstBody + requestSize * n ≤ length (now q)) × (headSize ≤ length (now t)) ⌝ }
-    ensures { λ _. ⌜ now (t .exit) ≡ put (now (t .entry)) 0 (headBytes (now (q .entry))) ⌝ }
-{
-    words::write2(t, 0, n as u64);
-    words::write2(t, 2, 1);
-    words::write4(t, 4, request::length_for(q, n) as u64);
-    words::copy_in(t, table::ABI, &q[0..request::FIRST]);
-    let rest = [0u8; 3];
-    words::copy_in(t, table::REST, &rest);
-}
-
-// Writes the entry at a place: the request's 20 bytes, the place of the first slot, and zeros.
-fn put_entry(t: &mut [u8], to: usize, q: &[u8], at: usize, p: usize)
-    requires { ⌜ (to + entrySize ≤ length (now t)) × (at + requestSize ≤ length (now q)) ⌝ }
-    ensures { λ _. ⌜ now (t .exit) ≡ put (now (t .entry)) to (entryBytes (now (q .entry)) at p) ⌝ }
-{
-    let e = at + entries::REQUEST;
-    words::copy_in(t, to, &q[at..e]);
-    words::write4(t, to + entries::REQUEST, p as u64);
-    let rest = [0u8; 8];
-    words::copy_in(t, to + entries::FIXED, &rest);
-}
-
 // Writes the entries of n bodies, after the head.
 fn put_entries(t: &mut [u8], q: &[u8], n: usize)
     requires { ⌜ (n ≤ maxBodies) × (firstBody + requestSize * n ≤ length (now q)) × (headSize + entrySize * n ≤ length (now t)) ⌝ }
-    ensures { λ _. ⌜ now (t .exit) ≡ put (now (t .entry)) headSize (entriesBytes (now (q .entry)) firstBody n (headSize + entrySize * n)) ⌝ }
+    ensures { λ _. ⌜ now (t .exit) ≡ put (now (t .entry)) headSize
+        (entriesBytes requestSize noCents (now (q .entry)) firstBody n (headSize + entrySize * n)) ⌝ }
 {
     let mut to = table::HEAD;
     let mut at = request::FIRST;
     let mut p = table::HEAD + entries::ENTRY * n;
     let mut left = n;
     while 0 < left {
-        put_entry(t, to, q, at, p);
+        let e = at + entries::REQUEST;
+        contents::put_entry(t, to, &q[at..e], p, 0, 0);
         p += record::SLOT * entries::slots_of(q, at);
         to += entries::ENTRY;
-        at += entries::REQUEST;
+        at = e;
         left -= 1;
     }
 }
@@ -76,7 +54,7 @@ fn fill(t: &mut [u8], q: &[u8], n: usize)
     ensures { λ _. ⌜ now (t .exit) ≡ opened (now (q .entry)) ⌝ }
 {
     clear(t);
-    put_head(t, q, n);
+    contents::put_head(t, n, request::length_for(q, n), &q[0..request::FIRST]);
     put_entries(t, q, n);
 }
 

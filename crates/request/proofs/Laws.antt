@@ -2,7 +2,7 @@
 use mathlib.Core.Path.{_≡_, refl, sym, ap, _∙_}
 use mathlib.Core.List.{List}
 use mathlib.Core.Bool.{true, false, _&&_}
-use Prim.Native.Nat.{ℕ, zero, suc, _+_, _-_, _*_, _%_, _≤_, _<_}
+use Prim.Native.Nat.{ℕ, _+_, _-_, _*_, _%_, _≤_, _<_}
 use native.Mathlib.Omega.{arith}
 use lib.ListN.{length}
 use lib.Dec.{leb, eqb}
@@ -10,22 +10,13 @@ use borrow.Author.Tests.{leb-true, eqb-true, le-leb, lt-leb, eq-eqb, ne-eqb}
 use Rattle.scan.specs.Bytes.{between, part, all, isDigit}
 use Rattle.scan.proofs.Laws.{both}
 use Rattle.record.specs.Slot.{slotSize}
-use Rattle.entries.specs.Entry.{entrySize, requestSize, slotsOf, formsOk, codesFrom, distinctCodes}
+use Rattle.entries.specs.Entry.{entrySize, requestSize, slotsFrom, formsOk, codesFrom, distinctCodes}
 use Rattle.bounds.specs.Bounds.{maxLength}
 use Rattle.table.specs.Table.{headSize}
-use Rattle.request.specs.Request.{firstBody, asked, slotsAsked, needed, bodiesAskedOk, requestOk}
-
--- the first of k = m + 1 bodies, and the rest
-pub slots-more : (q : List ℕ) (at k m : ℕ) → k ≡ suc m → slotsAsked q at k ≡ slotsOf q at + slotsAsked q (at + requestSize) m
-unfolding slotsAsked
-slots-more q at k m e = rw e
-
-pub slots-none : (q : List ℕ) (at k : ℕ) → k ≤ 0 → slotsAsked q at k ≡ 0
-unfolding slotsAsked
-slots-none q at k h = let e : k ≡ 0 = omega arith in rw e
+use Rattle.request.specs.Request.{firstBody, asked, needed, bodiesAskedOk, requestOk}
 
 module _ (q : List ℕ) (n : ℕ) (e : n ≡ asked q) where
-  pub needed-by : (s : ℕ) → s ≡ slotsAsked q firstBody n → headSize + entrySize * n + slotSize * s ≡ needed q
+  pub needed-by : (s : ℕ) → s ≡ slotsFrom requestSize q firstBody n → headSize + entrySize * n + slotSize * s ≡ needed q
   unfolding needed
   needed-by s f = rw (f, e)
 

@@ -4,8 +4,8 @@ ghost use mathlib.Core.Path.{_≡_};
 ghost use Prim.Native.Nat.{_+_, _*_, _≤_};
 ghost use lib.ListN.{length};
 ghost use Rattle.bounds.specs.Bounds.{maxBodies};
-ghost use Rattle.entries.specs.Entry.{requestSize};
-ghost use Rattle.request.specs.Request.{firstBody, asked, slotsAsked, needed, bodiesAskedOk, requestOk};
+ghost use Rattle.entries.specs.Entry.{requestSize, slotsFrom};
+ghost use Rattle.request.specs.Request.{firstBody, asked, needed, bodiesAskedOk, requestOk};
 
 // The ABI digits come first in a request, then the bodies.
 pub const FIRST: usize = bounds::ABI;
@@ -13,7 +13,7 @@ pub const FIRST: usize = bounds::ABI;
 // The slots of the n bodies asked for, together.
 fn slots_asked(q: &[u8], n: usize) -> usize
     requires { ⌜ (n ≤ maxBodies) × (firstBody + requestSize * n ≤ length (now q)) ⌝ }
-    ensures { λ r. ⌜ (r ≡ slotsAsked (now (q .entry)) firstBody n) × (r ≤ 65535 * n) ⌝ }
+    ensures { λ r. ⌜ (r ≡ slotsFrom requestSize (now (q .entry)) firstBody n) × (r ≤ 65535 * n) ⌝ }
 {
     let mut at = FIRST;
     let mut left = n;

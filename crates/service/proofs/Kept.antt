@@ -1,11 +1,11 @@
--- What an order leaves: a table as long as it was, the same bytes outside the body's slots, and the body valid.
+-- What an order leaves: a table as long as it was, the same bytes outside the body's slots, the body valid, and its cash as it was.
 use Prim.Native.Nat.{ℕ, suc, _+_, _*_, _≤_, _<_}
 use mathlib.Core.Bool.{true}
 use mathlib.Core.List.{List, [], _∷_, _++_}
 use mathlib.Core.Path.{_≡_, refl, sym, ap, _∙_}
 use native.Mathlib.Omega.{arith}
-use lib.ListN.{length, drop-of-length-le}
-use lib.Seq.{set-split, take-all}
+use lib.ListN.{length}
+use lib.Seq.{set-split}
 use Rattle.words.specs.Numbers.{put}
 use Rattle.words.proofs.Laws.{Agree, length-put}
 use Rattle.ranges.specs.declared.Found.the-variants.{At}
@@ -14,7 +14,7 @@ use Rattle.record.specs.declared.Record.{Record}
 use Rattle.record.specs.Slot.{slotSize, recordAt, recordBytes, keyOf}
 use Rattle.record.proofs.Back.{agree-before, agree-after, length-record}
 use Rattle.slots.specs.Slots.{recordsAt, findIn}
-use Rattle.body.specs.Body.{bodyOk}
+use Rattle.body.specs.Body.{bodyOk, centsOf}
 use Rattle.body.proofs.Puts.{records-set, keeps-ok, records-add, adds-ok}
 use Rattle.slots.proofs.Search.{found-key}
 use Rattle.slots.proofs.Index.{length-records}
@@ -29,6 +29,7 @@ use Rattle.rules.proofs.Judging.{Stands, inserting, varying, annulling, accepte
 use Rattle.rules.proofs.Kept.{Writable, written-valid, written-key}
 use Rattle.service.specs.Service.{orderComes, orderStored, orderLeaves, allLeave}
 use Rattle.service.proofs.Laws.{Held, held, search-held, order-low}
+use Rattle.service.proofs.Worth.{stored-end, order-cash}
 
 -- a call on a body of n slots from base on left t′ of t
 pub record Kept (t t′ : List ℕ) (base n : ℕ) : Type 0 where
@@ -36,9 +37,10 @@ pub record Kept (t t′ : List ℕ) (base n : ℕ) : Type 0 where
   pub before : (p m : ℕ) → p + m ≤ base → Agree t′ p t p m
   pub after : (p m : ℕ) → base + slotSize * n ≤ p → Agree t′ p t p m
   pub ok : bodyOk t′ base n ≡ true
+  pub cash : (kind : ℕ) → centsOf kind (recordsAt t′ base n) ≡ centsOf kind (recordsAt t base n)
 
 pub unchanged : (t : List ℕ) (base n : ℕ) → bodyOk t base n ≡ true → Kept t t base n
-unchanged t base n e = record { long = refl; before = λ p m h. record { same = λ i b. refl }; after = λ p m h. record { same = λ i b. refl }; ok = e }
+unchanged t base n e = record { long = refl; before = λ p m h. record { same = λ i b. refl }; after = λ p m h. record { same = λ i b. refl }; ok = e; cash = λ kind. refl }
 
 pub kept-on : {s t u : List ℕ} {base n : ℕ} → Kept s t base n → Kept t u base n → Kept s u base n
 kept-on a b = record {
@@ -46,23 +48,21 @@ kept-on a b = record {
   before = λ p m h. record { same = λ i l. b .before p m h .same i l ∙ a .before p m h .same i l };
   after = λ p m h. record { same = λ i l. b .after p m h .same i l ∙ a .after p m h .same i l };
   ok = b .ok;
+  cash = λ kind. b .cash kind ∙ a .cash kind;
 }
 
 -- a body's slot is written
 pub slot-kept : (t : List ℕ) (base n i : ℕ) (v : List ℕ) → length v ≡ slotSize → i < n → base + slotSize * n ≤ length t
-    → bodyOk (put t (base + slotSize * i) v) base n ≡ true → Kept t (put t (base + slotSize * i) v) base n
-slot-kept t base n i v l h fits e = record {
+    → bodyOk (put t (base + slotSize * i) v) base n ≡ true
+    → ((kind : ℕ) → centsOf kind (recordsAt (put t (base + slotSize * i) v) base n) ≡ centsOf kind (recordsAt t base n))
+    → Kept t (put t (base + slotSize * i) v) base n
+slot-kept t base n i v l h fits e c = record {
   long = length-put t (base + slotSize * i) v (omega arith);
   before = λ p m k. agree-before t (base + slotSize * i) v p (omega arith) m (omega arith);
   after = λ p m k. agree-after t (base + slotSize * i) v p (omega arith) m (omega arith);
   ok = e;
+  cash = c;
 }
-
-pub stored-end : (rs : List Record) (i : ℕ) (r : Record) → i ≡ length rs → storedAt rs i r ≡ rs ++ r ∷ []
-stored-end rs i r e =
-    let a = take-all i rs (omega arith) in
-    let b = drop-of-length-le rs {i = suc i} (omega arith) in
-    λ k. a k ++ r ∷ b k
 
 module _ (t : List ℕ) (base n year : ℕ) (o : Ordinativo) (fits : base + slotSize * n ≤ length t) (ok : bodyOk t base n ≡ true) (w : Writable o) (y : (2000 ≤ year) × (year ≤ 2099)) where
   abbrev rs : List Record
@@ -122,6 +122,7 @@ module _ (t : List ℕ) (base n year : ℕ) (o : Ordinativo) (fits : base + slot
   kept-by (Accepted c i) e =
       let low = order-low t base n year o c i e in
       slot-kept t base n i (recordBytes (new c i e low)) (long c i e low) low fits (stored-ok c i e low (accepted n year o rs c i e))
+      (λ kind. ap (centsOf kind) (stored-records c i e low (accepted n year o rs c i e)) ∙ order-cash n year o rs (Accepted c i) e kind)
   kept-by (Refused code) e = unchanged t base n ok
 
   pub order-kept : Kept t (orderLeaves t base n year o) base n

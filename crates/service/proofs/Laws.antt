@@ -31,12 +31,12 @@ use Rattle.rules.specs.declared.Ruling.{Ruling}
 use Rattle.rules.specs.declared.Ruling.the-variants.{Accepted, Refused}
 use Rattle.rules.specs.declared.Noticed.the-variants.{Moved, Unmoved}
 use Rattle.lines.specs.Lines.{lineCode}
-use Rattle.rules.specs.Rules.{asksOf, keyFor, nth, noRecord, unless, stepped, judgeChange, judgeAsked, judgeOrder, recordOf, written, movedTo, noticeIn, noticeAt, judgeNotice}
+use Rattle.rules.specs.Rules.{asksOf, keyFor, nth, noRecord, unless, stepped, judgeChange, judgeAsked, judgeOrder, recordOf, written, noticeIn, noticeAt, judgeNotice}
 use Rattle.rules.specs.Inner.{absentCode}
 use Rattle.rules.proofs.Judging.{accepted-slot, moved}
 use Rattle.rules.proofs.Codes.{stepped-at, stepped-none, absent-zero}
 use Rattle.service.specs.Inner.{onRecord, onNone, Ruled}
-use Rattle.service.specs.Service.{orderComes, orderStored, OrderServed, outcomeBytes, noticeComes, noticeStored, noticeLeaves, statePlace}
+use Rattle.service.specs.Service.{orderComes, orderStored, OrderServed, outcomeBytes, noticeComes, noticeStored, noticeLeaves}
 
 -- A RECORD OF A BODY stands in its slot
 pub record Held (t : List ℕ) (base n i : ℕ) : Type 0 where
@@ -177,11 +177,6 @@ module _ (t : List ℕ) (base n : ℕ) (executing : Bool) (k : Key) (line : ℕ)
       let q : nth (recordsAt t base n) i .lines ≡ recordAt t (base + slotSize * i) .lines = ap (λ (x : Record). x .lines) (h .same) in
       record { low = h .low; first = m .1 .first; last = omega (arith, m .1 .last) }
 
-  pub notice-stored : {i cents s : ℕ} {t′ : List ℕ} → noticeComes t base n executing k line ≡ Moved i cents → s ≡ movedTo executing
-      → t′ ≡ put t (statePlace base i line) (s ∷ []) → t′ ≡ noticeLeaves t base n executing k line
+  pub notice-refused : (e : ℕ) {c : ℕ} → noticeComes t base n executing k line ≡ Unmoved c → t ≡ noticeLeaves t e base n executing k line
   unfolding noticeStored
-  notice-stored e q p = rw (e, ← q) p
-
-  pub notice-refused : {c : ℕ} → noticeComes t base n executing k line ≡ Unmoved c → t ≡ noticeLeaves t base n executing k line
-  unfolding noticeStored
-  notice-refused e = rw e
+  notice-refused e q = rw q

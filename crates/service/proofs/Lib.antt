@@ -1,4 +1,6 @@
 pub mod Laws
+pub mod Worth
 pub mod Kept
-pub mod Own
+pub mod Totals
 pub mod Moved
+pub mod Own

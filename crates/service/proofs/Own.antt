@@ -1,4 +1,5 @@
--- What a body's calls answer and leave rests on its own slots alone: where these agree, so do the answers, the outcomes and the slots afterwards.
+-- What a body's calls answer and leave rests on what it owns alone, its slots and its entry from byte 24 on: where these agree, so do the answers, the
+-- outcomes and what it owns afterwards.
 use Prim.Native.Nat.{ℕ, _+_, _-_, _*_, _≤_, _<_}
 use mathlib.Core.Bool.{Bool, true, cond}
 use mathlib.Core.List.{List, [], _∷_, _++_}
@@ -6,13 +7,15 @@ use mathlib.Core.Path.{_≡_, refl, sym, ap, _∙_}
 use native.Mathlib.Omega.{arith}
 use lib.ListN.{length, getD}
 use lib.Dec.{eqb}
-use Rattle.words.specs.Numbers.{put}
-use Rattle.words.proofs.Laws.{Agree, on, get-before, get-in, get-after}
+use Rattle.words.specs.Numbers.{put, bytes8}
+use Rattle.words.proofs.Laws.{Agree, on, get-before, get-in, get-after, length-put}
 use Rattle.order.specs.Ordinativo.{Ordinativo}
 use Rattle.record.specs.declared.Key.{Key}
 use Rattle.record.specs.Slot.{statesOffset, slotSize, recordAt, recordBytes}
-use Rattle.record.proofs.Back.{same-record}
-use Rattle.body.specs.Body.{bodyOk}
+use Rattle.record.proofs.Back.{same-record, agree-before, agree-after}
+use Rattle.slots.specs.Slots.{recordsAt}
+use Rattle.entries.specs.Entry.{entrySize, entryFixed, keptBytes}
+use Rattle.body.specs.Body.{bodyOk, centsOf}
 use Rattle.body.proofs.Same.{records-agree}
 use Rattle.rules.specs.declared.Change.{Change}
 use Rattle.rules.specs.declared.Ruling.{Ruling}
@@ -23,7 +26,8 @@ use Rattle.rules.specs.Rules.{judgeOrder, orderCode, written, judgeNotice, move
 use Rattle.rules.proofs.Kept.{split}
 use Rattle.service.proofs.Laws.{order-low, notice-line}
 use Rattle.service.proofs.Kept.{Writables, none, more, order-kept}
-use Rattle.service.specs.Service.{orderComes, orderStored, orderLeaves, outcomeBytes, allLeave, allOutcomes, allAccepted, noticeComes, noticeStored, noticeLeaves}
+use Rattle.service.specs.Service.{orderComes, orderStored, orderLeaves, outcomeBytes, allLeave, allOutcomes, allAccepted, noticeComes, statePlace, lineMoved, settled, noticeStored, noticeLeaves}
+use Rattle.service.specs.Inner.{Served}
 
 -- the same bytes put at the same place
 pub put-agree : {s t : List ℕ} {p q m : ℕ} → Agree s p t q m → (k : ℕ) (v : List ℕ) → p + k ≤ length s → q + k ≤ length t → Agree (put s (p + k) v) p (put t (q + k) v) q m
@@ -68,21 +72,67 @@ module _ {s t : List ℕ} {p q : ℕ} (n : ℕ) (a : Agree s p t q (slotSize * n
     unfolding noticeComes
     notice-same executing k line = ap (judgeNotice executing k line) (records-agree n a)
 
-    moved-same : (executing : Bool) (line : ℕ) (m : Noticed) → ((i cents : ℕ) → m ≡ Moved i cents → (i < n) × (1 ≤ line) × (line ≤ 8))
-        → Agree (noticeStored s p executing line m) p (noticeStored t q executing line m) q (slotSize * n)
-    unfolding noticeStored
-    moved-same executing line (Moved i cents) h =
-        let l = h i cents refl in
-        let x : p + slotSize * i + statesOffset + (line - 1) ≡ p + (slotSize * i + statesOffset + (line - 1)) = omega arith in
-        let y : q + slotSize * i + statesOffset + (line - 1) ≡ q + (slotSize * i + statesOffset + (line - 1)) = omega arith in
-        rw (x, y) (put-agree a (slotSize * i + statesOffset + (line - 1)) (movedTo executing ∷ []) (omega arith) (omega arith))
-    moved-same executing line (Unmoved c) h = a
+-- what a notice leaves: by the slots and by the entry from byte 24 on
+module _ {s t : List ℕ} {e base n : ℕ} (a : Agree s base t base (slotSize * n)) (S : Served s e base n) (T : Served t e base n) (executing : Bool) (line : ℕ) where
+  lined : (i : ℕ) → i < n → (1 ≤ line) × (line ≤ 8) → Agree (lineMoved s base executing line i) base (lineMoved t base executing line i) base (slotSize * n)
+  unfolding lineMoved
+  lined i h l =
+      let x : base + slotSize * i + statesOffset + (line - 1) ≡ base + (slotSize * i + statesOffset + (line - 1)) = omega arith in
+      let u = S .inside in
+      let v = T .inside in
+      rw x (put-agree a (slotSize * i + statesOffset + (line - 1)) (movedTo executing ∷ []) (omega arith) (omega arith))
 
-    pub notice-own : (executing : Bool) (k : Key) (line : ℕ) → bodyOk t q n ≡ true → Agree (noticeLeaves s p n executing k line) p (noticeLeaves t q n executing k line) q (slotSize * n)
-    notice-own executing k line b =
-        rw (notice-same executing k line)
-        (moved-same executing line (noticeComes t q n executing k line)
-        (λ i cents e. let l = notice-line t q n executing k line i cents b e in (l .low, l .first, l .last)))
+  long : (t : List ℕ) → Served t e base n → (i : ℕ) → i < n → (1 ≤ line) × (line ≤ 8) → length (lineMoved t base executing line i) ≡ length t
+  unfolding lineMoved
+  long t U i h l = let v = U .inside in length-put t (statePlace base i line) (movedTo executing ∷ []) (omega arith)
+
+  -- the entry's bytes before it is settled
+  tailed : Agree s (e + entryFixed) t (e + entryFixed) (entrySize - entryFixed) → (i : ℕ) → i < n → (1 ≤ line) × (line ≤ 8)
+      → Agree (lineMoved s base executing line i) (e + entryFixed) (lineMoved t base executing line i) (e + entryFixed) (entrySize - entryFixed)
+  unfolding lineMoved
+  tailed b i h l =
+      let x = S .entry in
+      let u = S .inside in
+      let v = T .inside in
+      let f = agree-before s (statePlace base i line) (movedTo executing ∷ []) (e + entryFixed) (omega arith) (entrySize - entryFixed) (omega arith) in
+      let g = agree-before t (statePlace base i line) (movedTo executing ∷ []) (e + entryFixed) (omega arith) (entrySize - entryFixed) (omega arith) in
+      record { same = λ j k. f .same j k ∙ b .same j k ∙ sym (g .same j k) }
+
+  moved-same : Agree s (e + entryFixed) t (e + entryFixed) (entrySize - entryFixed) → (m : Noticed) → ((i cents : ℕ) → m ≡ Moved i cents → (i < n) × (1 ≤ line) × (line ≤ 8))
+      → Agree (noticeStored s e base n executing line m) base (noticeStored t e base n executing line m) base (slotSize * n)
+      × Agree (noticeStored s e base n executing line m) (e + entryFixed) (noticeStored t e base n executing line m) (e + entryFixed) (entrySize - entryFixed)
+  unfolding noticeStored settled keptBytes
+  moved-same b (Moved i cents) h =
+      let l = h i cents refl in
+      let low = l .0 in
+      let many : (1 ≤ line) × (line ≤ 8) = (l .1, l .2) in
+      let c = lined i low many in
+      let rs = records-agree n c in
+      let x : List ℕ = lineMoved s base executing line i in
+      let y : List ℕ = lineMoved t base executing line i in
+      let v : List ℕ = bytes8 (centsOf 1 (recordsAt y base n)) ++ bytes8 (centsOf 2 (recordsAt y base n)) in
+      let p = S .entry in
+      let u = S .inside in
+      let w = T .inside in
+      let lx = long s S i low many in
+      let ly = long t T i low many in
+      let f = agree-after x (e + entryFixed) v base (omega arith) (slotSize * n) (omega arith) in
+      let g = agree-after y (e + entryFixed) v base (omega arith) (slotSize * n) (omega arith) in
+      let z : e + entryFixed ≡ e + entryFixed + 0 = omega arith in
+      rw rs (
+        record { same = λ j k. f .same j k ∙ c .same j k ∙ sym (g .same j k) },
+        rw (ap (λ (q : ℕ). put x q v) z, ap (λ (q : ℕ). put y q v) z) (put-agree (tailed b i low many) 0 v (omega arith) (omega arith)),
+      )
+  moved-same b (Unmoved c) h = (a, b)
+
+pub notice-own : {s t : List ℕ} {e base n : ℕ} → Agree s base t base (slotSize * n) → Agree s (e + entryFixed) t (e + entryFixed) (entrySize - entryFixed)
+    → Served s e base n → Served t e base n → (executing : Bool) (k : Key) (line : ℕ)
+    → Agree (noticeLeaves s e base n executing k line) base (noticeLeaves t e base n executing k line) base (slotSize * n)
+    × Agree (noticeLeaves s e base n executing k line) (e + entryFixed) (noticeLeaves t e base n executing k line) (e + entryFixed) (entrySize - entryFixed)
+notice-own {s} {t} {e} {base} {n} a b S T executing k line =
+    rw (notice-same n a (S .inside) (T .inside) executing k line)
+    (moved-same a S T executing line b (noticeComes t base n executing k line)
+    (λ i cents q. let l = notice-line t base n executing k line i cents (T .valid) q in (l .low, l .first, l .last)))
 
 -- ALL ORDERS OF A FLOW
 

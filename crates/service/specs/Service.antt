@@ -9,15 +9,18 @@ use Rattle.words.specs.Numbers.{put, bytes4, bytes8}
 use Rattle.codes.specs.Codes.{operationNumber}
 use Rattle.order.specs.Ordinativo.{Ordinativo}
 use Rattle.record.specs.declared.Key.{Key}
-use Rattle.record.specs.Slot.{statesOffset, slotSize, recordAt, recordBytes}
+use Rattle.record.specs.declared.Record.{Record}
+use Rattle.record.specs.Slot.{statesOffset, slotSize, mandatoKind, reversaleKind, recordAt, recordBytes}
 use Rattle.slots.specs.Slots.{recordsAt}
+use Rattle.body.specs.Body.{centsOf}
+use Rattle.entries.specs.Entry.{entryFixed, keptBytes}
 use Rattle.rules.specs.declared.Ruling.{Ruling}
 use Rattle.rules.specs.declared.Ruling.the-variants.{Accepted, Refused}
 use Rattle.rules.specs.declared.Noticed.{Noticed}
 use Rattle.rules.specs.declared.Noticed.the-variants.{Moved, Unmoved}
 use Rattle.rules.specs.Rules.{judgeOrder, orderCode, written, judgeNotice, movedTo}
 
--- A BODY of a table: where its slots begin, and how many they are. An ORDER is served in the flow's esercizio, `year`.
+-- A BODY of a table: where its slots begin, and how many they are; for a notice, where its entry begins too. An ORDER is served in the flow's esercizio, `year`.
 
 -- what an order comes to
 unfoldable pub orderComes : List ℕ → ℕ → ℕ → ℕ → Ordinativo → Ruling
@@ -70,14 +73,23 @@ noticeComes t base n executing k line = judgeNotice executing k line (recordsAt 
 abbrev pub statePlace : ℕ → ℕ → ℕ → ℕ
 statePlace base i line = base + slotSize * i + statesOffset + (line - 1)
 
--- the table after it: one byte changes, or none
-unfoldable pub noticeStored : List ℕ → ℕ → Bool → ℕ → Noticed → List ℕ
-noticeStored t base executing line (Moved i cents) = put t (statePlace base i line) (movedTo executing ∷ [])
-noticeStored t base executing line (Unmoved c) = t
+-- the line's state is set
+unfoldable pub lineMoved : List ℕ → ℕ → Bool → ℕ → ℕ → List ℕ
+lineMoved t base executing line i = put t (statePlace base i line) (movedTo executing ∷ [])
 
-abbrev pub noticeLeaves : List ℕ → ℕ → ℕ → Bool → Key → ℕ → List ℕ
-noticeLeaves t base n executing k line = noticeStored t base executing line (noticeComes t base n executing k line)
+-- "Every call that moves a line keeps them true" (document 02, Req 04): the entry at e with the cents paid and collected of these records
+unfoldable pub settled : List ℕ → ℕ → List Record → List ℕ
+settled t e rs = put t (e + entryFixed) (keptBytes (centsOf mandatoKind rs) (centsOf reversaleKind rs))
+
+-- the table after it: the line's state and the totals that its body's entry at e keeps, or nothing changes
+unfoldable pub noticeStored : List ℕ → ℕ → ℕ → ℕ → Bool → ℕ → Noticed → List ℕ
+noticeStored t e base n executing line (Moved i cents) =
+    settled (lineMoved t base executing line i) e (recordsAt (lineMoved t base executing line i) base n)
+noticeStored t e base n executing line (Unmoved c) = t
+
+abbrev pub noticeLeaves : List ℕ → ℕ → ℕ → ℕ → Bool → Key → ℕ → List ℕ
+noticeLeaves t e base n executing k line = noticeStored t e base n executing line (noticeComes t base n executing k line)
 
 -- a notice served on the table t: what it comes to, m, and the table t′ afterwards
-abbrev pub NoticeServed : List ℕ → ℕ → ℕ → Bool → Key → ℕ → Noticed → List ℕ → Type 0
-NoticeServed t base n executing k line m t′ = (m ≡ noticeComes t base n executing k line) × (t′ ≡ noticeLeaves t base n executing k line)
+abbrev pub NoticeServed : List ℕ → ℕ → ℕ → ℕ → Bool → Key → ℕ → Noticed → List ℕ → Type 0
+NoticeServed t e base n executing k line m t′ = (m ≡ noticeComes t base n executing k line) × (t′ ≡ noticeLeaves t e base n executing k line)

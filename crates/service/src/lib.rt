@@ -13,12 +13,13 @@ ghost use Prim.Native.Nat.{_+_, _*_, _≤_, _<_};
 ghost use lib.ListN.{length};
 ghost use Rattle.words.specs.Numbers.{put};
 ghost use Rattle.order.specs.Ordinativo.{ordinativo};
-ghost use Rattle.record.specs.Slot.{slotSize};
+ghost use Rattle.record.specs.Slot.{slotSize, mandatoKind, reversaleKind};
 ghost use Rattle.slots.specs.Slots.{recordsAt};
 ghost use Rattle.body.specs.Body.{bodyOk};
+ghost use Rattle.entries.specs.Entry.{entryFixed, entryRest, kept};
 ghost use Rattle.rules.specs.Rules.{judgeChange, movedTo};
 ghost use Rattle.service.specs.Service.{outcomeSize, OrderServed, outcomeBytes, noticeComes, NoticeServed};
-ghost use Rattle.service.specs.Inner.{onRecord, onNone, Ruled};
+ghost use Rattle.service.specs.Inner.{onRecord, onNone, Ruled, sumMoved, Movable, its, keptMoved, Served};
 
 // How many bytes an order's outcome takes.
 pub const OUTCOME: usize = 16;
@@ -139,17 +140,46 @@ pub fn judge_notice(
     }
 }
 
-// Serves a notice: exactly one byte changes where it is accepted, none where it is refused.
+// A kept sum after a line of so many cents was executed, or reversed.
+fn sum_moved(executing: bool, sum: u64, cents: u64) -> u64
+    requires { ⌜ Movable executing sum cents ⌝ }
+    ensures { λ r. ⌜ r ≡ sumMoved executing sum cents ⌝ }
+{
+    if executing { sum + cents } else { sum - cents }
+}
+
+// Moves what the entry at a place keeps by one line of an order of a kind.
+fn move_kept(t: &mut [u8], e: usize, executing: bool, kind: u64, cents: u64)
+    requires { ⌜ (e + entryRest ≤ length (now t)) × Movable executing (kept mandatoKind (now t) e) (its kind mandatoKind cents) × Movable executing (kept reversaleKind (now t) e) (its kind reversaleKind cents) ⌝ }
+    ensures { λ _. ⌜ now (t .exit) ≡ put (now (t .entry)) (e + entryFixed) (keptMoved (now (t .entry)) e executing kind cents) ⌝ }
+{
+    let paid = words::read8(t, e + entries::FIXED);
+    let collected = words::read8(t, e + entries::COLLECTED);
+    let more_paid = sum_moved(
+        executing,
+        paid,
+        valid::line_cents(kind == record::MANDATO as u64, cents),
+    );
+    let more_collected = sum_moved(
+        executing,
+        collected,
+        valid::line_cents(kind == record::REVERSALE as u64, cents),
+    );
+    entries::settle(t, e, more_paid, more_collected);
+}
+
+// Serves a notice: where it is accepted the line's state changes and its body's entry is settled; where it is refused no byte changes.
 pub fn serve_notice(
     t: &mut [u8],
+    e: usize,
     base: usize,
     n: usize,
     executing: bool,
     key: Key,
     line: u64,
 ) -> Noticed
-    requires { ⌜ (base + slotSize * n ≤ length (now t)) × (bodyOk (now t) base n ≡ true) ⌝ }
-    ensures { λ r. ⌜ NoticeServed (now (t .entry)) base n executing key line r (now (t .exit)) ⌝ }
+    requires { ⌜ Served (now t) e base n ⌝ }
+    ensures { λ r. ⌜ NoticeServed (now (t .entry)) e base n executing key line r (now (t .exit)) ⌝ }
 {
     let m = judge_notice(t, base, n, executing, key, line);
     match m {
@@ -157,6 +187,7 @@ pub fn serve_notice(
             let at = base + record::SLOT * i + record::STATES + ((line - 1) as usize);
             let state = [moved_to(executing)];
             words::copy_in(t, at, &state);
+            move_kept(t, e, executing, key.kind, cents);
             Noticed::Moved(i, cents)
         }
         Noticed::Unmoved(c) => Noticed::Unmoved(c),

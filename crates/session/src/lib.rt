@@ -52,7 +52,7 @@ fn tell_reason(flow: &[u8], code: u64, place: u64, cause: u64, explaining: bool)
 
 // Opens the table, takes the flow and prints: whether all was written.
 fn run(flow: &[u8], explaining: bool) -> bool {
-    let mut table = [0u8; 848];
+    let mut table = [0u8; 880];
     let mut outcomes = [0u8; 1024];
     let mut place: u64 = 0;
     let mut orders: u64 = 0;

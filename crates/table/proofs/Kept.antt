@@ -1,29 +1,25 @@
--- What is written into one body's slots leaves the head, the entries and every other body; the table stays valid where that body does.
+-- A table with the same head, codes, slots and places as a valid one is valid where each of its bodies is.
 use mathlib.Core.Path.{_≡_, refl, sym, ap, _∙_, subst}
 use mathlib.Core.List.{List}
-use mathlib.Core.Bool.{Bool, true, false, _&&_}
-use mathlib.Core.Logic.{⊎-elim}
+use mathlib.Core.Bool.{Bool, true, _&&_}
 use Prim.Native.Nat.{ℕ, zero, suc, _+_, _-_, _*_, _≤_, _<_}
 use native.Mathlib.Omega.{arith}
 use lib.ListN.{length}
 use lib.Dec.{eqb, leb}
-use borrow.Author.Tests.{eq-eqb, eqb-true, eqb-false}
+use borrow.Author.Tests.{eq-eqb}
 use Rattle.scan.specs.Bytes.{between, all, isDigit}
-use Rattle.words.specs.Numbers.{put}
-use Rattle.words.proofs.Laws.{Agree, on, same2, same4, length-put}
+use Rattle.words.proofs.Laws.{Agree, on, same2, same4}
 use Rattle.record.specs.Slot.{slotSize}
-use Rattle.record.proofs.Back.{agree-before, agree-after}
 use Rattle.slots.specs.Slots.{recordsAt}
 use Rattle.body.specs.Body.{bodyOk}
-use Rattle.body.proofs.Same.{records-agree, body-agree, fewer}
+use Rattle.body.proofs.Same.{fewer}
 use Rattle.ranges.specs.Ranges.{zeros}
-use Rattle.entries.specs.Entry.{entrySize, entryFixed, requestSize, slotsOf, placeOf, codesFrom, findCode}
+use Rattle.entries.specs.Entry.{entrySize, entryFixed, entryRest, requestSize, slotsOf, placeOf, codesFrom, findCode}
 use Rattle.entries.proofs.Same.{part-agree, zeros-agree, slots-agree, place-agree, form-agree, Rows, codes-rows}
 use Rattle.entries.proofs.Same.Rows.{none, row}
 use Rattle.bounds.specs.Bounds.{maxLength}
-use Rattle.table.specs.Table.{headSize, bodies, abiOf, headOk, entryOk, layoutOk, bodiesOk, tableOk, codesOf, bodyOf, entryOf}
+use Rattle.table.specs.Table.{table2, headSize, bodies, abiOf, headOk, entryOk, layoutOk, agrees, bodyHolds, bodiesOk, validAs, tableOk, codesOf, bodyOf, entryOf}
 use Rattle.table.proofs.Laws.{entry, lay-split, head, table}
-use Rattle.table.proofs.Bodies.{body-at, apart}
 
 -- what holds of the n + 1 entries from `at` on holds of the first, and of the n after it
 module _ (P : ℕ → Type 0) (at n : ℕ) (f : (b : ℕ) → b < suc n → P (at + entrySize * b)) where
@@ -39,13 +35,15 @@ pub record Contents (u t : List ℕ) : Type 0 where
   pub top : Agree u 0 t 0 headSize
   pub entries : (b : ℕ) → b < bodies t → Agree u (entryOf b) t (entryOf b) entryFixed
 
--- the rest of an entry, as a valid table has it
-abbrev pub TailOk : List ℕ → ℕ → Type 0
-TailOk t at = zeros t (at + entryFixed) (at + entrySize) ≡ true
+-- what makes one body of u valid, at the place and with the slots that t gives it: its slots, its kept totals and the rest of its entry
+pub record Own (u t : List ℕ) (at : ℕ) : Type 0 where
+  pub body : bodyOk u (placeOf t at) (slotsOf t at) ≡ true
+  pub kept : agrees u at (recordsAt u (placeOf t at) (slotsOf t at)) ≡ true
+  pub rest : zeros u (at + entryRest) (at + entrySize) ≡ true
 
 module _ {u t : List ℕ} (s : Contents u t) (ok : tableOk t ≡ true) where
   room : headSize + entrySize * bodies t ≤ length t
-  room = head t (table t ok .head-ok) .room
+  room = head table2 t (table table2 t ok .head-ok) .room
 
   pub same-bodies : bodies u ≡ bodies t
   same-bodies = same2 (s .top) (omega arith)
@@ -56,7 +54,7 @@ module _ {u t : List ℕ} (s : Contents u t) (ok : tableOk t ≡ true) where
       let r = room in
       part-agree (s .top) 8 13 (omega arith) 8 13 8 13 refl refl refl refl (omega arith) (omega arith)
 
-  pub same-head : headOk u ≡ headOk t
+  pub same-head : headOk table2 u ≡ headOk table2 t
   unfolding headOk
   same-head =
       let l = s .long in
@@ -68,29 +66,29 @@ module _ {u t : List ℕ} (s : Contents u t) (ok : tableOk t ≡ true) where
       let z = zeros-agree (s .top) 13 16 (omega arith) 13 16 13 16 refl refl refl refl (omega arith) (omega arith) in
       λ i.
       between headSize maxLength (l i)
-      && (between 1 16 (n i) && (eqb (f i) 1 && (eqb (g i) (l i) && (all isDigit (a i) && (z i && leb (headSize + entrySize * n i) (l i))))))
+      && (between 1 16 (n i) && (eqb (f i) 2 && (eqb (g i) (l i) && (all isDigit (a i) && (z i && leb (headSize + entrySize * n i) (l i))))))
 
   abbrev Same : ℕ → Type 0
   Same at = Agree u at t at entryFixed
 
   abbrev Fits : ℕ → Type 0
-  Fits at = Same at × TailOk u at
+  Fits at = Same at × (zeros u (at + entryRest) (at + entrySize) ≡ true)
 
-  entry-same : (at p : ℕ) → at + entrySize ≤ headSize + entrySize * bodies t → Fits at → entryOk t at p ≡ true → entryOk u at p ≡ true
+  entry-same : (at p : ℕ) → at + entrySize ≤ headSize + entrySize * bodies t → Fits at → entryOk table2 t at p ≡ true → entryOk table2 u at p ≡ true
   unfolding entryOk
   entry-same at p h a e =
       let l = s .long in
       let r = room in
-      let w = entry t at p e in
+      let w = entry table2 t at p e in
       let f = form-agree (fewer (a .0) requestSize (omega arith)) (omega arith) (omega arith) (w .formed) in
       let q = place-agree (a .0) (omega arith) ∙ w .placed in
       rw (f, a .1, eq-eqb (placeOf u at) p q)
 
-  layout-same : (at n p : ℕ) → at + entrySize * n ≤ headSize + entrySize * bodies t → ((b : ℕ) → b < n → Fits (at + entrySize * b)) → layoutOk t at n p ≡ true → layoutOk u at n p ≡ true
+  layout-same : (at n p : ℕ) → at + entrySize * n ≤ headSize + entrySize * bodies t → ((b : ℕ) → b < n → Fits (at + entrySize * b)) → layoutOk table2 t at n p ≡ true → layoutOk table2 u at n p ≡ true
   unfolding layoutOk
   layout-same at zero p h a e = ap (eqb p) (s .long) ∙ e
   layout-same at (suc n) p h a e =
-      let w = lay-split t at (suc n) n p refl e in
+      let w = lay-split table2 t at (suc n) n p refl e in
       let x = first Fits at n a in
       let k = slots-agree (x .0) (omega arith) in
       rw (entry-same at p (omega arith) x (w .0), k) (layout-same (at + entrySize) n (p + slotSize * slotsOf t at) (omega arith) (later Fits at n a) (w .1))
@@ -104,7 +102,7 @@ module _ {u t : List ℕ} (s : Contents u t) (ok : tableOk t ≡ true) where
 
   pub same-codes : codesOf u ≡ codesOf t
   same-codes =
-      ap (codesFrom entrySize u headSize) same-bodies ∙ codes-rows (rows headSize (bodies t) (omega arith) (s .entries)) (table t ok .forms)
+      ap (codesFrom entrySize u headSize) same-bodies ∙ codes-rows (rows headSize (bodies t) (omega arith) (s .entries)) (table table2 t ok .forms)
 
   pub same-find : (code : List ℕ) → bodyOf u code ≡ bodyOf t code
   same-find code = ap (λ (xs : List (List ℕ)). findCode xs 0 code) same-codes
@@ -117,74 +115,28 @@ module _ {u t : List ℕ} (s : Contents u t) (ok : tableOk t ≡ true) where
     same-place = place-agree (s .entries b h) (omega arith)
 
   abbrev Valid : ℕ → Type 0
-  Valid at = Same at × (bodyOk u (placeOf t at) (slotsOf t at) ≡ true)
+  Valid at = Same at × Own u t at
 
-  bodies-same : (at n : ℕ) → ((b : ℕ) → b < n → Valid (at + entrySize * b)) → bodiesOk u at n ≡ true
-  unfolding bodiesOk
+  bodies-same : (at n : ℕ) → ((b : ℕ) → b < n → Valid (at + entrySize * b)) → bodiesOk table2 u at n ≡ true
+  unfolding bodiesOk bodyHolds
   bodies-same at zero f = refl
   bodies-same at (suc n) f =
       let a = first Valid at n f in
-      rw (place-agree (a .0) (omega arith), slots-agree (a .0) (omega arith), a .1) (bodies-same (at + entrySize) n (later Valid at n f))
+      let p = place-agree (a .0) (omega arith) in
+      let k = slots-agree (a .0) (omega arith) in
+      rw (p, k, a .1 .body, a .1 .kept) (bodies-same (at + entrySize) n (later Valid at n f))
 
-  -- valid where each body and the rest of its entry are
-  pub same-table : ((b : ℕ) → b < bodies t → (bodyOk u (placeOf t (entryOf b)) (slotsOf t (entryOf b)) ≡ true) × TailOk u (entryOf b)) → tableOk u ≡ true
-  unfolding tableOk
+  -- valid where each body is
+  pub same-table : ((b : ℕ) → b < bodies t → Own u t (entryOf b)) → tableOk u ≡ true
+  unfolding validAs
   same-table f =
-      let w = table t ok in
+      let w = table table2 t ok in
       rw (
         same-head,
         w .head-ok,
         same-codes,
         w .distinct,
         same-bodies,
-        layout-same headSize (bodies t) (headSize + entrySize * bodies t) (omega arith) (λ b h. (s .entries b h, f b h .1)) (w .layout),
+        layout-same headSize (bodies t) (headSize + entrySize * bodies t) (omega arith) (λ b h. (s .entries b h, f b h .rest)) (w .layout),
       )
-      (bodies-same headSize (bodies t) (λ b h. (s .entries b h, f b h .0)))
-
--- A PUT INSIDE BODY b
-module _ (t : List ℕ) (ok : tableOk t ≡ true) (b : ℕ) (h : b < bodies t) (at : ℕ) (v : List ℕ) (lo : placeOf t (entryOf b) ≤ at)
-    (hi : at + length v ≤ placeOf t (entryOf b) + slotSize * slotsOf t (entryOf b)) where
-  pub put-contents : Contents (put t at v) t
-  put-contents =
-      let w = body-at t ok b h in
-      let a = w .inside in
-      let p = w .past in
-      record {
-        long = length-put t at v (omega arith);
-        top = agree-before t at v 0 (omega arith) headSize (omega arith);
-        entries = λ c k. agree-before t at v (entryOf c) (omega arith) entryFixed (omega arith);
-      }
-
-  put-tail : (c : ℕ) → c < bodies t → TailOk (put t at v) (entryOf c)
-  put-tail c k =
-      let w = body-at t ok b h in
-      let a = w .inside in
-      let p = w .past in
-      let l = length-put t at v (omega arith) in
-      zeros-agree (agree-before t at v (entryOf c) (omega arith) entrySize (omega arith)) entryFixed entrySize (omega arith) (entryOf c + entryFixed) (entryOf c + entrySize)
-      (entryOf c + entryFixed) (entryOf c + entrySize) refl refl refl refl (omega arith) (omega arith)
-      ∙ body-at t ok c k .own-entry .padded
-
-  -- another body's slots hold the same bytes
-  pub put-other : (c : ℕ) → c < bodies t → (b ≡ c → ⊥) → Agree (put t at v) (placeOf t (entryOf c)) t (placeOf t (entryOf c)) (slotSize * slotsOf t (entryOf c))
-  put-other c k n =
-      let w = body-at t ok b h .inside in
-      ⊎-elim
-      (λ l. agree-after t at v (placeOf t (entryOf c)) (omega arith) (slotSize * slotsOf t (entryOf c)) (omega arith))
-      (λ l. agree-before t at v (placeOf t (entryOf c)) (omega arith) (slotSize * slotsOf t (entryOf c)) (omega arith))
-      (apart t ok b c n h k)
-
-  pub put-records : (c : ℕ) → c < bodies t → (b ≡ c → ⊥)
-      → recordsAt (put t at v) (placeOf t (entryOf c)) (slotsOf t (entryOf c)) ≡ recordsAt t (placeOf t (entryOf c)) (slotsOf t (entryOf c))
-  put-records c k n = records-agree (slotsOf t (entryOf c)) (put-other c k n)
-
-  pub put-body : (c : ℕ) → c < bodies t → (b ≡ c → ⊥) → bodyOk (put t at v) (placeOf t (entryOf c)) (slotsOf t (entryOf c)) ≡ true
-  put-body c k n = body-agree (slotsOf t (entryOf c)) (put-other c k n) ∙ body-at t ok c k .valid
-
-  -- the table stays valid where body b does
-  pub put-table : bodyOk (put t at v) (placeOf t (entryOf b)) (slotsOf t (entryOf b)) ≡ true → tableOk (put t at v) ≡ true
-  put-table e = same-table put-contents ok (λ c k. (each c k (eqb b c) refl, put-tail c k))
-    where
-      each : (c : ℕ) → c < bodies t → (x : Bool) → eqb b c ≡ x → bodyOk (put t at v) (placeOf t (entryOf c)) (slotsOf t (entryOf c)) ≡ true
-      each c k true f = ap (λ (n : ℕ). bodyOk (put t at v) (placeOf t (entryOf n)) (slotsOf t (entryOf n))) (sym (eqb-true b c f)) ∙ e
-      each c k false f = put-body c k (eqb-false b c f)
+      (bodies-same headSize (bodies t) (λ b h. (s .entries b h, f b h)))

@@ -1,18 +1,34 @@
 -- The table (document 01, "The table"): "Contents first, then the bodies' records. Numbers have the highest byte first; the buffer has exactly the
--- length that the head states, at most 65,536."
+-- length that the head states". Document 02, Req 04, makes it table 2; a table 1 is only converted.
 use Prim.Native.Nat.{ℕ, zero, suc, _+_, _*_}
-use mathlib.Core.Bool.{Bool, true, _&&_}
+use mathlib.Core.Bool.{Bool, true, false, _&&_, cond}
 use mathlib.Core.List.{List}
 use lib.ListN.{length}
 use lib.Dec.{eqb, leb}
 use Rattle.scan.specs.Bytes.{between, part, all, isDigit}
 use Rattle.bounds.specs.Bounds.{abiLength, maxBodies, maxLength}
 use Rattle.words.specs.Numbers.{be2, be4}
-use Rattle.record.specs.Slot.{slotSize}
+use Rattle.record.specs.Slot.{slotSize, mandatoKind, reversaleKind}
+use Rattle.record.specs.declared.Record.{Record}
 use Rattle.ranges.specs.Ranges.{zeros}
-use Rattle.body.specs.Body.{bodyOk}
+use Rattle.slots.specs.Slots.{recordsAt}
+use Rattle.body.specs.Body.{bodyOk, centsOf}
 use Rattle.ranges.specs.declared.Found.{Found}
-use Rattle.entries.specs.Entry.{entrySize, entryFixed, slotsOf, placeOf, formOk, codesFrom, findCode, distinctCodes}
+use Rattle.entries.specs.Entry.{entrySize, entryFixed, entryRest, kept, slotsOf, placeOf, formOk, codesFrom, findCode, distinctCodes}
+use Rattle.table.specs.declared.Layout.{Layout}
+
+-- WHAT TELLS TABLES APART: an entry's size, where its rest begins, whether it keeps totals before that, the head's number, the greatest length
+
+-- document 01: "2-3 the number 1", "One entry per body, 32 bytes", "20-23 place of its first slot; rest zero", "at most 65,536"
+abbrev pub table1 : Layout
+table1 = record { entry = 32; rest = entryFixed; keeps = false; number = 1; most = 65536 }
+
+-- document 02, Req 04: "Entries grow to 48 bytes: cents paid at 24-31, cents collected at 32-39, rest zero. The head's number becomes 2, and a table is
+-- valid only if these agree with the records. .. The greatest table length becomes 65,792."
+abbrev pub table2 : Layout
+table2 = record { entry = entrySize; rest = entryRest; keeps = true; number = 2; most = maxLength }
+
+-- A VALID TABLE of a layout
 
 -- "Head, 16 bytes"
 abbrev pub headSize : ℕ
@@ -29,32 +45,49 @@ abiPlace = 8
 abbrev pub abiOf : List ℕ → List ℕ
 abiOf t = part t abiPlace (abiPlace + abiLength)
 
--- "0-1 number of bodies, 1 to 16; 2-3 the number 1; 4-7 total length; 8-12 the bank's five ABI digits; rest zero"; the entries fit
-unfoldable pub headOk : List ℕ → Bool
-headOk t =
-    between headSize maxLength (length t) && (between 1 maxBodies (bodies t) && (eqb (be2 t 2) 1 && (eqb (be4 t 4) (length t)
-    && (all isDigit (abiOf t) && (zeros t (abiPlace + abiLength) headSize && leb (headSize + entrySize * bodies t) (length t))))))
+-- "0-1 number of bodies, 1 to 16; 2-3 the number ..; 4-7 total length; 8-12 the bank's five ABI digits; rest zero"; the entries fit
+unfoldable pub headOk : Layout → List ℕ → Bool
+headOk l t =
+    between headSize (l .most) (length t) && (between 1 maxBodies (bodies t) && (eqb (be2 t 2) (l .number) && (eqb (be4 t 4) (length t)
+    && (all isDigit (abiOf t) && (zeros t (abiPlace + abiLength) headSize && leb (headSize + l .entry * bodies t) (length t))))))
 
--- an entry whose slots begin at p: "20-23 place of its first slot; rest zero"
-unfoldable pub entryOk : List ℕ → ℕ → ℕ → Bool
-entryOk t at p = formOk t at && (eqb (placeOf t at) p && zeros t (at + entryFixed) (at + entrySize))
+-- an entry whose slots begin at p: "20-23 place of its first slot", "rest zero"
+unfoldable pub entryOk : Layout → List ℕ → ℕ → ℕ → Bool
+entryOk l t at p = formOk t at && (eqb (placeOf t at) p && zeros t (at + l .rest) (at + l .entry))
 
 -- "The bodies' slots follow the contents without gaps, in entry order": the n entries from `at` on, the first one's slots at p; the last slot
 -- ends the buffer
-unfoldable pub layoutOk : List ℕ → ℕ → ℕ → ℕ → Bool
-layoutOk t at zero p = eqb p (length t)
-layoutOk t at (suc n) p = entryOk t at p && layoutOk t (at + entrySize) n (p + slotSize * slotsOf t at)
+unfoldable pub layoutOk : Layout → List ℕ → ℕ → ℕ → ℕ → Bool
+layoutOk l t at zero p = eqb p (length t)
+layoutOk l t at (suc n) p = entryOk l t at p && layoutOk l t (at + l .entry) n (p + slotSize * slotsOf t at)
 
--- the bodies of the n entries from `at` on are valid
-unfoldable pub bodiesOk : List ℕ → ℕ → ℕ → Bool
-bodiesOk t at zero = true
-bodiesOk t at (suc n) = bodyOk t (placeOf t at) (slotsOf t at) && bodiesOk t (at + entrySize) n
+-- "a table is valid only if these agree with the records": the cents paid and collected that the entry at `at` keeps are those of the records
+unfoldable pub agrees : List ℕ → ℕ → List Record → Bool
+agrees t at rs = eqb (kept mandatoKind t at) (centsOf mandatoKind rs) && eqb (kept reversaleKind t at) (centsOf reversaleKind rs)
+
+-- the records of the body whose entry is at `at`
+abbrev pub recordsOf : List ℕ → ℕ → List Record
+recordsOf t at = recordsAt t (placeOf t at) (slotsOf t at)
+
+-- the body of the entry at `at` is valid, and what the entry keeps agrees with it
+unfoldable pub bodyHolds : Layout → List ℕ → ℕ → Bool
+bodyHolds l t at = bodyOk t (placeOf t at) (slotsOf t at) && cond (l .keeps) (agrees t at (recordsOf t at)) true
+
+-- the bodies of the n entries from `at` on
+unfoldable pub bodiesOk : Layout → List ℕ → ℕ → ℕ → Bool
+bodiesOk l t at zero = true
+bodiesOk l t at (suc n) = bodyHolds l t at && bodiesOk l t (at + l .entry) n
 
 -- "A table is valid when all that holds"
-unfoldable pub tableOk : List ℕ → Bool
-tableOk t =
-    headOk t && (layoutOk t headSize (bodies t) (headSize + entrySize * bodies t)
-    && (distinctCodes (codesFrom entrySize t headSize (bodies t)) && bodiesOk t headSize (bodies t)))
+unfoldable pub validAs : Layout → List ℕ → Bool
+validAs l t =
+    headOk l t && (layoutOk l t headSize (bodies t) (headSize + l .entry * bodies t)
+    && (distinctCodes (codesFrom (l .entry) t headSize (bodies t)) && bodiesOk l t headSize (bodies t)))
+
+-- TABLE 2, the table of every call but conversion
+
+abbrev pub tableOk : List ℕ → Bool
+tableOk t = validAs table2 t
 
 -- the codes of the table's bodies, in contents order
 abbrev pub codesOf : List ℕ → List (List ℕ)

@@ -1,13 +1,17 @@
-// The whole table: head, entries, layout, validity, and the search for a body.
+// The whole table: head, entries, layout, validity, and the search for a body. Tables 1 and 2 are judged by the same functions, which take what tells
+// them apart.
+use body::Sums;
 use ranges::Class;
 use ranges::Found;
 ghost use mathlib.Core.Path.{_≡_};
 ghost use mathlib.Core.Bool.{true};
 ghost use Prim.Native.Nat.{_+_, _*_, _≤_, _<_};
 ghost use lib.ListN.{length};
-ghost use Rattle.bounds.specs.Bounds.{maxBodies, maxLength};
-ghost use Rattle.entries.specs.Entry.{entrySize};
-ghost use Rattle.table.specs.Table.{headSize, bodies, headOk, entryOk, layoutOk, bodiesOk, tableOk, bodyOf};
+ghost use Rattle.bounds.specs.Bounds.{maxBodies, maxLength, maxSlots};
+ghost use Rattle.record.specs.Slot.{slotSize};
+ghost use Rattle.entries.specs.Entry.{entrySize, slotsOf, placeOf};
+ghost use Rattle.table.specs.Table.{table1, table2, headSize, bodies, headOk, entryOk, layoutOk, bodyHolds, bodiesOk, validAs, tableOk, bodyOf};
+ghost use Rattle.table.specs.Inner.{Known, sumsAgree};
 
 pub const HEAD: usize = 16;
 
@@ -15,6 +19,39 @@ pub const HEAD: usize = 16;
 pub const ABI: usize = 8;
 
 pub const REST: usize = 13;
+
+// What tells tables apart: an entry's size, where its rest begins, whether it keeps totals before that, the head's number, the greatest length.
+pub struct Layout {
+    pub entry: usize,
+    pub rest: usize,
+    pub keeps: bool,
+    pub number: u64,
+    pub most: usize,
+}
+
+pub fn table_1() -> Layout
+    ensures { λ r. ⌜ r ≡ table1 ⌝ }
+{
+    Layout {
+        entry: 32,
+        rest: entries::FIXED,
+        keeps: false,
+        number: 1,
+        most: 65536,
+    }
+}
+
+pub fn table_2() -> Layout
+    ensures { λ r. ⌜ r ≡ table2 ⌝ }
+{
+    Layout {
+        entry: entries::ENTRY,
+        rest: entries::REST,
+        keeps: true,
+        number: 2,
+        most: bounds::MAX_LENGTH,
+    }
+}
 
 // The number of bodies.
 pub fn body_count(t: &[u8]) -> usize
@@ -24,14 +61,15 @@ pub fn body_count(t: &[u8]) -> usize
     words::read2(t, 0) as usize
 }
 
-fn head_ok(t: &[u8]) -> bool
-    ensures { λ r. ⌜ r ≡ headOk (now (t .entry)) ⌝ }
+fn head_ok(t: &[u8], l: Layout) -> bool
+    requires { ⌜ Known l ⌝ }
+    ensures { λ r. ⌜ r ≡ headOk l (now (t .entry)) ⌝ }
 {
     let len = t.len();
     if len < HEAD {
         return false;
     }
-    if bounds::MAX_LENGTH < len {
+    if l.most < len {
         return false;
     }
     let n = body_count(t);
@@ -41,7 +79,7 @@ fn head_ok(t: &[u8]) -> bool
     if bounds::MAX_BODIES < n {
         return false;
     }
-    if words::read2(t, 2) != 1 {
+    if words::read2(t, 2) != l.number {
         return false;
     }
     if words::read4(t, 4) != len as u64 {
@@ -53,12 +91,12 @@ fn head_ok(t: &[u8]) -> bool
     if !ranges::are_zero(t, REST, HEAD) {
         return false;
     }
-    HEAD + entries::ENTRY * n <= len
+    HEAD + l.entry * n <= len
 }
 
-fn entry_ok(t: &[u8], at: usize, p: usize) -> bool
-    requires { ⌜ (at + entrySize ≤ length (now t)) × (length (now t) ≤ maxLength) ⌝ }
-    ensures { λ r. ⌜ r ≡ entryOk (now (t .entry)) at p ⌝ }
+fn entry_ok(t: &[u8], at: usize, p: usize, l: Layout) -> bool
+    requires { ⌜ Known l × (at + l .entry ≤ length (now t)) × (length (now t) ≤ maxLength) ⌝ }
+    ensures { λ r. ⌜ r ≡ entryOk l (now (t .entry)) at p ⌝ }
 {
     if !entries::form_ok(t, at) {
         return false;
@@ -66,59 +104,96 @@ fn entry_ok(t: &[u8], at: usize, p: usize) -> bool
     if entries::place_of(t, at) != p {
         return false;
     }
-    ranges::are_zero(t, at + entries::FIXED, at + entries::ENTRY)
+    ranges::are_zero(t, at + l.rest, at + l.entry)
 }
 
-fn layout_ok(t: &[u8], n: usize) -> bool
-    requires { ⌜ (n ≤ maxBodies) × (headSize + entrySize * n ≤ length (now t)) × (length (now t) ≤ maxLength) ⌝ }
-    ensures { λ r. ⌜ r ≡ layoutOk (now (t .entry)) headSize n (headSize + entrySize * n) ⌝ }
+fn layout_ok(t: &[u8], n: usize, l: Layout) -> bool
+    requires { ⌜ Known l × (n ≤ maxBodies) × (headSize + l .entry * n ≤ length (now t)) × (length (now t) ≤ maxLength) ⌝ }
+    ensures { λ r. ⌜ r ≡ layoutOk l (now (t .entry)) headSize n (headSize + l .entry * n) ⌝ }
 {
     let mut at = HEAD;
     let mut left = n;
-    let mut p = HEAD + entries::ENTRY * n;
+    let mut p = HEAD + l.entry * n;
     while 0 < left {
-        if !entry_ok(t, at, p) {
+        if !entry_ok(t, at, p, l) {
             return false;
         }
         p += record::SLOT * entries::slots_of(t, at);
-        at += entries::ENTRY;
+        at += l.entry;
         left -= 1;
     }
     p == t.len()
 }
 
-fn bodies_ok(t: &[u8], n: usize) -> bool
-    requires { ⌜ (headSize + entrySize * n ≤ length (now t)) × (length (now t) ≤ maxLength)
-        × (layoutOk (now t) headSize n (headSize + entrySize * n) ≡ true) ⌝ }
-    ensures { λ r. ⌜ r ≡ bodiesOk (now (t .entry)) headSize n ⌝ }
+// Whether an entry keeps these sums.
+fn kept_are(t: &[u8], at: usize, paid: u64, collected: u64) -> bool
+    requires { ⌜ at + entrySize ≤ length (now t) ⌝ }
+    ensures { λ r. ⌜ r ≡ sumsAgree (now (t .entry)) at paid collected ⌝ }
+{
+    if words::read8(t, at + entries::FIXED) != paid {
+        return false;
+    }
+    words::read8(t, at + entries::COLLECTED) == collected
+}
+
+// Whether the body of the entry at a place is valid, and what the entry keeps agrees with it.
+fn body_holds(t: &[u8], at: usize, l: Layout) -> bool
+    requires { ⌜ Known l × (at + l .entry ≤ length (now t)) × (placeOf (now t) at + slotSize * slotsOf (now t) at ≤ length (now t))
+        × (slotsOf (now t) at ≤ maxSlots) ⌝ }
+    ensures { λ r. ⌜ r ≡ bodyHolds l (now (t .entry)) at ⌝ }
+{
+    let base = entries::place_of(t, at);
+    let n = entries::slots_of(t, at);
+    let Sums::Right(paid, collected) = body::judge(t, base, n) else {
+        return false;
+    };
+    if l.keeps {
+        kept_are(t, at, paid, collected)
+    } else {
+        true
+    }
+}
+
+fn bodies_ok(t: &[u8], n: usize, l: Layout) -> bool
+    requires { ⌜ Known l × (headSize + l .entry * n ≤ length (now t)) × (length (now t) ≤ maxLength)
+        × (layoutOk l (now t) headSize n (headSize + l .entry * n) ≡ true) ⌝ }
+    ensures { λ r. ⌜ r ≡ bodiesOk l (now (t .entry)) headSize n ⌝ }
 {
     let mut at = HEAD;
     let mut left = n;
     while 0 < left {
-        if !body::body_ok(t, entries::place_of(t, at), entries::slots_of(t, at)) {
+        if !body_holds(t, at, l) {
             return false;
         }
-        at += entries::ENTRY;
+        at += l.entry;
         left -= 1;
     }
     true
+}
+
+// Whether any bytes at all are a valid table of this layout.
+pub fn valid_as(t: &[u8], l: Layout) -> bool
+    requires { ⌜ Known l ⌝ }
+    ensures { λ r. ⌜ r ≡ validAs l (now (t .entry)) ⌝ }
+{
+    if !head_ok(t, l) {
+        return false;
+    }
+    let n = body_count(t);
+    if !layout_ok(t, n, l) {
+        return false;
+    }
+    if !entries::codes_distinct(t, HEAD, l.entry, n) {
+        return false;
+    }
+    bodies_ok(t, n, l)
 }
 
 // Whether any bytes at all are a valid table.
 pub fn table_ok(t: &[u8]) -> bool
     ensures { λ r. ⌜ r ≡ tableOk (now (t .entry)) ⌝ }
 {
-    if !head_ok(t) {
-        return false;
-    }
-    let n = body_count(t);
-    if !layout_ok(t, n) {
-        return false;
-    }
-    if !entries::codes_distinct(t, HEAD, entries::ENTRY, n) {
-        return false;
-    }
-    bodies_ok(t, n)
+    valid_as(t, table_2())
 }
 
 // Which body of a valid table has this code.

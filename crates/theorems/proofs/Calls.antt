@@ -17,10 +17,10 @@ use Rattle.target_days.specs.Target.{targetCode}
 use Rattle.record.specs.declared.Key.{Key}
 use Rattle.body.specs.Body.{centsOf}
 use Rattle.body.proofs.Same.{used-agree, records-agree}
-use Rattle.table.specs.Table.{bodies, tableOk}
+use Rattle.table.specs.Table.{bodies, tableOk, entryOf}
 use Rattle.address.specs.Address.{addressed}
 use Rattle.service.proofs.Kept.{Kept, unchanged, all-kept}
-use Rattle.service.proofs.Moved.{notice-kept}
+use Rattle.service.proofs.Moved.{notice-settled}
 use Rattle.service.proofs.Own.{all-own, notice-same, notice-own}
 use Rattle.notices.specs.Notices.{noticed, noticeBy, noticeTableBy, onDay, tableOnDay, bodyTotals, totalsOf}
 use Rattle.desk.specs.declared.FlowAnswer.the-variants.{NoRoom, Taken}
@@ -29,7 +29,7 @@ use Rattle.theorems.specs.Engine.{Call, flow, execute, reverse, totals, 
 use Rattle.theorems.specs.Codes.{oneOf, strayCodes, noticeCodes, bodyCodes}
 use Rattle.theorems.proofs.Codes.{Or, date-codes, body-notice-codes}
 use Rattle.theorems.proofs.Steps.{answer, after}
-use Rattle.theorems.proofs.Good.{Good, base, size, Alike, Wrote, kept-wrote, alike-left, ready}
+use Rattle.theorems.proofs.Good.{Good, base, size, Alike, Wrote, settled-wrote, kept-wrote, alike-left, ready, served as served-by}
 use Rattle.theorems.proofs.Named.{Names, stray, body, names, Reads, refuses, shuts, serves, reads}
 
 -- a call that names no body, and the codes it may have
@@ -77,14 +77,19 @@ module _ (t₀ : List ℕ) (r : tableOk t₀ ≡ true) where
     notice-serves (stray n) =
         record { still = λ t g. rw (n t g); same = λ s t g h. rw (n s g, n t h); code = λ t g. rw (n t g) }
     notice-serves (body b l n) =
-        in-slots (noticeCodes executing) b l (noticeAns 0) (noticeAft 0)
-        (λ t g. let y = ready t₀ r t g b l in rw (n t g) (notice-kept t (base t₀ b) (size t₀ b) executing k line (y .0) (y .1)))
-        (λ s t g h a.
-        let x = ready t₀ r s g b l in
-        let y = ready t₀ r t h b l in
-        rw (n s g, n t h)
-        (ap (λ m. ofNotice (noticed m)) (notice-same (size t₀ b) (a .slots) (x .0) (y .0) executing k line), notice-own (size t₀ b) (a .slots) (x .0) (y .0) executing k line (y .1)))
-        (λ t g. rw (n t g) (body-notice-codes t (base t₀ b) (size t₀ b) executing k line))
+        record {
+          low = l;
+          wrote = λ t g.
+              settled-wrote t₀ r t (noticeAft 0 t) g b l
+              (rw (n t g) (notice-settled t (entryOf b) (base t₀ b) (size t₀ b) executing k line (served-by t₀ r t g b l)));
+          own = λ s t g h a.
+              let x = ready t₀ r s g b l in
+              let y = ready t₀ r t h b l in
+              let w = notice-own (a .slots) (a .tail) (served-by t₀ r s g b l) (served-by t₀ r t h b l) executing k line in
+              rw (n s g, n t h)
+              (ap (λ m. ofNotice (noticed m)) (notice-same (size t₀ b) (a .slots) (x .0) (y .0) executing k line), record { tail = w .1; slots = w .0 });
+          code = λ t g. rw (n t g) (body-notice-codes t (base t₀ b) (size t₀ b) executing k line);
+        }
 
     -- of a date whose code is c
     dated-serves : (c : ℕ) → Or (7 ∷ 27 ∷ 28 ∷ []) c

@@ -1,7 +1,7 @@
 -- CONDITION 1, proved. (Its codes: Codes and Accepted; a refused flow: crates/desk/proofs/Refusals.antt.)
 use Prim.Native.Nat.{ℕ, suc, zero}
 use mathlib.Core.Path.{_≡_, refl, ap, _∙_}
-use mathlib.Core.Bool.{Bool}
+use mathlib.Core.Bool.{Bool, true}
 use mathlib.Core.List.{List}
 use Rattle.order.specs.Ordinativo.{Ordinativo}
 use Rattle.target_days.specs.Target.{targetCode}
@@ -19,7 +19,11 @@ use Rattle.notices.specs.Notices.{noticed, noticeBy, noticeTableBy, onDay, tabl
 use Rattle.opening.specs.declared.Opened.{Opened}
 use Rattle.opening.specs.declared.Opened.the-variants.{Open, WrongRequest, WrongLength}
 use Rattle.opening.specs.Opening.{openCode, openTable}
+use Rattle.convert.specs.declared.Converted.{Converted}
+use Rattle.convert.specs.declared.Converted.the-variants as Converted
+use Rattle.convert.specs.Convert.{convertCode, convertTable}
 use Rattle.desk.proofs.Refusals.{code-keeps}
+use Rattle.theorems.specs.Codes.{oneOf, convertCodes}
 use Rattle.theorems.specs.Condition1.{Condition1}
 use Rattle.theorems.proofs.Steps.{answer, after, steps}
 use Rattle.theorems.proofs.Codes.{open-codes, call-codes, flow-causes}
@@ -30,17 +34,17 @@ unfolding orderStored
 stored t base year o (Accepted c i) f = absurd (f refl)
 stored t base year o (Refused c) f = refl
 
-moved : (t : List ℕ) (base : ℕ) (executing : Bool) (line : ℕ) (m : Noticed) → (noticeCodeOf (noticed m) ≡ 0 → ⊥) → noticeStored t base executing line m ≡ t
+moved : (t : List ℕ) (e base n : ℕ) (executing : Bool) (line : ℕ) (m : Noticed) → (noticeCodeOf (noticed m) ≡ 0 → ⊥) → noticeStored t e base n executing line m ≡ t
 unfolding noticeStored
-moved t base executing line (Moved i cents) f = absurd (f refl)
-moved t base executing line (Unmoved c) f = refl
+moved t e base n executing line (Moved i cents) f = absurd (f refl)
+moved t e base n executing line (Unmoved c) f = refl
 
 addressed-keeps : (t : List ℕ) (executing : Bool) (k : Key) (line : ℕ) (a : Addressed)
     → (noticeCodeOf (noticeBy t executing k line a) ≡ 0 → ⊥) → noticeTableBy t executing k line a ≡ t
 unfolding noticeBy noticeTableBy
 addressed-keeps t executing k line Invalid f = refl
 addressed-keeps t executing k line Unknown f = refl
-addressed-keeps t executing k line (Body e base n) f = moved t base executing line (noticeComes t base n executing k line) f
+addressed-keeps t executing k line (Body e base n) f = moved t e base n executing line (noticeComes t base n executing k line) f
 
 dated-keeps : (t : List ℕ) (executing : Bool) (k : Key) (line : ℕ) (a : Addressed) (c : ℕ)
     → (noticeCodeOf (onDay c t (noticeBy t executing k line a)) ≡ 0 → ⊥) → tableOnDay c t (noticeTableBy t executing k line a) ≡ t
@@ -52,9 +56,20 @@ opening-keeps q t Open f = absurd (f refl)
 opening-keeps q t WrongRequest f = refl
 opening-keeps q t WrongLength f = refl
 
+convert-keeps : (o t : List ℕ) (a : Converted) → (convertCode a ≡ 0 → ⊥) → convertTable a o t ≡ t
+convert-keeps o t Converted.Converts f = absurd (f refl)
+convert-keeps o t Converted.InvalidTable f = refl
+convert-keeps o t Converted.WrongLength f = refl
+
+convert-codes : (a : Converted) → oneOf convertCodes (convertCode a) ≡ true
+convert-codes Converted.Converts = refl
+convert-codes Converted.InvalidTable = refl
+convert-codes Converted.WrongLength = refl
+
 pub condition1 : Condition1
 condition1 = record {
   opening-numbered = λ q t a t′ p. open-codes a;
+  conversion-numbered = λ o t a t′ p. convert-codes a;
   call-numbered = call-codes;
   orders-numbered = outcomes-coded;
   cause-numbered = λ t f out a t′ out′ p. flow-causes a;
@@ -64,4 +79,5 @@ condition1 = record {
   refused-notice = λ t executing code k line d a t′ p f.
       p .1 ∙ dated-keeps t executing k line (addressed t code) (targetCode d) (λ e. f (ap noticeCodeOf (p .0) ∙ e));
   refused-opening = λ q t a t′ p f. p .1 ∙ opening-keeps q t a f;
+  refused-conversion = λ o t a t′ p f. p .1 ∙ convert-keeps o t a f;
 }

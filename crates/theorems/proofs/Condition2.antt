@@ -14,7 +14,7 @@ use Rattle.slots.proofs.Index.{length-records}
 use Rattle.entries.specs.Entry.{slotsOf, placeOf}
 use Rattle.table.specs.Table.{tableOk, bodyOf, entryOf}
 use Rattle.slots.specs.Slots.{recordsAt}
-use Rattle.table.proofs.Bodies.{body-at, found-body}
+use Rattle.table.proofs.Bodies.{body-at}
 use Rattle.rules.specs.Rules.{judgeNotice}
 use Rattle.rules.specs.Effects.{recordsMoved}
 use Rattle.service.specs.Service.{noticeComes}
@@ -25,7 +25,8 @@ use Rattle.address.specs.declared.Addressed.the-variants.{Invalid, Unknown, Bod
 use Rattle.notices.specs.declared.TotalsAnswer.{TotalsAnswer}
 use Rattle.address.specs.Address.{addressed}
 use Rattle.notices.specs.Notices.{noticed, noticeBy, noticeTableBy, onDay, NoticePromise, zeroTotals, bodyTotals, totalsOf, TotalsPromise}
-use Rattle.notices.proofs.Laws.{only-target}
+use Rattle.notices.proofs.Laws.{only-target, slots-served}
+use Rattle.address.proofs.Laws.{slots}
 use Rattle.request.specs.Request.{needed, requestOk}
 use Rattle.opening.specs.declared.Opened.{Opened}
 use Rattle.opening.specs.declared.Opened.the-variants.{Open, WrongRequest, WrongLength}
@@ -59,8 +60,8 @@ module _ (t : List ℕ) (ok : tableOk t ≡ true) (code : List ℕ) (b : ℕ) (e
       → recordsAt t′ base size ≡ recordsMoved executing line (recordsOf b t) (judgeNotice executing k line (recordsOf b t))
   unfolding noticeTableBy
   moved-is executing k line d o a t′ p =
-      let v = body-at t ok b (found-body t ok code b e) in
-      ap (λ (u : List ℕ). recordsAt u base size) (only-target t code executing k line d o p .1 ∙ ap (noticeTableBy t executing k line) is-body) ∙ notice-records t base size executing k line (v .inside) (v .valid)
+      ap (λ (u : List ℕ). recordsAt u base size) (only-target t code executing k line d o p .1 ∙ ap (noticeTableBy t executing k line) is-body)
+      ∙ notice-records t (entryOf b) base size executing k line (slots-served (slots t code is-body))
 
   totals-are : (a : TotalsAnswer) → TotalsPromise t code a → a ≡ bodyTotals t base size
   unfolding totalsOf
@@ -117,8 +118,8 @@ condition2 = record {
   accepted = accepted-counts;
   notices = noticed-is;
   moved = moved-is;
-  exactly = λ t ok b l year o. order-exactly t (placeOf t (entryOf b)) (slotsOf t (entryOf b)) (body-at t ok b l .valid) year o;
-  answer = λ t ok b l year o. order-answer t (placeOf t (entryOf b)) (slotsOf t (entryOf b)) (body-at t ok b l .valid) year o;
+  exactly = λ t ok b l year o. order-exactly t (placeOf t (entryOf b)) (slotsOf t (entryOf b)) (body-at t ok b l .holds .body) year o;
+  answer = λ t ok b l year o. order-answer t (placeOf t (entryOf b)) (slotsOf t (entryOf b)) (body-at t ok b l .holds .body) year o;
   notice-exactly = λ t ok code b e executing k line d o a t′ p.
       notice-exactly t executing code k line d o a t′ p (entryOf b) (placeOf t (entryOf b)) (slotsOf t (entryOf b)) (is-body t ok code b e);
   notice-answer = λ t ok code b e executing k line d o a t′ p.

@@ -159,6 +159,6 @@ module _ (t : List ℕ) (executing : Bool) (code : List ℕ) (k : Key) (line : �
       go : (f : Found) → findIn (recordsAt t base n) 0 k ≡ f → (a ≡ Declined 16) × (t′ ≡ t)
       go Nothing f = (
         comes ∙ ap (λ (x : Found). noticed (noticeAt executing line (recordsAt t base n) x)) f,
-        only-target t code executing k line d o p .1 ∙ ap (noticeTableBy t executing k line) e ∙ ap (λ (x : Found). noticeStored t base executing line (noticeAt executing line (recordsAt t base n) x)) f,
+        only-target t code executing k line d o p .1 ∙ ap (noticeTableBy t executing k line) e ∙ ap (λ (x : Found). noticeStored t at base n executing line (noticeAt executing line (recordsAt t base n) x)) f,
       )
       go (At i) f = absurd (never-found i f s)

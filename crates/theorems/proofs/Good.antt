@@ -13,17 +13,20 @@ use borrow.Author.Tests.{eqb-true, eqb-false, ltb-true, ltb-false}
 use Rattle.scan.specs.Bytes.{part}
 use Rattle.words.proofs.Laws.{Agree}
 use Rattle.record.specs.Slot.{slotSize}
-use Rattle.body.specs.Body.{bodyOk}
-use Rattle.body.proofs.Same.{body-agree}
-use Rattle.entries.specs.Entry.{entrySize, entryFixed, slotsOf, placeOf}
+use Rattle.slots.specs.Slots.{recordsAt}
+use Rattle.body.specs.Body.{bodyOk, centsOf}
+use Rattle.body.proofs.Same.{fewer, records-agree, body-agree}
+use Rattle.entries.specs.Entry.{entrySize, entryFixed, entryRest, slotsOf, placeOf}
 use Rattle.entries.proofs.Same.{part-agree, zeros-agree}
-use Rattle.table.specs.Table.{headSize, bodies, abiOf, entryOk, layoutOk, tableOk, bodyOf, entryOf}
+use Rattle.table.specs.Table.{table2, headSize, bodies, abiOf, entryOk, layoutOk, agrees, tableOk, bodyOf, entryOf}
 use Rattle.table.proofs.Laws.{entry, lay-split, head, table}
 use Rattle.table.proofs.Bodies.{body-at, apart}
-use Rattle.table.proofs.Kept.{Contents, TailOk, first, later, same-bodies, same-abi, same-find, same-slots, same-place, same-table}
-use Rattle.opening.proofs.Laws.{length-part}
+use Rattle.table.proofs.Kept.{Contents, Own, first, later, same-bodies, same-abi, same-find, same-slots, same-place, same-table}
+use Rattle.contents.proofs.Laws.{length-part}
 use Rattle.rules.proofs.Kept.{split}
+use Rattle.service.specs.Inner.{Served}
 use Rattle.service.proofs.Kept.{Kept}
+use Rattle.service.proofs.Totals.{agrees-is, is-agrees, kept-same, Settled, kept-settled}
 use Rattle.service.proofs.Own.{Ready}
 use Rattle.theorems.specs.Engine.{owned, fixedBytes, unowned}
 
@@ -56,15 +59,13 @@ pub record Wrote (t₀ t t′ : List ℕ) (b : ℕ) : Type 0 where
   pub before : (p m : ℕ) → p + m ≤ tailOf b → Agree t′ p t p m
   pub between : (p m : ℕ) → tailOf b + tailSize ≤ p → p + m ≤ base t₀ b → Agree t′ p t p m
   pub after : (p m : ℕ) → base t₀ b + slotSize * size t₀ b ≤ p → Agree t′ p t p m
-  pub ok : bodyOk t′ (base t₀ b) (size t₀ b) ≡ true
-  pub tail : TailOk t′ (entryOf b)
+  pub own : Own t′ t₀ (entryOf b)
 
 -- WHAT IT LEAVES: what no body owns, and what every other body does
 pub record Left (t₀ t t′ : List ℕ) (b : ℕ) : Type 0 where
   pub contents : Contents t′ t
   pub others : (c : ℕ) → c < bodies t₀ → (b ≡ c → ⊥) → Alike t₀ c t′ t
-  pub ok : bodyOk t′ (base t₀ b) (size t₀ b) ≡ true
-  pub tail : TailOk t′ (entryOf b)
+  pub own : Own t′ t₀ (entryOf b)
 
 -- an equal part, byte by byte
 part-same : (s t : List ℕ) (p n : ℕ) → part s p (p + n) ≡ part t p (p + n) → Agree s p t p n
@@ -82,10 +83,18 @@ parted {xs} {ys} {xs′} {ys′} n l l′ e =
 part-of : {s t : List ℕ} {p n : ℕ} → Agree s p t p n → p + n ≤ length s → p + n ≤ length t → part s p (p + n) ≡ part t p (p + n)
 part-of {s} {t} {p} {n} a ls lt = part-agree a 0 n (omega arith) p (p + n) p (p + n) (omega arith) refl (omega arith) refl ls lt
 
--- the rest of an entry that agrees
-tail-kept : {s t : List ℕ} (b : ℕ) → Agree s (tailOf b) t (tailOf b) tailSize → tailOf b + tailSize ≤ length s → tailOf b + tailSize ≤ length t → TailOk t (entryOf b) → TailOk s (entryOf b)
-tail-kept b a ls lt e =
-    zeros-agree a 0 tailSize (omega arith) (tailOf b) (entryOf b + entrySize) (tailOf b) (entryOf b + entrySize) (omega arith) (omega arith) (omega arith) (omega arith) (omega arith) (omega arith) ∙ e
+-- what a body owns makes it valid in s where it does in t, which agrees with s there
+own-kept : (t₀ : List ℕ) {s t : List ℕ} (b : ℕ) → Alike t₀ b s t → tailOf b + tailSize ≤ length s → tailOf b + tailSize ≤ length t → Own t t₀ (entryOf b) → Own s t₀ (entryOf b)
+own-kept t₀ {s} {t} b a ls lt o =
+    let k = kept-same (entryOf b) (fewer (a .tail) 16 (omega arith)) in
+    let r = records-agree (size t₀ b) (a .slots) in
+    let w = agrees-is t (entryOf b) (recordsAt t (base t₀ b) (size t₀ b)) (o .kept) in
+    record {
+      body = body-agree (size t₀ b) (a .slots) ∙ o .body;
+      kept = is-agrees s (entryOf b) (recordsAt s (base t₀ b) (size t₀ b)) (k .0 ∙ w .0 ∙ ap (centsOf 1) (sym r)) (k .1 ∙ w .1 ∙ ap (centsOf 2) (sym r));
+      rest = zeros-agree (a .tail) 16 tailSize (omega arith) (entryOf b + entryRest) (entryOf b + entrySize) (entryOf b + entryRest) (entryOf b + entrySize)
+          (omega arith) (omega arith) (omega arith) (omega arith) (omega arith) (omega arith) ∙ o .rest;
+    }
 
 -- what agrees in each entry agrees in all of them
 listed : (s t : List ℕ) (at n : ℕ) → ((b : ℕ) → b < n → Agree s (at + entrySize * b) t (at + entrySize * b) entrySize)
@@ -101,7 +110,7 @@ listed s t at (suc n) f i lo hi = go (ltb i (at + entrySize)) refl (listed s t (
     go false e ih = ih (ltb-false i (at + entrySize) e) (omega arith)
 
 -- what agrees in the slots of all bodies agrees from the first slot to the end
-laid : (s t : List ℕ) (at n p : ℕ) → layoutOk t at n p ≡ true
+laid : (s t : List ℕ) (at n p : ℕ) → layoutOk table2 t at n p ≡ true
     → ((b : ℕ) → b < n → Agree s (placeOf t (at + entrySize * b)) t (placeOf t (at + entrySize * b)) (slotSize * slotsOf t (at + entrySize * b)))
     → (i : ℕ) → p ≤ i → i < length t → getD s i 0 ≡ getD t i 0
 unfolding layoutOk
@@ -111,14 +120,14 @@ laid s t at (suc n) p e f i lo hi = go (ltb i (p + slotSize * slotsOf t at)) ref
     Slots : ℕ → Type 0
     Slots k = Agree s (placeOf t k) t (placeOf t k) (slotSize * slotsOf t k)
 
-    w : (entryOk t at p ≡ true) × (layoutOk t (at + entrySize) n (p + slotSize * slotsOf t at) ≡ true)
-    w = lay-split t at (suc n) n p refl e
+    w : (entryOk table2 t at p ≡ true) × (layoutOk table2 t (at + entrySize) n (p + slotSize * slotsOf t at) ≡ true)
+    w = lay-split table2 t at (suc n) n p refl e
 
     go : (x : Bool) → ltb i (p + slotSize * slotsOf t at) ≡ x → (p + slotSize * slotsOf t at ≤ i → i < length t → getD s i 0 ≡ getD t i 0) → getD s i 0 ≡ getD t i 0
     go true k ih =
         let l = ltb-true i (p + slotSize * slotsOf t at) k in
         let g = first Slots at n f in
-        let d = entry t at p (w .0) .placed in
+        let d = entry table2 t at p (w .0) .placed in
         let y : placeOf t at + (i - placeOf t at) ≡ i = omega arith in
         rw y at (g .same (i - placeOf t at) (omega arith))
     go false k ih = ih (ltb-false i (p + slotSize * slotsOf t at) k) hi
@@ -142,7 +151,7 @@ module _ (t₀ : List ℕ) (r : tableOk t₀ ≡ true) where
   inside b h = let w = body-at t₀ r b h in (w .past, w .inside)
 
   entries-in : headSize + entrySize * bodies t₀ ≤ length t₀
-  entries-in = let w = table t₀ r in head t₀ (w .head-ok) .room
+  entries-in = let w = table table2 t₀ r in head table2 t₀ (w .head-ok) .room
 
   module _ (t : List ℕ) (g : Good t₀ t) where
     pub count-is : bodies t ≡ bodies t₀
@@ -170,17 +179,31 @@ module _ (t₀ : List ℕ) (r : tableOk t₀ ≡ true) where
       pub slots-is : slotsOf t (entryOf b) ≡ size t₀ b
       slots-is = same-slots (g .contents) r b h
 
+      own-is : Own t t₀ (entryOf b)
+      own-is =
+          let w = body-at t (g .ok) b (omega (arith, count-is)) in
+          record {
+            body = sym (λ i. bodyOk t (place-is i) (slots-is i)) ∙ w .holds .body;
+            kept = sym (λ i. agrees t (entryOf b) (recordsAt t (place-is i) (slots-is i))) ∙ w .holds .kept refl;
+            rest = w .own-entry .padded;
+          }
+
       pub ready : Ready t (base t₀ b) (size t₀ b)
       ready =
           let l = g .contents .long in
-          let v = body-at t (g .ok) b (omega (arith, count-is)) .valid in
-          (omega (arith, inside b h), sym (λ i. bodyOk t (place-is i) (slots-is i)) ∙ v)
+          (omega (arith, inside b h), own-is .body)
 
       tail-in : tailOf b + tailSize ≤ length t
       tail-in = omega (arith, g .contents .long, entries-in)
 
-      tail-ok : TailOk t (entryOf b)
-      tail-ok = body-at t (g .ok) b (omega (arith, count-is)) .own-entry .padded
+      pub served : Served t (entryOf b) (base t₀ b) (size t₀ b)
+      served = record {
+        entry = omega (arith, inside b h);
+        inside = ready .0;
+        few = body-at t₀ r b h .own-form .most-slots;
+        valid = own-is .body;
+        agreed = own-is .kept;
+      }
 
   owned-is : (t : List ℕ) (b : ℕ) → owned t₀ b t ≡ part t (tailOf b) (tailOf b + tailSize) ++ part t (base t₀ b) (base t₀ b + slotSize * size t₀ b)
   owned-is t b =
@@ -211,19 +234,28 @@ module _ (t₀ : List ℕ) (r : tableOk t₀ ≡ true) where
       }
 
   module _ (t t′ : List ℕ) (g : Good t₀ t) (b : ℕ) (h : b < bodies t₀) where
-    -- what writes into body b's slots alone
-    pub kept-wrote : Kept t t′ (base t₀ b) (size t₀ b) → Wrote t₀ t t′ b
-    kept-wrote k =
+    -- what writes body b's slots and settles its entry
+    pub settled-wrote : Settled t t′ (entryOf b) (base t₀ b) (size t₀ b) → Wrote t₀ t t′ b
+    settled-wrote k =
         let i = inside b h .0 in
         let m = tail-in t g b h in
+        let rest = k .between (entryOf b + entryRest) (entrySize - entryRest) (omega arith) (omega arith) in
         record {
           long = k .long;
-          before = λ p n f. k .before p n (omega arith);
-          between = λ p n f e. k .before p n e;
+          before = k .before;
+          between = λ p n f e. k .between p n (omega arith) e;
           after = k .after;
-          ok = k .ok;
-          tail = tail-kept b (k .before (tailOf b) tailSize (omega arith)) (omega (arith, k .long)) m (tail-ok t g b h);
+          own = record {
+            body = k .ok;
+            kept = k .agreed;
+            rest = zeros-agree rest 0 (entrySize - entryRest) (omega arith) (entryOf b + entryRest) (entryOf b + entrySize) (entryOf b + entryRest) (entryOf b + entrySize)
+                (omega arith) (omega arith) (omega arith) (omega arith) (omega (arith, k .long)) (omega arith) ∙ own-is t g b h .rest;
+          };
         }
+
+    -- what writes its slots alone
+    pub kept-wrote : Kept t t′ (base t₀ b) (size t₀ b) → Wrote t₀ t t′ b
+    kept-wrote k = let s = served t g b h in settled-wrote (kept-settled (s .entry) (s .agreed) k)
 
     pub wrote-left : Wrote t₀ t t′ b → Left t₀ t t′ b
     wrote-left k =
@@ -245,17 +277,16 @@ module _ (t₀ : List ℕ) (r : tableOk t₀ ≡ true) where
                 let j = inside c l .0 in
                 ⊎-elim (λ x. k .after (base t₀ c) (slotSize * size t₀ c) x) (λ x. k .between (base t₀ c) (slotSize * size t₀ c) (omega arith) x) (apart t₀ r b c ne h l);
           };
-          ok = k .ok;
-          tail = k .tail;
+          own = k .own;
         }
 
     module _ (x : Left t₀ t t′ b) where
-      bodies-kept : (c : ℕ) → c < bodies t₀ → (bodyOk t′ (base t₀ c) (size t₀ c) ≡ true) × TailOk t′ (entryOf c)
+      bodies-kept : (c : ℕ) → c < bodies t₀ → Own t′ t₀ (entryOf c)
       bodies-kept c l = go (eqb b c) refl
         where
-          go : (y : Bool) → eqb b c ≡ y → (bodyOk t′ (base t₀ c) (size t₀ c) ≡ true) × TailOk t′ (entryOf c)
-          go true e = rw (← eqb-true b c e) (x .ok, x .tail)
-          go false e = let a = x .others c l (eqb-false b c e) in (body-agree (size t₀ c) (a .slots) ∙ ready t g c l .1, tail-kept c (a .tail) (omega (arith, x .contents .long, tail-in t g c l)) (tail-in t g c l) (tail-ok t g c l))
+          go : (y : Bool) → eqb b c ≡ y → Own t′ t₀ (entryOf c)
+          go true e = rw (← eqb-true b c e) (x .own)
+          go false e = own-kept t₀ c (x .others c l (eqb-false b c e)) (omega (arith, x .contents .long, tail-in t g c l)) (tail-in t g c l) (own-is t g c l)
 
       pub left-good : Good t₀ t′
       left-good =
@@ -264,7 +295,11 @@ module _ (t₀ : List ℕ) (r : tableOk t₀ ≡ true) where
             ok = same-table (x .contents) (g .ok) (λ c l.
                 let m : c < bodies t₀ = omega arith in
                 let k = bodies-kept c m in
-                ((λ j. bodyOk t′ (place-is t g c m j) (slots-is t g c m j)) ∙ k .0, k .1));
+                record {
+                  body = (λ j. bodyOk t′ (place-is t g c m j) (slots-is t g c m j)) ∙ k .body;
+                  kept = (λ j. agrees t′ (entryOf c) (recordsAt t′ (place-is t g c m j) (slots-is t g c m j))) ∙ k .kept;
+                  rest = k .rest;
+                });
             contents = record {
               long = x .contents .long ∙ g .contents .long;
               top = record { same = λ j l. x .contents .top .same j l ∙ g .contents .top .same j l };
@@ -307,5 +342,5 @@ module _ (t₀ : List ℕ) (r : tableOk t₀ ≡ true) where
           rw z at (g .contents .top .same i k ∙ sym (h .contents .top .same i k))
       go i l false e true d = listed s t headSize (bodies t₀) entries i (ltb-false i headSize e) (ltb-true i (headSize + entrySize * bodies t₀) d)
       go i l false e false d =
-          laid s t headSize (bodies t) (headSize + entrySize * bodies t) (table t (h .ok) .layout) slots i
+          laid s t headSize (bodies t) (headSize + entrySize * bodies t) (table table2 t (h .ok) .layout) slots i
           (omega (arith, count-is t h, ltb-false i (headSize + entrySize * bodies t₀) d)) l

@@ -34,21 +34,22 @@ use Rattle.opening.proofs.Valid.{opened-valid, opened-bodies, past}
 use Rattle.isolation.proofs.Runs.{good-run}
 use Rattle.isolation.proofs.History.{balance}
 use Rattle.theorems.specs.Engine.{Call, flow, execute, reverse, totals, Answer, Engine, who, machine, recordsOf, tableAfter, namesOn, position}
-use Rattle.theorems.specs.History.{Weight, ofExecution, ofReversal, executions, reversals, Which, Value, weight, worth, ofKind, itsCents, cash, withKey, onLine, perTime, logOf, History, HistoryValid, HistoryOpened}
+use Rattle.theorems.specs.History.{Weight, ofExecution, ofReversal, executions, reversals, weight, cash, perTime, logOf, History, HistoryValid, HistoryOpened}
+use Rattle.rules.specs.Worth.{Which, Value, worth, ofKind, itsCents, withKey, onLine}
 use Rattle.theorems.proofs.Steps.{answer, after, one-step}
-use Rattle.theorems.proofs.Good.{Good, fresh, base, size, inside, find-is, place-is, slots-is, ready, owned-alike}
+use Rattle.theorems.proofs.Good.{Good, fresh, base, size, inside, find-is, place-is, slots-is, ready, served, owned-alike}
 use Rattle.theorems.proofs.Named.{Names, stray, body, names, Reads, refuses, shuts, serves, reads}
 use Rattle.theorems.proofs.Condition2.{condition2}
 use Rattle.theorems.proofs.Exactly.{found-valid}
 use Rattle.theorems.proofs.Condition3.{laws, found-at, OpenedBy, answered-0, open-valid}
-use Rattle.theorems.proofs.Worth.{orders-worth, execute-worth, reverse-worth, cents-worth, one-most}
+use Rattle.service.proofs.Worth.{orders-worth, execute-worth, reverse-worth, cents-worth, one-most}
 
 -- THE TABLE AFTER THE CALLS
 module _ (E : Engine) (t₀ : List ℕ) (r : tableOk t₀ ≡ true) (cs : List Call) where
   abbrev now : List ℕ
   now = tableAfter E t₀ cs
 
-  good : Good t₀ now
+  pub good : Good t₀ now
   good = good-run (machine E t₀) (Good t₀) (laws E t₀ r) cs t₀ (fresh t₀ r)
 
   records-now : (b : ℕ) → b < bodies t₀ → recordsOf b now ≡ recordsAt now (base t₀ b) (size t₀ b)
@@ -86,7 +87,7 @@ module _ (t₀ : List ℕ) (r : tableOk t₀ ≡ true) (w : Weight) (h : List Re
     execute-moves code k line d q (body a l n) =
         let z = ready t₀ r t g a l in
         let m = judgeNotice true k line (recordsAt t (base t₀ a) (size t₀ a)) in
-        let x = ap h (notice-records t (base t₀ a) (size t₀ a) true k line (z .0) (z .1)) in
+        let x = ap h (notice-records t (entryOf a) (base t₀ a) (size t₀ a) true k line (served t₀ r t g a l)) in
         let y = W .executes t (base t₀ a) (size t₀ a) (z .1) k line m refl in
         rw (q, n t g) (omega arith)
 
@@ -96,7 +97,7 @@ module _ (t₀ : List ℕ) (r : tableOk t₀ ≡ true) (w : Weight) (h : List Re
     reverse-moves code k line d q (body a l n) =
         let z = ready t₀ r t g a l in
         let m = judgeNotice false k line (recordsAt t (base t₀ a) (size t₀ a)) in
-        let x = ap h (notice-records t (base t₀ a) (size t₀ a) false k line (z .0) (z .1)) in
+        let x = ap h (notice-records t (entryOf a) (base t₀ a) (size t₀ a) false k line (served t₀ r t g a l)) in
         let y = W .reverses t (base t₀ a) (size t₀ a) (z .1) k line m refl in
         rw (q, n t g) (omega arith)
 

@@ -7,9 +7,9 @@ pub mod Good
 pub mod Named
 pub mod Steps
 pub mod Calls
-pub mod Worth
 pub mod Condition3
 pub mod History
 pub mod NoSecond
 pub mod Condition1
 pub mod Exactly
+pub mod Totals

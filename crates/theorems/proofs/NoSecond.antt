@@ -4,6 +4,8 @@ use mathlib.Core.Path.{_≡_, sym, ap, _∙_}
 use mathlib.Core.List.{List}
 use Rattle.opening.specs.declared.Opened.{Opened}
 use Rattle.opening.specs.Opening.{openCode, openTable, OpenPromise}
+use Rattle.convert.specs.declared.Converted.{Converted}
+use Rattle.convert.specs.Convert.{convertCode, convertTable, ConvertPromise}
 use Rattle.notices.specs.declared.NoticeAnswer.{NoticeAnswer}
 use Rattle.notices.specs.Notices.{noticeReply, noticeCodeOf}
 use Rattle.desk.specs.declared.FlowReply.{FlowReply}
@@ -21,9 +23,13 @@ same f e p q = p ∙ ap f e ∙ sym q
 one-open : (q t : List ℕ) (a b : Opened) (u v : List ℕ) → OpenPromise q t a u → OpenPromise q t b v → (a ≡ b) × (u ≡ v)
 one-open q t a b u v m n = (one (m .0) (n .0), one (m .1 ∙ (λ i. openTable (m .0 i) q t)) (n .1 ∙ (λ i. openTable (n .0 i) q t)))
 
+one-convert : (o t : List ℕ) (a b : Converted) (u v : List ℕ) → ConvertPromise o t a u → ConvertPromise o t b v → (a ≡ b) × (u ≡ v)
+one-convert o t a b u v m n = (one (m .0) (n .0), one (m .1 ∙ (λ i. convertTable (m .0 i) o t)) (n .1 ∙ (λ i. convertTable (n .0 i) o t)))
+
 pub no-second : NoSecond
 no-second = record {
   opening = one-open;
+  conversion = one-convert;
   flow = λ t f out a b u v x y m n. (one (m .0) (n .0), one (m .1) (n .1), one (m .2) (n .2));
   notice = λ t executing code k line d a b u v m n. (one (m .0) (n .0), one (m .1) (n .1));
   totals = λ t code a b m n. one m n;
@@ -33,6 +39,7 @@ no-second = record {
   days = λ a b x y m n. one m n;
   first-day = λ d x y m n. one m n;
   open-replies = λ q t m n u v x y. let e = one-open q t (x .0) (y .0) u v (x .1) (y .1) in (same openCode (e .0) (x .2) (y .2), e .1);
+  convert-replies = λ o t m n u v x y. let e = one-convert o t (x .0) (y .0) u v (x .1) (y .1) in (same convertCode (e .0) (x .2) (y .2), e .1);
   flow-replies = λ t f out m n u v x y p q.
       let e = ap flowReply (one (p .1 .0) (q .1 .0)) in
       let code = same (λ (r : FlowReply). r .code) e (p .2 .0) (q .2 .0) in

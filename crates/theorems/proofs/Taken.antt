@@ -81,9 +81,9 @@ module _ (t f out : List ℕ) (a : FlowAnswer) (t′ out′ : List ℕ) (p : Flo
         body = b;
         named = e;
         orders = x .0;
-        codes = x .1 ∙ codes-over base n year y t os (v .inside) (v .valid) ws;
-        records = ap (λ (u : List ℕ). recordsAt u base n) ((rw d at p) .1) ∙ all-records t base n year os (v .inside) (v .valid) ws y;
-        exactly = λ before o after q. exactly-then base n year y t before o (v .inside) (v .valid) (front-writable before (o ∷ after) (rw q at ws));
+        codes = x .1 ∙ codes-over base n year y t os (v .inside) (v .holds .body) ws;
+        records = ap (λ (u : List ℕ). recordsAt u base n) ((rw d at p) .1) ∙ all-records t base n year os (v .inside) (v .holds .body) ws y;
+        exactly = λ before o after q. exactly-then base n year y t before o (v .inside) (v .holds .body) (front-writable before (o ∷ after) (rw q at ws));
       }
 
   by-room : (at b : ℕ) → tableOk t ≡ true → leb (length f) maxFlow ≡ true → verdictOf f ≡ Stands at → textIs (abiOf t) (headerOf f at .abi) ≡ true

@@ -19,6 +19,10 @@ each p (x ∷ xs) = p x && each p xs
 abbrev pub openCodes : List ℕ
 openCodes = 0 ∷ 9 ∷ 10 ∷ []
 
+-- CONVERSION: "conversion answers 1, then 10" (document 02, Req 04)
+abbrev pub convertCodes : List ℕ
+convertCodes = 0 ∷ 1 ∷ 10 ∷ []
+
 -- A CALL THAT NAMES NO BODY of a valid table. A flow: "2 the flow is longer than 32,768 bytes; 3 the markup breaks; 4 the structure breaks; 5 a field
 -- breaks; 6 codice_ABI_BT isn't the table's; 7 no body has this code". A notice: 7, or "27 no date or outside the years, 28 closing day" (Req 08). Totals: 7
 abbrev pub strayCodes : Call → List ℕ

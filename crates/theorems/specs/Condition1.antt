@@ -10,16 +10,19 @@ use Rattle.rules.specs.Rules.{orderCode}
 use Rattle.service.specs.Service.{orderComes, orderLeaves}
 use Rattle.opening.specs.declared.Opened.{Opened}
 use Rattle.opening.specs.Opening.{openCode, OpenPromise}
+use Rattle.convert.specs.declared.Converted.{Converted}
+use Rattle.convert.specs.Convert.{convertCode, ConvertPromise}
 use Rattle.notices.specs.declared.NoticeAnswer.{NoticeAnswer}
 use Rattle.notices.specs.Notices.{noticeCodeOf, NoticePromise}
 use Rattle.desk.specs.declared.FlowAnswer.{FlowAnswer}
 use Rattle.desk.specs.Desk.{FlowPromise, flowCode, flowReply}
 use Rattle.theorems.specs.Engine.{Call, Answer, Step, answerCode}
-use Rattle.theorems.specs.Codes.{oneOf, each, openCodes, callCodes, causesWith, orderCodes, outcomeCodes}
+use Rattle.theorems.specs.Codes.{oneOf, each, openCodes, convertCodes, callCodes, causesWith, orderCodes, outcomeCodes}
 
 pub record Condition1 : Type 0 where
   -- "Every call, on arbitrary flow, table or notice, ends with one of the numbered answers in document 01."
   pub opening-numbered : (q t : List ℕ) (a : Opened) (t′ : List ℕ) → OpenPromise q t a t′ → oneOf openCodes (openCode a) ≡ true
+  pub conversion-numbered : (o t : List ℕ) (a : Converted) (t′ : List ℕ) → ConvertPromise o t a t′ → oneOf convertCodes (convertCode a) ≡ true
   pub call-numbered : (c : Call) (t : List ℕ) (a : Answer) (t′ : List ℕ) → Step c t a t′ → oneOf (callCodes c) (answerCode a) ≡ true
   -- and so does every order of a flow taken
   pub orders-numbered : (t f out : List ℕ) (a : FlowAnswer) (t′ out′ : List ℕ) → FlowPromise t f out a t′ out′ → flowCode a ≡ 0
@@ -36,3 +39,5 @@ pub record Condition1 : Type 0 where
       → NoticePromise t executing code k line d a t′ → (noticeCodeOf a ≡ 0 → ⊥) → t′ ≡ t
   -- and of opening, in document 01's words: "Codes 1 to 10 change no buffer"
   pub refused-opening : (q t : List ℕ) (a : Opened) (t′ : List ℕ) → OpenPromise q t a t′ → (openCode a ≡ 0 → ⊥) → t′ ≡ t
+  -- and of conversion: it "leaves both buffers untouched"; the old one is lent to read only
+  pub refused-conversion : (o t : List ℕ) (a : Converted) (t′ : List ℕ) → ConvertPromise o t a t′ → (convertCode a ≡ 0 → ⊥) → t′ ≡ t

@@ -1,14 +1,12 @@
 -- CASH BY HISTORY (request 11): what the lines of a body's log, its calls with their answers, tell of its executions and reversals.
-use Prim.Native.Nat.{ℕ, suc, _+_, _≤_, _<_}
+use Prim.Native.Nat.{ℕ, _+_, _≤_, _<_}
 use mathlib.Core.Path.{_≡_}
-use mathlib.Core.Bool.{Bool, true, _&&_, cond}
+use mathlib.Core.Bool.{true, cond}
 use mathlib.Core.Logic.{_⊎_}
 use mathlib.Core.Option.{some}
 use mathlib.Core.List.{List, [], _∷_}
-use lib.Dec.{eqb}
 use Rattle.record.specs.declared.Key.{Key}
-use Rattle.record.specs.declared.Record.{Record}
-use Rattle.record.specs.Slot.{mandatoKind, reversaleKind, executedLine, keyOf}
+use Rattle.record.specs.Slot.{mandatoKind, reversaleKind}
 use Rattle.body.specs.Body.{centsOf}
 use Rattle.table.specs.Table.{bodies, tableOk}
 use Rattle.notices.specs.declared.NoticeAnswer.{NoticeAnswer}
@@ -16,6 +14,7 @@ use Rattle.notices.specs.declared.NoticeAnswer.the-variants.{InvalidTable, Wron
 use Rattle.notices.specs.declared.TotalsAnswer.{TotalsAnswer}
 use Rattle.notices.specs.Notices.{TotalsPromise}
 use Rattle.opening.specs.Opening.{OpenReplies}
+use Rattle.rules.specs.Worth.{Which, Value, worth, ofKind, itsCents, withKey, onLine}
 use Rattle.isolation.specs.Order.{mine}
 use Rattle.isolation.specs.Machine.{whose, log}
 use Rattle.isolation.specs.Tally.{tally}
@@ -50,13 +49,6 @@ executions w ls = tally (ofExecution w) ls
 abbrev pub reversals : Weight → List (Call × Answer) → ℕ
 reversals w ls = tally (ofReversal w) ls
 
--- WHICH ORDERS, by their key, and WHAT A LINE IS WORTH, by its number, counted from 1, and its cents
-abbrev pub Which : Type 0
-Which = Key → Bool
-
-abbrev pub Value : Type 0
-Value = ℕ → ℕ → ℕ
-
 -- an accepted notice for such an order weighs what the line is worth, by the cents in its answer; a refused one weighs nothing
 abbrev pub weight : Which → Value → Weight
 weight p v k n (Done cents) = cond (p k) (v n cents) 0
@@ -65,33 +57,11 @@ weight p v k n InvalidTable = 0
 weight p v k n (WrongDay c) = 0
 weight p v k n UnknownBody = 0
 
--- what the executed lines of such orders among the records are worth
-unfoldable pub worthIn : Value → ℕ → List ℕ → List ℕ → ℕ
-worthIn v n [] amounts = 0
-worthIn v n (s ∷ states) [] = 0
-worthIn v n (s ∷ states) (a ∷ amounts) = cond (eqb s executedLine) (v n a) 0 + worthIn v (suc n) states amounts
-
-unfoldable pub worth : Which → Value → List Record → ℕ
-worth p v [] = 0
-worth p v (r ∷ rs) = cond (p (keyOf r)) (worthIn v 1 (r .states) (r .amounts)) 0 + worth p v rs
-
 -- CASH: the orders of a kind, a line worth its cents
-abbrev pub ofKind : ℕ → Which
-ofKind kind k = eqb (k .kind) kind
-
-abbrev pub itsCents : Value
-itsCents n cents = cents
-
 abbrev pub cash : ℕ → Weight
 cash kind = weight (ofKind kind) itsCents
 
 -- ONE LINE: the order with a key, its line of that number worth one
-abbrev pub withKey : Key → Which
-withKey key k = eqb (k .kind) (key .kind) && (eqb (k .esercizio) (key .esercizio) && eqb (k .number) (key .number))
-
-abbrev pub onLine : ℕ → Value
-onLine line n cents = cond (eqb n line) 1 0
-
 abbrev pub perTime : Key → ℕ → Weight
 perTime key line = weight (withKey key) (onLine line)
 

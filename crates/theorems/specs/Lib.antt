@@ -6,3 +6,4 @@ pub mod Condition1
 pub mod Condition2
 pub mod Condition3
 pub mod History
+pub mod Totals

@@ -1,7 +1,7 @@
 -- Laws of tests one after the other, and of a record's lines, one at a time.
 use Prim.Native.Nat.{ℕ, suc, _+_, _-_, _≤_, _<_}
-use mathlib.Core.Bool.{Bool, true, false, _&&_}
-use mathlib.Core.List.{List}
+use mathlib.Core.Bool.{Bool, true, false, _&&_, cond}
+use mathlib.Core.List.{List, [], _∷_}
 use mathlib.Core.Path.{_≡_, refl, sym, ap, _∙_}
 use native.Mathlib.Omega.{arith}
 use native.Mathlib.Numerals.{add-one}
@@ -9,7 +9,9 @@ use lib.ListN.{length, getD, drop}
 use lib.Seq.{drop-cons}
 use lib.Dec.{eqb}
 use borrow.Author.Tests.{eq-eqb, ne-eqb, eqb-true, eqb-false}
-use Rattle.valid.specs.Valid.{allFrom, sum}
+use Rattle.valid.specs.Valid.{allFrom, sum, executedIn}
+use Rattle.valid.specs.Inner.{told}
+use Rattle.valid.specs.declared.Judged.the-variants.{Broken, Right}
 
 -- TESTS OF ONE AFTER THE OTHER
 
@@ -49,3 +51,30 @@ module _ (a : List ℕ) (i rest : ℕ) where
 
   pub sum-go : i < length a → getD a i 0 ≤ rest → eqb (sum (drop i a)) rest ≡ eqb (sum (drop (i + 1) a)) (rest - getD a i 0)
   sum-go h p = same-test (sum (drop i a)) rest (sum (drop (i + 1) a)) (rest - getD a i 0) (λ q. omega (arith, sum-more h)) (λ q. omega (arith, sum-more h))
+
+-- WHAT IS EXECUTED
+
+pub executed-more : (s a : List ℕ) (k : ℕ) → k < length s → k < length a
+    → executedIn (drop k s) (drop k a) ≡ cond (eqb (getD s k 0) 2) (getD a k 0) 0 + executedIn (drop (k + 1) s) (drop (k + 1) a)
+unfolding executedIn
+executed-more s a k h j = rw (add-one, drop-cons s k 0 h, drop-cons a k 0 j)
+
+-- it is at most the sum
+pub executed-sum : (s a : List ℕ) → executedIn s a ≤ sum a
+unfolding executedIn sum
+executed-sum [] a = omega arith
+executed-sum (x ∷ s) [] = omega arith
+executed-sum (x ∷ s) (y ∷ a) = go (eqb x 2) (executed-sum s a) where
+  go : (b : Bool) → executedIn s a ≤ sum a → cond b y 0 + executedIn s a ≤ y + sum a
+  go true h = omega arith
+  go false h = omega arith
+
+-- WHAT IS TOLD
+
+pub told-right : (b : Bool) (x c : ℕ) → told b x ≡ Right c → (b ≡ true) × (x ≡ c)
+told-right true x c e = (refl, cc)
+told-right false x c e = let z : _≡_ {A = ℕ} 0 1 = cc in absurd (omega arith)
+
+pub told-broken : (b : Bool) (x : ℕ) → told b x ≡ Broken → b ≡ false
+told-broken true x e = let z : _≡_ {A = ℕ} 0 1 = cc in absurd (omega arith)
+told-broken false x e = refl

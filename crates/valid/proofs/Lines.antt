@@ -13,9 +13,11 @@ use Rattle.words.specs.Numbers.{be8}
 use Rattle.record.specs.Slot.{statesOffset, amountsOffset, eightAt, be8s, recordAt}
 use Rattle.record.proofs.Back.{eight-at, be8s-at}
 use Rattle.record.specs.declared.Record.{Record}
-use Rattle.valid.specs.Valid.{lineThere, lineAbsent, lineOk, allFrom, sum, rangesOk, recordOk}
+use Rattle.valid.specs.Valid.{lineThere, lineAbsent, lineOk, allFrom, sum, rangesOk, recordOk, executedIn, executed}
+use Rattle.valid.specs.declared.Judged.the-variants.{Broken}
+use Rattle.valid.specs.Inner.{told, judged}
 use Rattle.valid.proofs.Valid.{ranges-bounds}
-use Rattle.valid.proofs.Laws.{and-stop, and-go, all-more, all-done, sum-more, sum-over, sum-go}
+use Rattle.valid.proofs.Laws.{and-stop, and-go, all-more, all-done, sum-more, sum-over, sum-go, executed-more}
 
 -- ONE LINE, FROM ITS BYTES
 
@@ -92,6 +94,10 @@ module _ (t : List ℕ) (at n k rest a : ℕ) (h : k < n) (b : n ≤ 8) (q : n �
   unfolding recordAt
   eight = refl
 
+  eight-states : length (recordAt t at .states) ≡ 8
+  unfolding recordAt
+  eight-states = refl
+
   pub there-stop : lineThere (eqb (getD t (at + 1) 0) 2) (getD t (at + 24 + k) 0) a ≡ false → leftOk (recordAt t at) n k rest ≡ false
   there-stop f =
       let z = and-stop (lineOk (recordAt t at) k) _ its-tests (its-test ∙ f) in
@@ -110,6 +116,20 @@ module _ (t : List ℕ) (at n k rest a : ℕ) (h : k < n) (b : n ≤ 8) (q : n �
       ∙ ap (λ (v : ℕ). eqb (sum (drop (k + 1) (recordAt t at .amounts))) (rest - v)) its-amount in
       λ i. x i && y i
 
+  -- what is executed from here on
+  pub there-cents : executedIn (drop k (recordAt t at .states)) (drop k (recordAt t at .amounts))
+      ≡ cond (eqb (getD t (at + 24 + k) 0) 2) a 0 + executedIn (drop (k + 1) (recordAt t at .states)) (drop (k + 1) (recordAt t at .amounts))
+  there-cents =
+      let x = state-is t at k a (omega arith) e in
+      let y = its-amount in
+      executed-more (recordAt t at .states) (recordAt t at .amounts) k (omega (arith, eight-states)) (omega (arith, eight))
+      ∙ (λ i. cond (eqb (x i) 2) (y i) 0 + executedIn (drop (k + 1) (recordAt t at .states)) (drop (k + 1) (recordAt t at .amounts)))
+
+-- what is told where a line breaks
+pub lines-told : (r : Record) (n : ℕ) → leftOk r n 0 (r .total) ≡ false
+    → Broken ≡ told (allFrom (lineOk r) 0 n && eqb (sum (r .amounts)) (r .total)) (executed r)
+lines-told r n f = sym (ap (λ (b : Bool). told b (executed r)) (sym (left-all r n) ∙ f))
+
 pub there-done : (r : Record) (n k rest : ℕ) → k ≤ n → n ≤ k → sum (drop n (r .amounts)) ≡ 0 → leftOk r n k rest ≡ eqb 0 rest
 there-done r n k rest h l z =
     let q : k ≡ n = omega arith in
@@ -118,6 +138,9 @@ there-done r n k rest h l z =
     λ i. x i && y i
 
 -- THE WHOLE RECORD
+
+pub broken : (r : Record) → recordOk r ≡ false → Broken ≡ judged r
+broken r f = sym (ap (λ (b : Bool). told b (executed r)) f)
 
 all-split : (f : ℕ → Bool) (k m n : ℕ) → allFrom f k (m + n) ≡ (allFrom f k m && allFrom f (k + m) n)
 unfolding allFrom

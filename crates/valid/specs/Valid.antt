@@ -43,3 +43,12 @@ rangesOk r =
 -- a record that is valid by itself: ranges, its eight lines, and "line amounts sum to the total"
 unfoldable pub recordOk : Record → Bool
 recordOk r = rangesOk r && (allFrom (lineOk r) 0 8 && eqb (sum (r .amounts)) (r .total))
+
+-- EXECUTED LINES: the cents of a record's executed lines (document 01, "Totals")
+unfoldable pub executedIn : List ℕ → List ℕ → ℕ
+executedIn [] amounts = 0
+executedIn (s ∷ states) [] = 0
+executedIn (s ∷ states) (a ∷ amounts) = cond (eqb s executedLine) a 0 + executedIn states amounts
+
+abbrev pub executed : Record → ℕ
+executed r = executedIn (r .states) (r .amounts)

@@ -1,4 +1,5 @@
-// When the record in a slot is valid by itself: its ranges, its eight lines, and their sum. All is read where the bytes stand.
+// When the record in a slot is valid by itself: its ranges, its eight lines, and their sum; and the cents of its executed lines. All is read where the
+// bytes stand.
 use calendar::Date;
 use record::both;
 use record::wide;
@@ -10,7 +11,14 @@ ghost use lib.Dec.{eqb};
 ghost use Rattle.words.specs.Numbers.{be8};
 ghost use Rattle.calendar.specs.Calendar.{isDate};
 ghost use Rattle.record.specs.Slot.{slotSize, statesOffset, amountsOffset, dateAt, recordAt};
-ghost use Rattle.valid.specs.Valid.{lineThere, lineAbsent, lineOk, allFrom, sum, rangesOk, recordOk};
+ghost use Rattle.valid.specs.Valid.{lineThere, lineAbsent, lineOk, allFrom, sum, rangesOk, executed};
+ghost use Rattle.valid.specs.Inner.{told, judged};
+
+// A record judged: broken, or valid with the cents of its executed lines.
+pub enum Judged {
+    Broken,
+    Right(u64),
+}
 
 fn top_state(annulled: bool) -> u8
     ensures { λ r. ⌜ r ≡ cond annulled 1 2 ⌝ }
@@ -99,40 +107,61 @@ fn lines_absent(t: &[u8], at: usize, lines: usize) -> bool
     true
 }
 
-// Whether the lines that are there are right and sum to the total, with no sum that could wrap; the others hold nothing.
-fn lines_there(t: &[u8], at: usize, lines: usize) -> bool
+// What a line adds to its order's executed cents.
+pub fn line_cents(executed: bool, amount: u64) -> u64
+    ensures { λ c. ⌜ (c ≡ cond executed amount 0) × (c ≤ amount) ⌝ }
+{
+    if executed { amount } else { 0 }
+}
+
+fn told_by(right: bool, cents: u64) -> Judged
+    ensures { λ j. ⌜ j ≡ told right cents ⌝ }
+{
+    if right {
+        Judged::Right(cents)
+    } else {
+        Judged::Broken
+    }
+}
+
+// Whether the lines that are there are right and sum to the total, with no sum that could wrap, and what is executed; the others hold nothing.
+fn lines_there(t: &[u8], at: usize, lines: usize) -> Judged
     requires { ⌜ (at + slotSize ≤ length (now t)) × (lines ≤ 8) × (lines ≡ recordAt (now t) at .lines)
         × (sum (drop lines (recordAt (now t) at .amounts)) ≡ 0) ⌝ }
-    ensures { λ b. ⌜ b ≡ (allFrom (lineOk (recordAt (now (t .entry)) at)) 0 lines
-        && eqb (sum (recordAt (now (t .entry)) at .amounts)) (recordAt (now (t .entry)) at .total)) ⌝ }
+    ensures { λ j. ⌜ j ≡ told (allFrom (lineOk (recordAt (now (t .entry)) at)) 0 lines
+        && eqb (sum (recordAt (now (t .entry)) at .amounts)) (recordAt (now (t .entry)) at .total)) (executed (recordAt (now (t .entry)) at)) ⌝ }
 {
     let annulled = t[at + 1] == record::ANNULLED;
     let mut rest = words::read8(t, at + 16);
+    let mut cents: u64 = 0;
     let mut k = 0;
     while k < lines {
         let amount = words::read8(t, at + record::AMOUNTS + 8 * k);
-        if !line_there(annulled, t[at + record::STATES + k], amount) {
-            return false;
+        let state = t[at + record::STATES + k];
+        if !line_there(annulled, state, amount) {
+            return Judged::Broken;
         }
         if rest < amount {
-            return false;
+            return Judged::Broken;
         }
         rest -= amount;
+        cents += line_cents(state == record::EXECUTED, amount);
         k += 1;
     }
-    0 == rest
+    told_by(0 == rest, cents)
 }
 
-pub fn record_ok_at(t: &[u8], at: usize) -> bool
+// Whether the record in the slot at a place is valid, and the cents of its executed lines.
+pub fn judge_at(t: &[u8], at: usize) -> Judged
     requires { ⌜ at + slotSize ≤ length (now t) ⌝ }
-    ensures { λ b. ⌜ b ≡ recordOk (recordAt (now (t .entry)) at) ⌝ }
+    ensures { λ j. ⌜ j ≡ judged (recordAt (now (t .entry)) at) ⌝ }
 {
     if !ranges_ok(t, at) {
-        return false;
+        return Judged::Broken;
     }
     let lines = wide(t[at + 2]) as usize;
     if !lines_absent(t, at, lines) {
-        return false;
+        return Judged::Broken;
     }
     lines_there(t, at, lines)
 }

@@ -1,11 +1,11 @@
--- WHAT THE RULES GIVE for the witnesses on document 01's table of 848 bytes and on those that orders leave: all that is computed, in one place.
+-- WHAT THE RULES GIVE for the witnesses on document 01's table of 880 bytes and on those that orders leave: all that is computed, in one place.
 use mathlib.Core.Path.{_≡_, refl, _∙_}
 use mathlib.Core.Bool.{true}
 use mathlib.Core.List.{List, [], _∷_}
 use lib.ListN.{getD}
 use Rattle.scan.specs.Bytes.{bytes, isLetter, isDigit, isAlnum, all, startsWith, hasAt, textIs}
 use Rattle.words.specs.Numbers.{put, be2, be4, be8}
-use Rattle.table.specs.Table.{headOk, entryOk, layoutOk, bodiesOk, tableOk}
+use Rattle.table.specs.Table.{headOk, entryOk, layoutOk, agrees, bodyHolds, bodiesOk, validAs, tableOk}
 use Rattle.order.specs.Ordinativo.{Ordinativo}
 use Rattle.service.specs.Service.{orderComes, orderStored, orderLeaves, outcomeBytes, allLeave, allOutcomes, allAccepted, noticeComes}
 use Rattle.notices.specs.declared.NoticeAnswer.the-variants.{Done, Declined}
@@ -26,17 +26,18 @@ use Rattle.calendar.specs.Calendar.{leap, monthLength, isDate}
 use Rattle.ranges.specs.Ranges.{zeros}
 use Rattle.digits.specs.Digits.{digitsAfter, digits}
 use Rattle.record.specs.Slot.{recordAt, restZero, flat8, recordBytes, keyIs}
-use Rattle.valid.specs.Valid.{lineThere, lineAbsent, lineOk, allFrom, sum, rangesOk, recordOk}
+use Rattle.valid.specs.Valid.{lineThere, lineAbsent, lineOk, allFrom, sum, rangesOk, recordOk, executedIn}
 use Rattle.slots.specs.Slots.{usedAt, slotsAt, findIn, distinct}
-use Rattle.body.specs.Body.{slotOk, slotsOk, bodyOk}
-use Rattle.entries.specs.Entry.{codeAt, slotsOf, placeOf, formOk, formsOk, codesFrom, findCode, distinctCodes}
-use Rattle.request.specs.Request.{asked, slotsAsked, needed, bodiesAskedOk, requestOk}
+use Rattle.body.specs.Body.{slotOk, slotsOk, bodyOk, centsOf}
+use Rattle.entries.specs.Entry.{keptBytes, slotsFrom, codeAt, slotsOf, placeOf, formOk, formsOk, codesFrom, findCode, distinctCodes}
+use Rattle.request.specs.Request.{asked, needed, bodiesAskedOk, requestOk}
 use Rattle.opening.specs.declared.Opened.the-variants.{Open}
-use Rattle.opening.specs.Opening.{headBytes, entryBytes, entriesBytes, opened, openOf}
+use Rattle.contents.specs.Contents.{headBytes, entryBytes, entriesBytes}
+use Rattle.opening.specs.Opening.{opened, openOf}
 use Rattle.lines.specs.Lines.{numberedFrom, sumOf, lineCode}
 use Rattle.rules.specs.Rules.{amountsOf, anyExecuted, situationIn, situationOf, sameList, sameOrder, placed, stepped, judgeOrder, written, lineMoves, noticeIn, noticeAt, judgeNotice}
 
--- THE ORDERS, as they are served: 000471's slots begin at byte 80, 471's at 464, four of 96 bytes each; at 80 and 176 where each has one slot
+-- THE ORDERS, as they are served: 000471's slots begin at byte 112, 471's at 496, four of 96 bytes each; at 112 and 208 where each has one slot
 abbrev pub one : List Ordinativo
 one = order 1 ∷ []
 
@@ -57,25 +58,25 @@ pub record Facts : Type 0 where
   pub valid-first : tableOk first ≡ true
   pub valid-second : tableOk second ≡ true
   -- the flows are for the bank and for a body with room
-  pub own : forBank sampleTable 16 (headerFor "471") one ≡ served 464 4 2021 one
-  pub again : forBank second 16 (headerFor "471") one ≡ served 464 4 2021 one
-  pub more : forBank second 32 (headerFor "471") both ≡ served 464 4 2021 both
-  pub other-first : forBank first 16 (headerFor "000471") one ≡ served 80 4 2021 one
-  pub own-first : forBank first 16 (headerFor "471") one ≡ served 464 4 2021 one
+  pub own : forBank sampleTable 16 (headerFor "471") one ≡ served 496 4 2021 one
+  pub again : forBank second 16 (headerFor "471") one ≡ served 496 4 2021 one
+  pub more : forBank second 32 (headerFor "471") both ≡ served 496 4 2021 both
+  pub other-first : forBank first 16 (headerFor "000471") one ≡ served 112 4 2021 one
+  pub own-first : forBank first 16 (headerFor "471") one ≡ served 496 4 2021 one
   -- the answers
-  pub answer : flowAnswer sampleTable (served 464 4 2021 one) ≡ Taken 1 1
-  pub answer-again : flowAnswer second (served 464 4 2021 one) ≡ Taken 1 0
-  pub answer-more : flowAnswer second (served 464 4 2021 both) ≡ Taken 2 1
-  pub answer-other : flowAnswer first (served 80 4 2021 one) ≡ Taken 1 0
-  pub answer-first : flowAnswer first (served 464 4 2021 one) ≡ Taken 1 1
+  pub answer : flowAnswer sampleTable (served 496 4 2021 one) ≡ Taken 1 1
+  pub answer-again : flowAnswer second (served 496 4 2021 one) ≡ Taken 1 0
+  pub answer-more : flowAnswer second (served 496 4 2021 both) ≡ Taken 2 1
+  pub answer-other : flowAnswer first (served 112 4 2021 one) ≡ Taken 1 0
+  pub answer-first : flowAnswer first (served 496 4 2021 one) ≡ Taken 1 1
   -- outcome codes
-  pub code-0 : getD (flowOutcomes second (room 2) (served 464 4 2021 both)) 2 0 ≡ 14
-  pub code-1 : getD (flowOutcomes second (room 2) (served 464 4 2021 both)) 18 0 ≡ 0
+  pub code-0 : getD (flowOutcomes second (room 2) (served 496 4 2021 both)) 2 0 ≡ 14
+  pub code-1 : getD (flowOutcomes second (room 2) (served 496 4 2021 both)) 18 0 ≡ 0
   -- the first bytes of 471's first and second slot: 0 empty, 1 a mandato
-  pub slot : getD (flowTable sampleTable (served 464 4 2021 one)) 464 0 ≡ 1
-  pub slot-empty : getD sampleTable 464 0 ≡ 0
-  pub next : getD (flowTable second (served 464 4 2021 both)) 560 0 ≡ 1
-  pub next-empty : getD (orderLeaves second 464 4 2021 (order 1)) 560 0 ≡ 0
+  pub slot : getD (flowTable sampleTable (served 496 4 2021 one)) 496 0 ≡ 1
+  pub slot-empty : getD sampleTable 496 0 ≡ 0
+  pub next : getD (flowTable second (served 496 4 2021 both)) 592 0 ≡ 1
+  pub next-empty : getD (orderLeaves second 496 4 2021 (order 1)) 592 0 ≡ 0
   -- two bodies whose codes have one value, and what each is told of 000471's mandato 1
   pub mixed : Mixed first (bytes "000471") (bytes "471")
   pub notice-other : noticeAnswer first true (bytes "000471") key 1 wednesday ≡ Done 100
@@ -86,10 +87,10 @@ pub record Facts : Type 0 where
   -- and a request for both
   pub asked-two : asked (requestOf 4) ≡ 2
   pub value-asked : SameValue (codeAsked (requestOf 4) 0) (codeAsked (requestOf 4) 1)
-  pub opens : openOf (requestOf 4) 848 ≡ Open
+  pub opens : openOf (requestOf 4) 880 ≡ Open
 
 pub facts : Facts
-unfolding isLetter isDigit isAlnum all startsWith hasAt textIs be2 be4 be8 put leap monthLength isDate zeros digitsAfter digits recordAt restZero flat8 recordBytes keyIs lineThere lineAbsent lineOk allFrom sum rangesOk recordOk usedAt slotsAt findIn distinct slotOk slotsOk bodyOk codeAt slotsOf placeOf formOk formsOk codesFrom findCode distinctCodes headOk entryOk layoutOk bodiesOk tableOk asked slotsAsked needed bodiesAskedOk requestOk headBytes entryBytes entriesBytes opened openOf numberedFrom sumOf lineCode amountsOf anyExecuted situationIn situationOf sameList sameOrder placed stepped judgeOrder written lineMoves noticeIn noticeAt judgeNotice orderComes orderStored outcomeBytes allLeave allOutcomes allAccepted noticeComes addressed noticeBy targetCode daysServed closing closesOn weekend fixedClosing marchDay easter sundayAfter fullMoon paschal weekday numberOf monthOf startOf lengthAt bodyTotals totalsOf
+unfolding isLetter isDigit isAlnum all startsWith hasAt textIs be2 be4 be8 put leap monthLength isDate zeros digitsAfter digits recordAt restZero flat8 recordBytes keyIs lineThere lineAbsent lineOk allFrom sum rangesOk recordOk usedAt slotsAt findIn distinct slotOk slotsOk bodyOk codeAt slotsOf placeOf formOk formsOk codesFrom findCode distinctCodes headOk entryOk layoutOk agrees bodyHolds bodiesOk validAs centsOf executedIn keptBytes slotsFrom asked needed bodiesAskedOk requestOk headBytes entryBytes entriesBytes opened openOf numberedFrom sumOf lineCode amountsOf anyExecuted situationIn situationOf sameList sameOrder placed stepped judgeOrder written lineMoves noticeIn noticeAt judgeNotice orderComes orderStored outcomeBytes allLeave allOutcomes allAccepted noticeComes addressed noticeBy targetCode daysServed closing closesOn weekend fixedClosing marchDay easter sundayAfter fullMoon paschal weekday numberOf monthOf startOf lengthAt bodyTotals totalsOf
 facts = record {
   valid = refl;
   valid-first = refl;
@@ -122,17 +123,17 @@ facts = record {
 }
 
 -- THE READINGS
-pub own-reads : flowReads sampleTable (single "471") 16 ≡ served 464 4 2021 one
+pub own-reads : flowReads sampleTable (single "471") 16 ≡ served 496 4 2021 one
 own-reads = reads sampleTable 16 (flows .own) (facts .valid) ∙ facts .own
 
-pub again-reads : flowReads second (single "471") 16 ≡ served 464 4 2021 one
+pub again-reads : flowReads second (single "471") 16 ≡ served 496 4 2021 one
 again-reads = reads second 16 (flows .own) (facts .valid-second) ∙ facts .again
 
-pub more-reads : flowReads second two 32 ≡ served 464 4 2021 both
+pub more-reads : flowReads second two 32 ≡ served 496 4 2021 both
 more-reads = reads second 32 (flows .more) (facts .valid-second) ∙ facts .more
 
-pub other-first-reads : flowReads first (single "000471") 16 ≡ served 80 4 2021 one
+pub other-first-reads : flowReads first (single "000471") 16 ≡ served 112 4 2021 one
 other-first-reads = reads first 16 (flows .other) (facts .valid-first) ∙ facts .other-first
 
-pub own-first-reads : flowReads first (single "471") 16 ≡ served 464 4 2021 one
+pub own-first-reads : flowReads first (single "471") 16 ≡ served 496 4 2021 one
 own-first-reads = reads first 16 (flows .own) (facts .valid-first) ∙ facts .own-first

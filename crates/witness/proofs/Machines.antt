@@ -12,10 +12,11 @@ use Rattle.scan.specs.Bytes.{part}
 use Rattle.words.specs.Numbers.{be2, be4, be8, put}
 use Rattle.record.specs.Slot.{slotSize, recordAt, flat8, recordBytes, keyIs}
 use Rattle.slots.specs.Slots.{usedAt, slotsAt, findIn}
-use Rattle.entries.specs.Entry.{slotsOf, placeOf}
+use Rattle.entries.specs.Entry.{keptBytes, slotsFrom, slotsOf, placeOf}
 use Rattle.table.specs.Table.{headSize, entryOf}
-use Rattle.request.specs.Request.{asked, slotsAsked, needed}
-use Rattle.opening.specs.Opening.{headBytes, entryBytes, entriesBytes, opened}
+use Rattle.request.specs.Request.{asked, needed}
+use Rattle.contents.specs.Contents.{headBytes, entryBytes, entriesBytes}
+use Rattle.opening.specs.Opening.{opened}
 use Rattle.order.specs.Ordinativo.{Ordinativo}
 use Rattle.rules.specs.declared.Ruling.{Ruling}
 use Rattle.rules.specs.declared.Ruling.the-variants.{Refused}
@@ -101,7 +102,7 @@ pub record Facts : Type 0 where
   pub right-rest : right .rest (stateAfter right once small) ≡ right .rest small
 
 pub facts : Facts
-unfolding be2 be4 be8 put recordAt flat8 recordBytes keyIs usedAt slotsAt findIn slotsOf placeOf asked slotsAsked needed headBytes entryBytes entriesBytes opened numberedFrom sumOf lineCode amountsOf anyExecuted situationIn situationOf placed stepped judgeOrder written orderComes orderStored
+unfolding be2 be4 be8 put recordAt flat8 recordBytes keyIs usedAt slotsAt findIn slotsOf placeOf keptBytes slotsFrom asked needed headBytes entryBytes entriesBytes opened numberedFrom sumOf lineCode amountsOf anyExecuted situationIn situationOf placed stepped judgeOrder written orderComes orderStored
 facts = record {
   crowded-all = refl;
   crowded-alone = refl;

@@ -118,8 +118,8 @@ module _ (a : FlowAnswer) (t′ out′ : List ℕ) (p : FlowPromise sampleTable 
   pub taken : a ≡ Taken 1 1
   taken = by-reading sampleTable (single "471") (room 1) own-reads p .0 ∙ facts .answer
 
-  pub stored : getD t′ 464 0 ≡ 1
-  stored = byte 464 (by-reading sampleTable (single "471") (room 1) own-reads p .1) ∙ facts .slot
+  pub stored : getD t′ 496 0 ≡ 1
+  stored = byte 496 (by-reading sampleTable (single "471") (room 1) own-reads p .1) ∙ facts .slot
 
 -- the same of the exported function, in document 01's numbers
 pub taken-reply : (n : FlowReply) (t′ out′ : List ℕ) → FlowReplies sampleTable (single "471") (room 1) n t′ out′
@@ -147,8 +147,8 @@ module _ (a : FlowAnswer) (t′ out′ : List ℕ) (p : FlowPromise second two (
       let e = by-reading second two (room 2) more-reads p .2 in
       (byte 2 e ∙ facts .code-0, byte 18 e ∙ facts .code-1)
 
-  pub more-stored : getD t′ 560 0 ≡ 1
-  more-stored = byte 560 (by-reading second two (room 2) more-reads p .1) ∙ facts .next
+  pub more-stored : getD t′ 592 0 ≡ 1
+  more-stored = byte 592 (by-reading second two (room 2) more-reads p .1) ∙ facts .next
 
 -- THE RIGHT ONE: something keeps the promise
 abbrev pub right : Taker
@@ -181,12 +181,12 @@ module _ (T : Taker) (keeps : Keeps T) where
   pub stores-nothing : StoresNothing T → ⊥
   stores-nothing r =
       let k = keeps sampleTable (single "471") (room 1) in
-      omega (arith, stored _ _ _ k, facts .slot-empty, byte 464 (r sampleTable (single "471") (room 1) (ap code (taken _ _ _ k))))
+      omega (arith, stored _ _ _ k, facts .slot-empty, byte 496 (r sampleTable (single "471") (room 1) (ap code (taken _ _ _ k))))
 
   pub first-only : FirstOnly T → ⊥
   first-only r =
-      let z = r second two (room 2) 464 4 2021 (order 1) (order 2 ∷ []) more-reads in
-      omega (arith, more-stored _ _ _ (keeps second two (room 2)), facts .next-empty, byte 560 z)
+      let z = r second two (room 2) 496 4 2021 (order 1) (order 2 ∷ []) more-reads in
+      omega (arith, more-stored _ _ _ (keeps second two (room 2)), facts .next-empty, byte 592 z)
 
   pub invents-accepted : InventsAccepted T → ⊥
   invents-accepted r = r .other (condition2 .accepted (r .table) (r .flow) (r .lent) _ _ _ (keeps (r .table) (r .flow) (r .lent)) (r .taken))
@@ -212,7 +212,7 @@ module _ (T : Taker) (keeps : Keeps T) where
       let base = placeOf u (entryOf (r .body)) in
       let n = slotsOf u (entryOf (r .body)) in
       let h = held u base n (r .slot) (r .used) in
-      let v = valid-at u base n (r .slot) (body-at u ok (r .body) (r .there) .valid) (h .used) in
+      let v = valid-at u base n (r .slot) (body-at u ok (r .body) (r .there) .holds .body) (h .used) in
       r .kept (past-lines (nth (recordsAt u base n) (r .slot)) (subst Valid (sym (h .same)) v) (r .line) (r .gone))
 
   -- a flow that is taken is for the body that it names
@@ -314,6 +314,6 @@ module _ (S : Teller) (keeps : KeepsTotals S) where
 -- document 01's own table is opened
 pub open-by-number : (O : Opener) → KeepsOpen O → OpenByNumber O → ⊥
 open-by-number O keeps r =
-    let z = r (requestOf 4) (replicate 848 0) 0 1 (omega arith) (omega (arith, facts .asked-two)) (facts .value-asked) in
-    let y : _≡_ {A = ℕ} 9 0 = ap openCode (sym z ∙ keeps (requestOf 4) (replicate 848 0) .0 ∙ facts .opens) in
+    let z = r (requestOf 4) (replicate 880 0) 0 1 (omega arith) (omega (arith, facts .asked-two)) (facts .value-asked) in
+    let y : _≡_ {A = ℕ} 9 0 = ap openCode (sym z ∙ keeps (requestOf 4) (replicate 880 0) .0 ∙ facts .opens) in
     omega arith

@@ -31,10 +31,10 @@ order n = record {
 
 -- TABLES: document 01's after mandato 1 for 000471, and after mandato 1 for 471
 abbrev pub first : List ℕ
-first = orderLeaves sampleTable 80 4 2021 (order 1)
+first = orderLeaves sampleTable 112 4 2021 (order 1)
 
 abbrev pub second : List ℕ
-second = orderLeaves sampleTable 464 4 2021 (order 1)
+second = orderLeaves sampleTable 496 4 2021 (order 1)
 
 -- for the same bodies with one slot each
 abbrev pub small : List ℕ

@@ -2,8 +2,8 @@
 
 use std::fmt::{self, Write};
 
-use reference::table::{ENTRY, HEAD, SLOT, number_at};
-use reference::{FlowAnswer, Notice, NoticeAnswer, Totals};
+use reference::table::{HEAD, SLOT, number_at};
+use reference::{FlowAnswer, Form, Notice, NoticeAnswer, Totals};
 
 /// A table and calls on it, one after another.
 #[derive(Clone, PartialEq, Eq)]
@@ -21,6 +21,13 @@ pub enum Call {
     Open {
         /// The request.
         request: Vec<u8>,
+        /// The length of the lent buffer.
+        room: usize,
+    },
+    /// Converts a table 1 into a buffer of `room` bytes, which is the case's table from here on.
+    Convert {
+        /// The table 1.
+        old: Vec<u8>,
         /// The length of the lent buffer.
         room: usize,
     },
@@ -57,6 +64,8 @@ pub enum Call {
 pub enum Answer {
     /// The code of an opening.
     Open(u64),
+    /// The code of a conversion.
+    Convert(u64),
     /// The answer to a flow.
     Flow(FlowAnswer),
     /// The answer to a notice.
@@ -69,7 +78,7 @@ impl Answer {
     /// The answer's code.
     pub fn code(&self) -> u64 {
         match self {
-            Answer::Open(code) => *code,
+            Answer::Open(code) | Answer::Convert(code) => *code,
             Answer::Flow(answer) => answer.code,
             Answer::Notice(answer) => answer.code,
             Answer::Totals(answer) => answer.code,
@@ -82,6 +91,7 @@ impl Case {
     pub fn cost(&self) -> usize {
         let calls = self.calls.iter().map(|call| match call {
             Call::Open { request, room } => 16 + request.len() + digits(*room as u64),
+            Call::Convert { old, room } => 16 + old.len() + digits(*room as u64),
             Call::Flow { flow, room } => 16 + flow.len() + digits(*room as u64),
             Call::Execute { body, notice } | Call::Reverse { body, notice } => {
                 let (year, month, day) = notice.date;
@@ -143,6 +153,7 @@ impl fmt::Debug for Call {
     fn fmt(&self, to: &mut fmt::Formatter) -> fmt::Result {
         match self {
             Call::Open { request, room } => write!(to, "Call::Open {{ request: {}, room: {room} }}", literal(request)),
+            Call::Convert { old, room } => write!(to, "Call::Convert {{ old: {}, room: {room} }}", literal(old)),
             Call::Flow { flow, room } => write!(to, "Call::Flow {{ flow: {}, room: {room} }}", literal(flow)),
             Call::Execute { body, notice } => write!(to, "Call::Execute {{ body: {}, notice: {notice:?} }}", literal(body)),
             Call::Reverse { body, notice } => write!(to, "Call::Reverse {{ body: {}, notice: {notice:?} }}", literal(body)),
@@ -154,7 +165,7 @@ impl fmt::Debug for Call {
 /// The case as text for a reader.
 impl fmt::Display for Case {
     fn fmt(&self, to: &mut fmt::Formatter) -> fmt::Result {
-        writeln!(to, "{}", table_text(&self.table))?;
+        writeln!(to, "{}", table_text(&self.table, Form::Two))?;
         for (index, call) in self.calls.iter().enumerate() {
             writeln!(to, "call {index}: {call}")?;
         }
@@ -173,6 +184,7 @@ impl fmt::Display for Call {
             Call::Open { request, room } => {
                 write!(to, "open in {room} bytes, request of {} bytes {}", request.len(), quoted(request))
             }
+            Call::Convert { old, room } => write!(to, "convert into {room} bytes, old {}", table_text(old, Form::One)),
             Call::Flow { flow, room } => write!(to, "flow of {} bytes, room {room}:\n{}", flow.len(), text(flow)),
             Call::Execute { body, notice: named } => notice(to, "execute", body, named),
             Call::Reverse { body, notice: named } => notice(to, "reverse", body, named),
@@ -202,7 +214,7 @@ fn text(flow: &[u8]) -> String {
 }
 
 /// A table field by field, as far as its bytes go.
-fn table_text(table: &[u8]) -> String {
+fn table_text(table: &[u8], form: Form) -> String {
     let mut shown = format!("table of {} bytes", table.len());
     let Some((head, mut rest)) = table.split_at_checked(HEAD) else {
         return shown;
@@ -217,7 +229,7 @@ fn table_text(table: &[u8]) -> String {
         &head[13..],
     );
     for _ in 0..bodies {
-        let Some((entry, after)) = rest.split_at_checked(ENTRY) else {
+        let Some((entry, after)) = rest.split_at_checked(form.entry()) else {
             return shown;
         };
         rest = after;

@@ -1,6 +1,6 @@
 //! Cases of every kind, from a generator.
 
-use reference::{Kind, Notice, Table};
+use reference::{Form, Kind, Notice, Table};
 
 use crate::case::{Call, Case};
 use crate::flows::{self, Size};
@@ -20,6 +20,8 @@ pub enum Theme {
     Notices,
     /// An opening, whole or damaged.
     Opening,
+    /// A conversion of a table 1, whole or damaged, and calls on what it leaves.
+    Conversion,
     /// A fresh table and a long row of calls for all its bodies.
     Sequence,
     /// Everything changed in many places, or random bytes.
@@ -27,12 +29,13 @@ pub enum Theme {
 }
 
 /// The themes of an ordinary run, each with its share.
-const SHARES: [(Theme, usize); 6] = [
+const SHARES: [(Theme, usize); 7] = [
     (Theme::WholeFlow, 16),
     (Theme::DamagedFlow, 42),
     (Theme::DamagedTable, 20),
     (Theme::Notices, 8),
     (Theme::Opening, 12),
+    (Theme::Conversion, 6),
     (Theme::Sequence, 4),
 ];
 
@@ -79,18 +82,28 @@ pub fn case(random: &mut Random, theme: Theme) -> Case {
             calls.push(totals(random, &table));
             Case { table: Vec::new(), calls }
         }
+        Theme::Conversion => {
+            let (table, old, room) = tables::conversion(random);
+            let mut calls = vec![Call::Convert { old, room }];
+            calls.extend((0..random.below(4)).map(|_| call(random, &table)));
+            Case { table: Vec::new(), calls }
+        }
         Theme::Sequence => sequence(random),
         Theme::Fuzz => fuzz(random),
     }
 }
 
-/// A fresh table for several bodies and a long row of calls. Each call is chosen after the table that the calls before have left.
+/// A fresh table for several bodies, opened or converted, and a long row of calls. Each call is chosen after the table that the calls before have left.
 pub fn sequence(random: &mut Random) -> Case {
-    let opened = tables::empty(random, 5, 6);
-    let request = tables::request(&opened);
+    let mut opened = tables::empty(random, 5, 6);
     let room = opened.length();
+    let mut calls = if random.percent(25) {
+        tables::fill_all(random, &mut opened);
+        vec![Call::Convert { old: opened.encode_as(Form::One), room }]
+    } else {
+        vec![Call::Open { request: tables::request(&opened), room }]
+    };
     let mut table = opened.encode();
-    let mut calls = vec![Call::Open { request, room }];
     for _ in 0..10 + random.below(50) {
         let now = Table::decode(&table).expect("calls leave a valid table");
         let call = call(random, &now);
@@ -104,7 +117,7 @@ pub fn sequence(random: &mut Random) -> Case {
             Call::Reverse { body, notice } => {
                 reference::reverse(&mut table, body, notice);
             }
-            Call::Open { .. } | Call::Totals { .. } => {}
+            Call::Open { .. } | Call::Convert { .. } | Call::Totals { .. } => {}
         }
         calls.push(call);
     }
@@ -229,6 +242,7 @@ fn fuzz(random: &mut Random) -> Case {
             Call::Reverse { body: body.clone(), notice },
             Call::Totals { body },
             Call::Open { request, room: table.len() },
+            Call::Convert { old: table.clone(), room: table.len() + 16 },
         ];
         return Case { table, calls };
     }
@@ -249,6 +263,7 @@ fn fuzz(random: &mut Random) -> Case {
         let (bytes, most) = match call {
             Call::Flow { flow, .. } => (flow, 16),
             Call::Open { request, .. } => (request, 4),
+            Call::Convert { old, .. } => (old, 4),
             Call::Execute { body, .. } | Call::Reverse { body, .. } | Call::Totals { body } => (body, 2),
         };
         if random.percent(70) {

@@ -55,6 +55,7 @@ pub struct Served {
 fn input_of(call: &Call) -> &[u8] {
     match call {
         Call::Open { request, .. } => request,
+        Call::Convert { old, .. } => old,
         Call::Flow { flow, .. } => flow,
         Call::Execute { body, .. } | Call::Reverse { body, .. } | Call::Totals { body } => body,
     }
@@ -64,12 +65,12 @@ impl Yard {
     /// A yard that lends in this way.
     pub fn new(lend: Lend) -> Yard {
         let results = std::array::from_fn(|_| Pen::new(8));
-        Yard { lend, calls: 0, table: Pen::new(65_536), input: Pen::new(32_769), outcomes: Pen::new(1_024), results }
+        Yard { lend, calls: 0, table: Pen::new(65_792), input: Pen::new(32_769), outcomes: Pen::new(1_024), results }
     }
 
     /// Makes one call on an engine with guards around each buffer and result. `Err` says which byte outside them was written.
     pub fn serve(&mut self, engine: &dyn Engine, table: &mut Vec<u8>, call: &Call) -> Result<Served, String> {
-        if let Call::Open { room, .. } = call {
+        if let Call::Open { room, .. } | Call::Convert { room, .. } = call {
             *table = noise(*room);
         }
         self.put(table, call);
@@ -108,6 +109,7 @@ impl Yard {
         let given = self.input.bytes();
         match call {
             Call::Open { .. } => Answer::Open(engine.open(given, lent)),
+            Call::Convert { .. } => Answer::Convert(engine.convert(given, lent)),
             Call::Flow { .. } => {
                 let outcomes = self.outcomes.bytes_mut();
                 let (place, orders, accepted) = (first.number_mut(), second.number_mut(), third.number_mut());

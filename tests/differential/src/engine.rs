@@ -1,8 +1,8 @@
-//! What is compared: the five functions, as the C header has them.
+//! What is compared: the six functions, as the C header has them.
 
 use reference::Notice;
 
-/// The five functions of `include/hondivole.h`, with slices for pointers and lengths. Each answers with document 01's code and writes
+/// The six functions of `include/hondivole.h`, with slices for pointers and lengths. Each answers with document 01's code and writes
 /// all its results on every path.
 pub trait Engine {
     /// What the engine is, in a few words.
@@ -10,6 +10,9 @@ pub trait Engine {
 
     /// Opens a table.
     fn open(&self, request: &[u8], table: &mut [u8]) -> u64;
+
+    /// Converts a table 1.
+    fn convert(&self, old: &[u8], table: &mut [u8]) -> u64;
 
     /// Takes a flow.
     fn flow(
@@ -43,6 +46,10 @@ impl Engine for Reference {
 
     fn open(&self, request: &[u8], table: &mut [u8]) -> u64 {
         reference::open(request, table)
+    }
+
+    fn convert(&self, old: &[u8], table: &mut [u8]) -> u64 {
+        reference::convert(old, table)
     }
 
     fn flow(
@@ -92,6 +99,11 @@ impl Engine for Library {
     fn open(&self, request: &[u8], table: &mut [u8]) -> u64 {
         // SAFETY: the pointers and lengths are those of slices that don't overlap.
         unsafe { hondivole::ffi::hondivole_open(request.as_ptr(), request.len(), table.as_mut_ptr(), table.len()) }
+    }
+
+    fn convert(&self, old: &[u8], table: &mut [u8]) -> u64 {
+        // SAFETY: the pointers and lengths are those of slices that don't overlap.
+        unsafe { hondivole::ffi::hondivole_convert(old.as_ptr(), old.len(), table.as_mut_ptr(), table.len()) }
     }
 
     fn flow(

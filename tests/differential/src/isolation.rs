@@ -11,7 +11,7 @@ use crate::engine::Engine;
 pub fn owner(table: &Table, call: &Call) -> Option<usize> {
     let place = |code: &[u8]| table.bodies.iter().position(|body| body.code == code);
     match call {
-        Call::Open { .. } => None,
+        Call::Open { .. } | Call::Convert { .. } => None,
         Call::Execute { body, notice } | Call::Reverse { body, notice } => {
             if target::day(notice.date) == target::Day::Open {
                 place(body)
@@ -32,15 +32,15 @@ pub fn owner(table: &Table, call: &Call) -> Option<usize> {
 }
 
 impl Yard {
-    /// Tries one row of calls on a freshly opened table three ways: as it stands, body after body in contents order, and each body
-    /// alone. The case begins with an opening; nothing is tried when that is refused.
+    /// Tries one row of calls on a fresh table three ways: as it stands, body after body in contents order, and each body alone. The
+    /// case begins with an opening or a conversion; nothing is tried when that is refused.
     pub fn isolated(&mut self, engine: &dyn Engine, case: &Case) -> Option<Difference> {
         let (opening, calls) = case.calls.split_first()?;
         let mut fresh = Vec::new();
         let opened = self.serve(engine, &mut fresh, opening).ok()?;
-        if !matches!(opening, Call::Open { .. })
+        if !matches!(opening, Call::Open { .. } | Call::Convert { .. })
             || opened.answer.code() != 0
-            || calls.iter().any(|call| matches!(call, Call::Open { .. }))
+            || calls.iter().any(|call| matches!(call, Call::Open { .. } | Call::Convert { .. }))
         {
             return None;
         }
@@ -85,9 +85,10 @@ impl Yard {
                     return differs(index, "it is answered otherwise when its body alone calls");
                 }
             }
-            let records = records_of(&fresh, body);
             let mut expected = fresh.clone();
-            expected[records.clone()].copy_from_slice(&mixed[records]);
+            for own in owned(&fresh, body) {
+                expected[own.clone()].copy_from_slice(&mixed[own]);
+            }
             if alone != expected {
                 return differs(calls.len().saturating_sub(1), "a body's records are others when it alone calls");
             }
@@ -108,9 +109,9 @@ fn differs(index: usize, what: &str) -> Option<Difference> {
     Some(Difference { call: index + 1, what: format!("isolation: {what}") })
 }
 
-/// Where a body's slots lie, by its entry.
-fn records_of(table: &[u8], body: usize) -> std::ops::Range<usize> {
+/// What a body owns: its entry from byte 24 on, and its slots.
+fn owned(table: &[u8], body: usize) -> [std::ops::Range<usize>; 2] {
     let entry = HEAD + ENTRY * body;
     let from = number_at(table, entry + 20, 4) as usize;
-    from..from + SLOT * number_at(table, entry + 18, 2) as usize
+    [entry + 24..entry + ENTRY, from..from + SLOT * number_at(table, entry + 18, 2) as usize]
 }

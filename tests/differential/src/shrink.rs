@@ -5,8 +5,8 @@
 
 use std::time::{Duration, Instant};
 
-use reference::Table;
 use reference::table::{ENTRY, HEAD, SLOT, number_at};
+use reference::{Form, Table};
 
 use crate::case::{Call, Case};
 use crate::compare::Yard;
@@ -41,6 +41,7 @@ fn weight(case: &Case) -> (usize, usize, u128) {
     let plain = |bytes: &[u8]| bytes.iter().filter(|byte| !b"\x000Rx ".contains(byte)).count();
     let calls = case.calls.iter().map(|call| match call {
         Call::Open { request, room } => (plain(request), *room as u128),
+        Call::Convert { old, room } => (plain(old), *room as u128),
         Call::Flow { flow, room } => (plain(flow), *room as u128),
         Call::Execute { body, notice } | Call::Reverse { body, notice } => {
             let (year, month, day) = notice.date;
@@ -182,10 +183,12 @@ impl<F: FnMut(&Case) -> bool> Search<F> {
                 Call::Open { .. } => self.shorten_opening(index),
                 Call::Flow { .. } => self.shorten_flow(index),
                 Call::Execute { .. } | Call::Reverse { .. } => self.shorten_notice(index),
+                Call::Convert { .. } => self.shorten_conversion(index),
                 Call::Totals { .. } => {}
             }
             self.drop_bytes(|case| match &mut case.calls[index] {
                 Call::Open { request, .. } => request,
+                Call::Convert { old, .. } => old,
                 Call::Flow { flow, .. } => flow,
                 Call::Execute { body, .. } | Call::Reverse { body, .. } | Call::Totals { body } => body,
             });
@@ -236,6 +239,36 @@ impl<F: FnMut(&Case) -> bool> Search<F> {
                         request[at..at + 2].copy_from_slice(&(slots as u16).to_be_bytes());
                     }
                 });
+            }
+        }
+    }
+
+    /// The old table with fewer bodies, slots and orders, where it is valid; the buffer follows it.
+    fn shorten_conversion(&mut self, index: usize) {
+        let shorter = |old: &[u8], step: usize| {
+            let mut table = Table::decode_as(old, Form::One)?;
+            let bodies = table.bodies.len();
+            match step.checked_sub(bodies) {
+                None if bodies > 1 => drop(table.bodies.remove(step)),
+                None => return None,
+                Some(body) => {
+                    let body = table.bodies.get_mut(body)?;
+                    body.slots = body.slots.saturating_sub(body.slots.div_ceil(2)).max(1);
+                    body.orders.truncate(body.slots);
+                }
+            }
+            Some(table)
+        };
+        let mut step = 0;
+        while step < 2 * 16 {
+            let Call::Convert { old, room } = self.best.calls[index].clone() else { return };
+            let changed = shorter(&old, step).is_some_and(|table| {
+                let before = Table::decode_as(&old, Form::One).map_or(0, |table| table.length());
+                let call = Call::Convert { old: table.encode_as(Form::One), room: (room + table.length()).saturating_sub(before) };
+                self.change(|case| case.calls[index] = call)
+            });
+            if !changed {
+                step += 1;
             }
         }
     }

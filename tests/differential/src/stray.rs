@@ -22,6 +22,10 @@ impl Engine for Stray {
         Reference.open(request, table)
     }
 
+    fn convert(&self, old: &[u8], table: &mut [u8]) -> u64 {
+        Reference.convert(old, table)
+    }
+
     fn flow(
         &self,
         table: &mut [u8],

@@ -2,7 +2,7 @@
 //! every day and every second at the edges.
 
 use reference::markup::is_character;
-use reference::{Body, Date, Kind, Line, Notice, Order, State, Table};
+use reference::{Body, Date, Form, Kind, Line, Notice, Order, State, Table};
 
 use crate::case::{Call, Case};
 use crate::tables;
@@ -56,7 +56,7 @@ const DATE: &str = "2021-12-31";
 pub fn cases() -> impl Iterator<Item = Case> {
     let bytes = table().encode();
     let with_flow = move |flow| Case { table: bytes.clone(), calls: vec![Call::Flow { flow, room: 16 }] };
-    bytes_of_a_table().chain(bytes_of_a_request()).chain(
+    bytes_of_a_table().chain(bytes_of_a_request()).chain(bytes_of_an_old_table()).chain(
         dates().chain(times()).chain(numbers()).chain(characters()).chain(sequences()).chain(bytes_of_a_flow()).map(with_flow),
     )
 }
@@ -86,6 +86,12 @@ fn bytes_of_a_request() -> impl Iterator<Item = Case> {
     let table = table();
     replaced(tables::request(&table))
         .map(move |request| Case { table: Vec::new(), calls: vec![Call::Open { request, room: table.length() }] })
+}
+
+fn bytes_of_an_old_table() -> impl Iterator<Item = Case> {
+    let table = table();
+    replaced(table.encode_as(Form::One))
+        .map(move |old| Case { table: Vec::new(), calls: vec![Call::Convert { old, room: table.length() }] })
 }
 
 fn bytes_of_a_flow() -> impl Iterator<Item = Vec<u8>> {

@@ -3,7 +3,7 @@
 use std::collections::HashSet;
 
 use reference::table::{ENTRY, HEAD, SLOT, number_at};
-use reference::{Body, Kind, State, Table};
+use reference::{Body, Form, Kind, State, Table};
 
 use crate::flows;
 use crate::random::Random;
@@ -70,6 +70,13 @@ pub fn valid(random: &mut Random) -> Table {
             large
         }
     };
+    fill_all(random, &mut table);
+    debug_assert!(table.stands());
+    table
+}
+
+/// Orders in every state for every body.
+pub fn fill_all(random: &mut Random, table: &mut Table) {
     for body in &mut table.bodies {
         let count = match random.below(4) {
             0 => 0,
@@ -78,8 +85,34 @@ pub fn valid(random: &mut Random) -> Table {
         };
         fill(random, body, count);
     }
-    debug_assert!(table.stands());
-    table
+}
+
+/// A table, its bytes as a table 1, whole or damaged in one field, and a length for the buffer that it is converted into.
+pub fn conversion(random: &mut Random) -> (Table, Vec<u8>, usize) {
+    let mut table = valid(random);
+    let most = (Form::One.longest() - HEAD - Form::One.entry() * table.bodies.len()) / SLOT;
+    let first = table.bodies.first().map_or(0, |body| body.slots);
+    if table.bodies.iter().map(|body| body.slots).sum::<usize>() > most {
+        // The longest table 1, or just longer.
+        table.bodies.truncate(2);
+        let last = table.bodies.last_mut().expect("a table has a body");
+        last.slots = if first < most { most - first + random.below(2) } else { most.min(512) };
+        last.orders.truncate(last.slots);
+    }
+    let mut old = table.encode_as(if random.percent(97) { Form::One } else { Form::Two });
+    if random.percent(40) && Table::decode_as(&old, Form::One).is_some() {
+        damage_as(random, &mut old, Form::One);
+    }
+    let mut room = table.length();
+    if random.percent(20) {
+        room = match random.below(4) {
+            0 => room + 1,
+            1 => room - 1,
+            2 => table.length_as(Form::One),
+            _ => random.below(room + 1),
+        };
+    }
+    (table, old, room)
 }
 
 fn fill(random: &mut Random, body: &mut Body, count: usize) {
@@ -108,7 +141,7 @@ fn fill(random: &mut Random, body: &mut Body, count: usize) {
 type Span = (usize, usize);
 
 const HEAD_FIELDS: [Span; 5] = [(0, 2), (2, 2), (4, 4), (8, 5), (13, 3)];
-const ENTRY_FIELDS: [Span; 6] = [(0, 1), (1, 16), (17, 1), (18, 2), (20, 4), (24, 8)];
+const ENTRY_FIELDS: [Span; 8] = [(0, 1), (1, 16), (17, 1), (18, 2), (20, 4), (24, 8), (32, 8), (40, 8)];
 const SLOT_FIELDS: [Span; 13] =
     [(0, 1), (1, 1), (2, 1), (3, 1), (4, 2), (6, 2), (8, 4), (12, 2), (14, 1), (15, 1), (16, 8), (24, 8), (32, 64)];
 
@@ -123,13 +156,17 @@ pub fn damaged(random: &mut Random) -> (Table, Vec<u8>) {
 /// Damages a valid table in one field: one byte of it, or the whole field set to an edge; now and then two things that would hide
 /// each other. The table may still be valid afterwards.
 pub fn damage(random: &mut Random, table: &mut Vec<u8>) {
+    damage_as(random, table, Form::Two);
+}
+
+fn damage_as(random: &mut Random, table: &mut Vec<u8>, form: Form) {
     let bodies = number_at(table, 0, 2) as usize;
-    let first_slot = HEAD + ENTRY * bodies;
+    let first_slot = HEAD + form.entry() * bodies;
     let slots = (table.len() - first_slot) / SLOT;
     let used: Vec<usize> = (0..slots).map(|slot| first_slot + SLOT * slot).filter(|&at| table[at] != 0).collect();
     let (base, fields): (usize, &[Span]) = match random.weighted(&[20, 25, 45, 10]) {
         0 => (0, &HEAD_FIELDS),
-        1 => (HEAD + ENTRY * random.below(bodies), &ENTRY_FIELDS),
+        1 => (HEAD + form.entry() * random.below(bodies), if form == Form::One { &ENTRY_FIELDS[..6] } else { &ENTRY_FIELDS }),
         2 if !used.is_empty() => (*random.pick(&used), &SLOT_FIELDS),
         _ => (first_slot + SLOT * random.below(slots), &SLOT_FIELDS),
     };
@@ -159,28 +196,30 @@ pub fn damage(random: &mut Random, table: &mut Vec<u8>) {
                 }
             }
         }
-        2 => edge(random, table, base, from),
-        _ => together(random, table, first_slot, &used),
+        2 => edge(random, table, first_slot, base, from),
+        _ => together(random, table, form, first_slot, &used),
     }
 }
 
 /// Sets a slot's field to a value at the edge of its range.
-fn edge(random: &mut Random, table: &mut [u8], base: usize, from: usize) {
-    if base < HEAD + ENTRY * number_at(table, 0, 2) as usize {
+fn edge(random: &mut Random, table: &mut [u8], first_slot: usize, base: usize, from: usize) {
+    if base < first_slot {
         let values: &[u64] = match (base, from) {
             (0, 0) => &[0, 1, 16, 17, 256],
-            (0, 2) => &[0, 2, 256],
-            (0, 4) => &[0, 65_536, 65_537, 1 << 24],
+            (0, 2) => &[0, 1, 2, 256],
+            (0, 4) => &[0, 65_536, 65_537, 65_792, 65_793, 1 << 24],
             (0, _) => &[0, 1],
             (_, 0) => &[0, 1, 15, 16, 17, 255],
             (_, 18) => &[0, 1, 512, 513, 65_535],
-            (_, 20) => &[0, 16, 48, u32::MAX as u64],
+            (_, 20) => &[0, 16, 48, 64, u32::MAX as u64],
+            (_, 24 | 32) => &[0, 1, 99_999_999_999, u64::MAX],
             _ => &[0, 1, b'0' as u64],
         };
         let &value = random.pick(values);
         let width = match (base, from) {
             (0, 0 | 2) | (_, 18) => 2,
             (0, 4) | (_, 20) => 4,
+            (_, 24 | 32) => 8,
             _ => 1,
         };
         table[base + from..base + from + width].copy_from_slice(&value.to_be_bytes()[8 - width..]);
@@ -207,13 +246,14 @@ fn edge(random: &mut Random, table: &mut [u8], base: usize, from: usize) {
 }
 
 /// Damage that takes two changes: what a sum, a count or a comparison would not see alone.
-fn together(random: &mut Random, table: &mut Vec<u8>, first_slot: usize, used: &[usize]) {
+fn together(random: &mut Random, table: &mut Vec<u8>, form: Form, first_slot: usize, used: &[usize]) {
+    let entry = form.entry();
     let add = |table: &mut [u8], place: usize, value: u64| {
         let sum = number_at(table, place, 8).wrapping_add(value);
         table[place..place + 8].copy_from_slice(&sum.to_be_bytes());
     };
     let slot = if used.is_empty() { first_slot } else { *random.pick(used) };
-    match random.below(12) {
+    match random.below(14) {
         // An amount and the total grow together, perhaps past the greatest amount.
         0 => {
             let &value = random.pick(&[1, 99_999_999_999, 1 << 40, 1 << 63]);
@@ -253,7 +293,13 @@ fn together(random: &mut Random, table: &mut Vec<u8>, first_slot: usize, used: &
         // Two bodies with one code.
         8 if number_at(table, 0, 2) > 1 => {
             let code: Vec<u8> = table[HEAD..HEAD + 17].to_vec();
-            table[HEAD + ENTRY..HEAD + ENTRY + 17].copy_from_slice(&code);
+            table[HEAD + entry..HEAD + entry + 17].copy_from_slice(&code);
+        }
+        // A line executed or waiting again, the kept totals left; or what is kept of one kind moved to the other.
+        11 if table[slot] != 0 => table[slot + 24] ^= 3,
+        12 if form == Form::Two => {
+            let at = HEAD + entry * random.below(number_at(table, 0, 2) as usize);
+            table[at + 24..at + 40].rotate_left(8);
         }
         // A longer or shorter buffer, with or without the head saying so.
         9 | 10 => {
@@ -273,10 +319,10 @@ fn together(random: &mut Random, table: &mut Vec<u8>, first_slot: usize, used: &
         _ => {
             if number_at(table, 0, 2) > 1 {
                 table[HEAD + 19] = table[HEAD + 19].wrapping_add(1);
-                table[HEAD + ENTRY + 19] = table[HEAD + ENTRY + 19].wrapping_sub(1);
+                table[HEAD + entry + 19] = table[HEAD + entry + 19].wrapping_sub(1);
                 if random.percent(50) {
-                    let place = number_at(table, HEAD + ENTRY + 20, 4) + SLOT as u64;
-                    table[HEAD + ENTRY + 20..HEAD + ENTRY + 24].copy_from_slice(&(place as u32).to_be_bytes());
+                    let place = number_at(table, HEAD + entry + 20, 4) + SLOT as u64;
+                    table[HEAD + entry + 20..HEAD + entry + 24].copy_from_slice(&(place as u32).to_be_bytes());
                 }
             }
         }

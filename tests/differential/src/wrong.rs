@@ -3,7 +3,7 @@
 //! The first five are document 01's "Errors we have seen made".
 
 use reference::table::{ENTRY, HEAD, SLOT, number_at};
-use reference::{Notice, State, Table, markup};
+use reference::{Form, Notice, State, Table, markup};
 
 use crate::engine::{Engine, Reference};
 
@@ -34,10 +34,16 @@ pub enum Fault {
     CentsOnRefusal,
     /// Line numbers are cut to a byte.
     LineCutToByte,
+    /// A reversal takes nothing back from what the entry keeps.
+    KeptNotTakenBack,
+    /// Kept totals are not looked at.
+    KeptIgnored,
+    /// A converted entry keeps zeros.
+    ConvertedWithoutTotals,
 }
 
 /// All of them.
-pub const FAULTS: [Fault; 12] = [
+pub const FAULTS: [Fault; 15] = [
     Fault::CodesAsIntegers,
     Fault::StaleAmounts,
     Fault::AnnulloByNumber,
@@ -50,6 +56,9 @@ pub const FAULTS: [Fault; 12] = [
     Fault::AnnulledNotUsed,
     Fault::CentsOnRefusal,
     Fault::LineCutToByte,
+    Fault::KeptNotTakenBack,
+    Fault::KeptIgnored,
+    Fault::ConvertedWithoutTotals,
 ];
 
 /// The reference with one fault.
@@ -87,10 +96,15 @@ impl Wrong {
         let mut mended = table.to_vec();
         if self.0 == Fault::EntryRestIgnored && table.len() > HEAD {
             for entry in mended[HEAD..].chunks_mut(ENTRY).take(number_at(table, 0, 2) as usize) {
-                if let Some(rest) = entry.get_mut(24..) {
+                if let Some(rest) = entry.get_mut(40..) {
                     rest.fill(0);
                 }
             }
+        }
+        if self.0 == Fault::KeptIgnored
+            && let Some(table) = settled(table)
+        {
+            mended = table;
         }
         mended
     }
@@ -104,6 +118,22 @@ impl Wrong {
     }
 }
 
+/// The table with the totals that its records have, where these can be read.
+fn settled(table: &[u8]) -> Option<Vec<u8>> {
+    let bodies = number_at(table.get(..HEAD)?, 0, 2) as usize;
+    let (mut old, rest) = (table[..HEAD].to_vec(), table.get(HEAD..HEAD + ENTRY * bodies)?);
+    let moved = 16 * bodies as u64;
+    old[3] ^= 3;
+    old[4..8].copy_from_slice(&(number_at(table, 4, 4).wrapping_sub(moved) as u32).to_be_bytes());
+    for entry in rest.chunks(ENTRY) {
+        old.extend(&entry[..20]);
+        old.extend((number_at(entry, 20, 4).wrapping_sub(moved) as u32).to_be_bytes());
+        old.extend(&entry[40..]);
+    }
+    old.extend(&table[HEAD + ENTRY * bodies..]);
+    Some(Table::decode_as(&old, Form::One)?.encode())
+}
+
 fn integer(code: &[u8]) -> Option<u64> {
     std::str::from_utf8(code).ok()?.parse().ok()
 }
@@ -115,6 +145,15 @@ impl Engine for Wrong {
 
     fn open(&self, request: &[u8], table: &mut [u8]) -> u64 {
         Reference.open(request, table)
+    }
+
+    fn convert(&self, old: &[u8], table: &mut [u8]) -> u64 {
+        let code = Reference.convert(old, table);
+        if self.0 == Fault::ConvertedWithoutTotals && code == 0 {
+            let bodies = number_at(table, 0, 2) as usize;
+            table[HEAD..].chunks_mut(ENTRY).take(bodies).for_each(|entry| entry[24..40].fill(0));
+        }
+        code
     }
 
     fn flow(
@@ -200,8 +239,13 @@ impl Engine for Wrong {
     }
 
     fn reverse(&self, table: &mut [u8], body: &[u8], notice: &Notice, cents: &mut u64) -> u64 {
+        let before = table.to_vec();
         let code = Reference.reverse(table, &self.code(table, body), &self.notice(notice), cents);
         self.cents(table, body, notice, code, cents);
+        if self.0 == Fault::KeptNotTakenBack && code == 0 {
+            let slots = HEAD + ENTRY * number_at(table, 0, 2) as usize;
+            table[..slots].copy_from_slice(&before[..slots]);
+        }
         code
     }
 

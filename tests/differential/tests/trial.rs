@@ -8,8 +8,16 @@ use differential::random::Random;
 use differential::wrong::{FAULTS, Fault, Wrong};
 use differential::{Call, Case, Engine, Reference, Yard, shrink, sweep};
 
-const THEMES: [Theme; 7] =
-    [Theme::WholeFlow, Theme::DamagedFlow, Theme::DamagedTable, Theme::Notices, Theme::Opening, Theme::Sequence, Theme::Fuzz];
+const THEMES: [Theme; 8] = [
+    Theme::WholeFlow,
+    Theme::DamagedFlow,
+    Theme::DamagedTable,
+    Theme::Notices,
+    Theme::Opening,
+    Theme::Conversion,
+    Theme::Sequence,
+    Theme::Fuzz,
+];
 
 fn cases_of(theme: Theme, count: u64) -> impl Iterator<Item = Case> {
     (0..count).map(move |index| cases::case(&mut Random::of_case(7, index), theme))
@@ -122,6 +130,9 @@ fn unwritten_results_are_found() {
         fn open(&self, request: &[u8], table: &mut [u8]) -> u64 {
             Reference.open(request, table)
         }
+        fn convert(&self, old: &[u8], table: &mut [u8]) -> u64 {
+            Reference.convert(old, table)
+        }
         fn flow(
             &self,
             table: &mut [u8],
@@ -144,7 +155,7 @@ fn unwritten_results_are_found() {
             Reference.totals(table, body, used, paid, collected, &mut 0)
         }
     }
-    let mut table = vec![0; 144];
+    let mut table = vec![0; 160];
     assert_eq!(reference::open(&reference::request(b"01234", &[(b"471", 1)]), &mut table), 0);
     let case = Case { table, calls: vec![Call::Totals { body: b"471".to_vec() }] };
     let found = Yard::default().compare(&Reference, &Forgetful, &case).expect("the balance isn't written");

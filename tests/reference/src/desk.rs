@@ -1,7 +1,7 @@
-//! The five calls.
+//! The six calls.
 
 use crate::fields::{self, FlowOrder, Operation};
-use crate::table::{Body, Kind, Line, Order, State, Table, number_at};
+use crate::table::{Body, Form, Kind, Line, Order, State, Table, number_at};
 use crate::{LONGEST_FLOW, MOST_ORDERS, OUTCOME, markup, structure, target};
 
 /// The answer to a flow.
@@ -91,6 +91,18 @@ fn opened(request: &[u8]) -> Option<Table> {
     }
     let table = Table { abi: abi.try_into().ok()?, bodies };
     table.stands().then_some(table)
+}
+
+/// Converts a table 1: writes it as a table 2 into a buffer of exactly the needed length. The answer is a code.
+pub fn convert(old: &[u8], table: &mut [u8]) -> u64 {
+    let Some(converted) = Table::decode_as(old, Form::One) else {
+        return 1;
+    };
+    if table.len() != converted.length() {
+        return 10;
+    }
+    table.copy_from_slice(&converted.encode());
+    0
 }
 
 /// The request that opens a table for these bodies (code, slots). Nothing is checked; a code longer than 16 bytes is cut.

@@ -1,4 +1,4 @@
-//! Document 01 written a second time.
+//! Documents 01 and 02 written a second time.
 //!
 //! This crate answers the order desk's calls from the words of document 01, of document 02 as far as its requests are in, and the
 //! readings of their open points, and from nothing else: it shares no line, no structure and no order of work with the library it is compared with. A flow is read into a
@@ -8,7 +8,7 @@
 //! ```
 //! use reference::{open, request, totals};
 //!
-//! let mut table = vec![0; 848];
+//! let mut table = vec![0; 880];
 //! assert_eq!(open(&request(b"01234", &[(b"000471", 4), (b"471", 4)]), &mut table), 0);
 //! assert_eq!(totals(&table, b"471").code, 0);
 //! assert_eq!(totals(&table, b"0471").code, 7);
@@ -21,8 +21,8 @@ pub mod structure;
 pub mod table;
 pub mod target;
 
-pub use desk::{FlowAnswer, Notice, NoticeAnswer, Totals, execute, flow, open, request, reverse, totals};
-pub use table::{Body, Date, Kind, Line, Order, State, Table};
+pub use desk::{FlowAnswer, Notice, NoticeAnswer, Totals, convert, execute, flow, open, request, reverse, totals};
+pub use table::{Body, Date, Form, Kind, Line, Order, State, Table};
 
 /// The most bytes a flow has.
 pub const LONGEST_FLOW: usize = 32_768;

@@ -1,4 +1,4 @@
-//! The table: plain structs, and their bytes.
+//! The table: plain structs, and their bytes, as table 1 (document 01) and as table 2 (document 02, Req 04) has them.
 //!
 //! A table's bytes are valid when the structs decoded from them keep the rules and encode to the very same bytes again. The second half
 //! stands for every byte that a rule fixes: zeros, places, lengths, lines that aren't there, empty slots after the used ones.
@@ -9,19 +9,46 @@ use crate::MOST_LINES;
 use crate::fields::body_code;
 
 /// The most bytes a table has.
-pub const LONGEST: usize = 65_536;
+pub const LONGEST: usize = 65_792;
 
 /// The bytes of the head.
 pub const HEAD: usize = 16;
 
 /// The bytes of a body's entry.
-pub const ENTRY: usize = 32;
+pub const ENTRY: usize = 48;
 
 /// The bytes of a slot.
 pub const SLOT: usize = 96;
 
 /// The greatest amount in cents that a field can write.
 pub const GREATEST_AMOUNT: u64 = 99_999_999_999;
+
+/// Which of the two forms a table's bytes have.
+#[derive(Clone, Copy, Debug, PartialEq, Eq)]
+pub enum Form {
+    /// Entries of 32 bytes, which keep no totals; only conversion takes it.
+    One = 1,
+    /// Entries of 48 bytes, which keep the cents paid and collected.
+    Two = 2,
+}
+
+impl Form {
+    /// The bytes of a body's entry.
+    pub fn entry(self) -> usize {
+        match self {
+            Form::One => 32,
+            Form::Two => ENTRY,
+        }
+    }
+
+    /// The most bytes a table has.
+    pub fn longest(self) -> usize {
+        match self {
+            Form::One => 65_536,
+            Form::Two => LONGEST,
+        }
+    }
+}
 
 /// An order table.
 #[derive(Clone, Debug, PartialEq, Eq)]
@@ -190,6 +217,12 @@ impl Order {
 }
 
 impl Body {
+    /// The cents of the executed lines of its orders of a kind.
+    pub fn cents(&self, kind: Kind) -> u64 {
+        let orders = self.orders.iter().filter(|order| order.kind == kind);
+        orders.flat_map(|order| &order.lines).filter(|line| line.executed).map(|line| line.amount).sum()
+    }
+
     fn stands(&self) -> bool {
         let mut keys = HashSet::new();
         body_code(&self.code).is_some()
@@ -201,8 +234,13 @@ impl Body {
 impl Table {
     /// The length of the bytes.
     pub fn length(&self) -> usize {
+        self.length_as(Form::Two)
+    }
+
+    /// The length of the bytes in a form.
+    pub fn length_as(&self, form: Form) -> usize {
         let slots: usize = self.bodies.iter().map(|body| body.slots).sum();
-        HEAD + ENTRY * self.bodies.len() + SLOT * slots
+        HEAD + form.entry() * self.bodies.len() + SLOT * slots
     }
 
     /// The body of this code.
@@ -217,30 +255,43 @@ impl Table {
 
     /// Whether the table keeps every rule that the encoding alone does not.
     pub fn stands(&self) -> bool {
+        self.stands_as(Form::Two)
+    }
+
+    fn stands_as(&self, form: Form) -> bool {
         let mut codes = HashSet::new();
         (1..=16).contains(&self.bodies.len())
             && self.abi.iter().all(u8::is_ascii_digit)
-            && self.length() <= LONGEST
+            && self.length_as(form) <= form.longest()
             && self.bodies.iter().all(Body::stands)
             && self.bodies.iter().all(|body| codes.insert(&body.code))
     }
 
     /// The bytes of the table.
     pub fn encode(&self) -> Vec<u8> {
+        self.encode_as(Form::Two)
+    }
+
+    /// The bytes of the table in a form.
+    pub fn encode_as(&self, form: Form) -> Vec<u8> {
         let mut bytes = Vec::new();
         bytes.extend((self.bodies.len() as u16).to_be_bytes());
-        bytes.extend(1u16.to_be_bytes());
-        bytes.extend((self.length() as u32).to_be_bytes());
+        bytes.extend((form as u16).to_be_bytes());
+        bytes.extend((self.length_as(form) as u32).to_be_bytes());
         bytes.extend(self.abi);
         bytes.resize(HEAD, 0);
-        let mut place = HEAD + ENTRY * self.bodies.len();
+        let mut place = HEAD + form.entry() * self.bodies.len();
         for body in &self.bodies {
-            let end = bytes.len() + ENTRY;
+            let (start, end) = (bytes.len(), bytes.len() + form.entry());
             bytes.push(body.code.len() as u8);
             bytes.extend(&body.code);
-            bytes.resize(end - ENTRY + 18, 0);
+            bytes.resize(start + 18, 0);
             bytes.extend((body.slots as u16).to_be_bytes());
             bytes.extend((place as u32).to_be_bytes());
+            if form == Form::Two {
+                bytes.extend(body.cents(Kind::Mandato).to_be_bytes());
+                bytes.extend(body.cents(Kind::Reversale).to_be_bytes());
+            }
             bytes.resize(end, 0);
             place += SLOT * body.slots;
         }
@@ -254,12 +305,17 @@ impl Table {
 
     /// The table that these bytes are; `None` when they are no valid table.
     pub fn decode(bytes: &[u8]) -> Option<Table> {
+        Table::decode_as(bytes, Form::Two)
+    }
+
+    /// The table that these bytes of a form are; `None` when they are no valid table of it.
+    pub fn decode_as(bytes: &[u8], form: Form) -> Option<Table> {
         let (head, mut rest) = bytes.split_at_checked(HEAD)?;
         let count = number_at(head, 0, 2) as usize;
         let mut bodies = Vec::new();
         for _ in 0..count {
             let entry;
-            (entry, rest) = rest.split_at_checked(ENTRY)?;
+            (entry, rest) = rest.split_at_checked(form.entry())?;
             bodies.push(Body {
                 code: entry[1..17].get(..usize::from(entry[0]))?.to_vec(),
                 slots: number_at(entry, 18, 2) as usize,
@@ -274,7 +330,7 @@ impl Table {
             }
         }
         let table = Table { abi: head[8..13].try_into().ok()?, bodies };
-        (table.stands() && table.encode() == bytes).then_some(table)
+        (table.stands_as(form) && table.encode_as(form) == bytes).then_some(table)
     }
 }
 
@@ -313,18 +369,18 @@ mod tests {
     #[test]
     fn the_layout_example() {
         let bytes = two_bodies().encode();
-        assert_eq!(bytes.len(), 848);
-        assert_eq!(&bytes[..16], b"\0\x02\0\x01\0\0\x03\x5001234\0\0\0");
-        assert_eq!(&bytes[16..40], b"\x06000471\0\0\0\0\0\0\0\0\0\0\0\0\x04\0\0\0\x50");
-        assert_eq!(&bytes[48..72], b"\x03471\0\0\0\0\0\0\0\0\0\0\0\0\0\0\0\x04\0\0\x01\xD0");
-        assert_eq!(number_at(&bytes, 68, 4), 464);
+        assert_eq!(bytes.len(), 880);
+        assert_eq!(&bytes[..16], b"\0\x02\0\x02\0\0\x03\x7001234\0\0\0");
+        assert_eq!(&bytes[16..40], b"\x06000471\0\0\0\0\0\0\0\0\0\0\0\0\x04\0\0\0\x70");
+        assert_eq!(&bytes[64..88], b"\x03471\0\0\0\0\0\0\0\0\0\0\0\0\0\0\0\x04\0\0\x01\xF0");
+        assert_eq!(number_at(&bytes, 84, 4), 496);
         assert_eq!(Table::decode(&bytes), Some(two_bodies()));
     }
 
     #[test]
     fn a_record_at_its_place() {
         let bytes = with_order().encode();
-        let slot = &bytes[464..560];
+        let slot = &bytes[496..592];
         assert_eq!(&slot[..16], b"\x01\x01\x02\0\x07\xE5\0\0\0\0\0\x0C\x07\xE5\x03\x01");
         assert_eq!(number_at(slot, 16, 8), 15_000);
         assert_eq!(&slot[24..32], &[1, 1, 0, 0, 0, 0, 0, 0]);
@@ -338,9 +394,9 @@ mod tests {
     fn every_byte_of_a_table_with_its_lowest_bit_changed() {
         // The digits of the ABI, the characters of the codes, and the record's esercizio, number, year and month (2 for 3).
         let free = |at: usize| match at {
-            8..=12 | 17..=22 | 49..=51 => true,
-            _ if at < 464 => false,
-            _ => matches!(at - 464, 5 | 9..=11 | 13 | 14),
+            8..=12 | 17..=22 | 65..=67 => true,
+            _ if at < 496 => false,
+            _ => matches!(at - 496, 5 | 9..=11 | 13 | 14),
         };
         let bytes = with_order().encode();
         for at in 0..bytes.len() {
@@ -360,33 +416,56 @@ mod tests {
         not_valid(Vec::clear);
         not_valid(|bytes| bytes.truncate(15));
         not_valid(|bytes| bytes.push(0));
-        not_valid(|bytes| bytes.truncate(847));
-        not_valid(|bytes| bytes[464] = 3);
-        not_valid(|bytes| bytes[465] = 3);
-        not_valid(|bytes| bytes[466] = 0);
-        not_valid(|bytes| bytes[466] = 9);
-        not_valid(|bytes| bytes[464 + 24] = 0);
-        not_valid(|bytes| bytes[464 + 26] = 1);
-        not_valid(|bytes| bytes[464 + 95] = 1);
-        not_valid(|bytes| bytes[464 + 4..464 + 6].copy_from_slice(&1999u16.to_be_bytes()));
-        not_valid(|bytes| bytes[464 + 8..464 + 12].fill(0));
-        not_valid(|bytes| bytes[464 + 9] = 0x99);
-        not_valid(|bytes| bytes[464 + 15] = 32);
-        not_valid(|bytes| bytes[847] = 1);
+        not_valid(|bytes| bytes.truncate(879));
+        not_valid(|bytes| bytes[496] = 3);
+        not_valid(|bytes| bytes[497] = 3);
+        not_valid(|bytes| bytes[498] = 0);
+        not_valid(|bytes| bytes[498] = 9);
+        not_valid(|bytes| bytes[496 + 24] = 0);
+        not_valid(|bytes| bytes[496 + 26] = 1);
+        not_valid(|bytes| bytes[496 + 95] = 1);
+        not_valid(|bytes| bytes[496 + 4..496 + 6].copy_from_slice(&1999u16.to_be_bytes()));
+        not_valid(|bytes| bytes[496 + 8..496 + 12].fill(0));
+        not_valid(|bytes| bytes[496 + 9] = 0x99);
+        not_valid(|bytes| bytes[496 + 15] = 32);
+        not_valid(|bytes| bytes[879] = 1);
         // An annulled order has every line waiting.
         not_valid(|bytes| {
-            bytes[465] = 2;
-            bytes[464 + 24] = 2;
+            bytes[497] = 2;
+            bytes[496 + 24] = 2;
         });
         // An empty slot before a used one.
-        not_valid(|bytes| bytes.copy_within(464..560, 560 + 96));
+        not_valid(|bytes| bytes.copy_within(496..592, 592 + 96));
         // Two records of one body with the same key.
-        not_valid(|bytes| bytes.copy_within(464..560, 560));
+        not_valid(|bytes| bytes.copy_within(496..592, 592));
         // A sum that is right only when it wraps.
         not_valid(|bytes| {
-            bytes[464 + 32..464 + 40].copy_from_slice(&u64::MAX.to_be_bytes());
-            bytes[464 + 40..464 + 48].copy_from_slice(&15_001u64.to_be_bytes());
+            bytes[496 + 32..496 + 40].copy_from_slice(&u64::MAX.to_be_bytes());
+            bytes[496 + 40..496 + 48].copy_from_slice(&15_001u64.to_be_bytes());
         });
+    }
+
+    #[test]
+    fn kept_totals_agree() {
+        let mut table = with_order();
+        table.bodies[1].orders[0].lines[1].executed = true;
+        let bytes = table.encode();
+        assert_eq!((number_at(&bytes, 64 + 24, 8), number_at(&bytes, 64 + 32, 8)), (5_000, 0));
+        assert_eq!(Table::decode(&bytes), Some(table));
+        for at in 24..48 {
+            let mut changed = bytes.clone();
+            changed[64 + at] ^= 1;
+            assert_eq!(Table::decode(&changed), None, "byte {at} of the entry");
+        }
+    }
+
+    #[test]
+    fn the_two_forms() {
+        let old = with_order().encode_as(Form::One);
+        assert_eq!(old.len(), 848);
+        assert_eq!(Table::decode_as(&old, Form::One), Some(with_order()));
+        assert_eq!(Table::decode(&old), None);
+        assert_eq!(Table::decode_as(&with_order().encode(), Form::One), None);
     }
 
     #[test]
@@ -406,10 +485,15 @@ mod tests {
         table.bodies[0].slots = 168;
         table.bodies[1].slots = 512;
         assert!(stands(&table));
+        let old = |table: &Table| Table::decode_as(&table.encode_as(Form::One), Form::One).is_some();
         table.bodies[0].slots = 169;
-        assert!(stands(&table), "80 + 96 * 681 = 65,456");
+        assert!(stands(&table) && old(&table), "80 + 96 * 681 = 65,456");
         table.bodies[0].slots = 170;
-        assert!(!stands(&table), "80 + 96 * 682 = 65,552");
+        assert!(stands(&table) && !old(&table), "80 + 96 * 682 = 65,552");
+        table.bodies[0].slots = 172;
+        assert!(stands(&table), "112 + 96 * 684 = 65,776");
+        table.bodies[0].slots = 173;
+        assert!(!stands(&table), "112 + 96 * 685 = 65,872");
         table.bodies.clear();
         assert!(!stands(&table));
         table.bodies = (0..17u8).map(|index| body(&[b'a' + index], 1)).collect();

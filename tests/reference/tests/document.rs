@@ -1,6 +1,8 @@
 //! Document 01 case by case: the run, the marked cases, the layout, the step table, the order of refusals.
 
-use reference::{FlowAnswer, Notice, NoticeAnswer, Table, Totals, execute, flow, open, request, reverse, totals};
+use reference::{
+    Body, FlowAnswer, Form, Notice, NoticeAnswer, Table, Totals, convert, execute, flow, open, request, reverse, totals,
+};
 
 type Line<'a> = (&'a str, &'a str, &'a str);
 
@@ -45,7 +47,7 @@ fn whole(body: &str, orders: &[String]) -> String {
 }
 
 fn fresh() -> Vec<u8> {
-    let mut table = vec![0xEE; 848];
+    let mut table = vec![0xEE; 880];
     assert_eq!(open(&request(b"01234", &[(b"000471", 4), (b"471", 4)]), &mut table), 0);
     table
 }
@@ -108,7 +110,7 @@ fn p10_two_bodies() {
     assert_eq!(codes(&mut table, &whole("000471", &orders)), [0; 4]);
     assert_eq!(codes(&mut table, &whole("471", &orders)), [0; 4]);
     assert_eq!(codes(&mut table, &whole("471", &[mandato("INSERIMENTO", "5", "1.00", ONE)])), [15]);
-    let mut alone = vec![0; 16 + 32 + 96];
+    let mut alone = vec![0; 16 + 48 + 96];
     assert_eq!(open(&request(b"01234", &[(b"471", 1)]), &mut alone), 0);
     assert_eq!(refusal(&alone, whole("000471", &orders[..1]).as_bytes(), 16), (7, 0));
     assert_eq!(codes(&mut alone, &whole("471", &orders[..1])), [0]);
@@ -202,8 +204,11 @@ fn notices_and_totals() {
         let before = table.clone();
         let call = if execution { execute } else { reverse };
         let answer = call(&mut table, body.as_bytes(), &notice);
-        let changed = before.iter().zip(&table).filter(|(old, new)| old != new).count();
+        // One byte of a slot, and what the entry of 471 keeps.
+        let changed = before[112..].iter().zip(&table[112..]).filter(|(old, new)| old != new).count();
         assert_eq!(changed, usize::from(answer.code == 0));
+        assert!(before[..88] == table[..88] && before[104..112] == table[104..112]);
+        assert_eq!(before[88..104] != table[88..104], answer.cents != 0);
         assert!(answer.code == 0 || answer.cents == 0);
         (answer.code, answer.cents)
     };
@@ -233,7 +238,7 @@ fn notices_and_totals() {
     let expected = Totals { code: 0, used: 3, paid: 100, collected: 40, balance: -60 };
     assert_eq!(totals(&table, b"471"), expected);
     assert_eq!(totals(&table, b"47"), Totals { code: 7, ..Totals::default() });
-    table[3] = 2;
+    table[3] = 1;
     assert_eq!(totals(&table, b"471"), Totals { code: 1, ..Totals::default() });
     assert_eq!(execute(&mut table, b"none", &notice(1, 1, 1)).code, 1);
 }
@@ -330,26 +335,58 @@ fn opening() {
         assert!(code == 0 || table.iter().all(|&byte| byte == 0xEE));
         code
     };
-    assert_eq!(answer(&good, 848), 0);
-    for length in [0, 847, 849] {
+    assert_eq!(answer(&good, 880), 0);
+    for length in [0, 879, 881] {
         assert_eq!(answer(&good, length), 10);
     }
     for (at, byte) in [(0, b'a'), (5, 0), (5, 17), (5, 5), (5, 7), (6, b' '), (12, b'1'), (22, 1), (23, 2), (23, 255)] {
         let mut wrong = good.clone();
         wrong[at] = byte;
-        assert_eq!(answer(&wrong, 848), 9, "byte {at}");
+        assert_eq!(answer(&wrong, 880), 9, "byte {at}");
     }
     for length in [0, 4, 5, 24, 44] {
-        assert_eq!(answer(&good[..length], 848), 9);
+        assert_eq!(answer(&good[..length], 880), 9);
     }
-    assert_eq!(answer(&request(b"01234", &[(b"471", 4), (b"471", 4)]), 848), 9);
-    assert_eq!(answer(&request(b"01234", &[(b"471", 0)]), 48), 9);
-    assert_eq!(answer(&request(b"01234", &[(b"471", 513)]), 48 + 96 * 513), 9);
-    assert_eq!(answer(&request(b"01234", &[(b"471", 512)]), 48 + 96 * 512), 0);
-    assert_eq!(answer(&request(b"01234", &[(b"A", 512), (b"a", 169)]), 80 + 96 * 681), 0);
-    assert_eq!(answer(&request(b"01234", &[(b"A", 512), (b"a", 170)]), 80 + 96 * 682), 9);
+    assert_eq!(answer(&request(b"01234", &[(b"471", 4), (b"471", 4)]), 880), 9);
+    assert_eq!(answer(&request(b"01234", &[(b"471", 0)]), 64), 9);
+    assert_eq!(answer(&request(b"01234", &[(b"471", 513)]), 64 + 96 * 513), 9);
+    assert_eq!(answer(&request(b"01234", &[(b"471", 512)]), 64 + 96 * 512), 0);
+    assert_eq!(answer(&request(b"01234", &[(b"A", 512), (b"a", 172)]), 112 + 96 * 684), 0);
+    assert_eq!(answer(&request(b"01234", &[(b"A", 512), (b"a", 173)]), 112 + 96 * 685), 9);
     let many: Vec<[u8; 1]> = (b'a'..b'a' + 17).map(|letter| [letter]).collect();
     let bodies: Vec<(&[u8], u16)> = many.iter().map(|code| (&code[..], 1)).collect();
-    assert_eq!(answer(&request(b"01234", &bodies), 16 + 128 * 17), 9);
-    assert_eq!(answer(&request(b"01234", &bodies[1..]), 16 + 128 * 16), 0);
+    assert_eq!(answer(&request(b"01234", &bodies), 16 + 144 * 17), 9);
+    assert_eq!(answer(&request(b"01234", &bodies[1..]), 16 + 144 * 16), 0);
+}
+
+#[test]
+fn conversion() {
+    let mut table = fresh();
+    codes(
+        &mut table,
+        &whole("000471", &[mandato("INSERIMENTO", "12", "150.00", &[("1", "100.00", "Rossi"), ("2", "50.00", "Bianchi")])]),
+    );
+    execute(&mut table, b"000471", &notice(1, 12, 2));
+    let old = Table::decode(&table).unwrap().encode_as(Form::One);
+    let answer = |old: &[u8], length: usize| {
+        let mut converted = vec![0xEE; length];
+        let code = convert(old, &mut converted);
+        assert!(code == 0 || converted.iter().all(|&byte| byte == 0xEE));
+        (code, converted)
+    };
+    assert_eq!(answer(&old, 880), (0, table.clone()));
+    for length in [0, 848, 879, 881] {
+        assert_eq!(answer(&old, length).0, 10);
+    }
+    // A table 2 is no table 1; 1 comes before 10.
+    assert_eq!(answer(&table, 912).0, 1);
+    for at in [3, 7, 39, 40, 47, 80, 104, 847] {
+        let mut damaged = old.clone();
+        damaged[at] ^= 4;
+        assert_eq!((answer(&damaged, 880).0, answer(&damaged, 0).0), (1, 1), "byte {at}");
+    }
+    // The longest table 1 has room as a table 2.
+    let empty = |code: &[u8], slots| Body { code: code.to_vec(), slots, orders: Vec::new() };
+    let longest = Table { abi: *b"01234", bodies: vec![empty(b"A", 512), empty(b"a", 169)] };
+    assert_eq!(answer(&longest.encode_as(Form::One), longest.length()), (0, longest.encode()));
 }

@@ -1,4 +1,5 @@
 use native.Mathlib.Omega.{arith}
+use Rattle.table.specs.Table.{table2}
 use Rattle.table.proofs.Laws.{head, table}
 use borrow.Author.Needs.{needs}
 use Rattle.cases_table.proofs.say_bodies.Statement.{statement}
@@ -13,7 +14,7 @@ use Rattle.table.proofs.body_count.Reads as body-count-reads
 body-count-requires : tie.Need-body-count-requires
 body-count-requires c κs =
     let t = c .before .args .t .now in
-    let h = head t (table t (c .before .pre) .head-ok) in
+    let h = head table2 t (table table2 t (c .before .pre) .head-ok) in
     h .long
 
 slice-aggregate-say : tie.Need-slice-aggregate-say
@@ -34,7 +35,7 @@ say-requires-2 c κs = search needs
 sub-place-of : tie.Need-sub-place-of
 sub-place-of c =
     let t = c .before .before .before .before .before .before .before .args .t .now in
-    let h = head t (table t (c .before .before .before .before .before .before .before .pre) .head-ok) in
+    let h = head table2 t (table table2 t (c .before .before .before .before .before .before .before .pre) .head-ok) in
     omega (arith, h .some)
 
 mul-place-of : tie.Need-mul-place-of
@@ -46,7 +47,7 @@ add-place-of c = search needs
 place-of-requires : tie.Need-place-of-requires
 place-of-requires c κs =
     let t = c .before .before .before .before .before .before .before .args .t .now in
-    let h = head t (table t (c .before .before .before .before .before .before .before .pre) .head-ok) in
+    let h = head table2 t (table table2 t (c .before .before .before .before .before .before .before .pre) .head-ok) in
     omega (arith, h .some, h .room)
 
 say-number-requires-2 : tie.Need-say-number-requires-2

@@ -2,6 +2,7 @@ use borrow.Author.Needs.{needs}
 use native.Mathlib.Omega.{arith}
 use borrow.Author.Tests.{not-true, not-false}
 use Rattle.rows.specs.declared.Parent.the-variants.{FlussoOrdinativi}
+use Rattle.table.specs.Table.{table2}
 use Rattle.table.proofs.Laws.{head, table}
 use Rattle.flow.proofs.Laws.{flow-stood}
 use Rattle.serving.specs.Served.{ordersFrom}
@@ -24,12 +25,12 @@ sub-same c = search needs
 
 part-same-start : tie.Need-part-same-start
 part-same-start c =
-    let l = head (c .before .before .before .before .before .before .before .before .before .args .t .now) (table (c .before .before .before .before .before .before .before .before .before .args .t .now) (c .before .before .before .before .before .before .before .before .before .pre .0) .head-ok) .long in
+    let l = head table2 (c .before .before .before .before .before .before .before .before .before .args .t .now) (table table2 (c .before .before .before .before .before .before .before .before .before .args .t .now) (c .before .before .before .before .before .before .before .before .before .pre .0) .head-ok) .long in
     omega arith
 
 part-same-end : tie.Need-part-same-end
 part-same-end c =
-    let l = head (c .before .before .before .before .before .before .before .before .before .args .t .now) (table (c .before .before .before .before .before .before .before .before .before .args .t .now) (c .before .before .before .before .before .before .before .before .before .pre .0) .head-ok) .long in
+    let l = head table2 (c .before .before .before .before .before .before .before .before .before .args .t .now) (table table2 (c .before .before .before .before .before .before .before .before .before .args .t .now) (c .before .before .before .before .before .before .before .before .before .pre .0) .head-ok) .long in
     omega arith
 
 same-requires : tie.Need-same-requires

@@ -1,32 +1,49 @@
-use native.Mathlib.Omega.{arith}
-use Rattle.notices.proofs.Laws.{totals-made, difference-kept}
 use borrow.Author.Needs.{needs}
+use mathlib.Core.Path.{_∙_}
+use native.Mathlib.Omega.{arith}
+use Rattle.notices.proofs.Laws.{totals-made, difference-kept, paid-is, collected-is, few-cents}
 use Rattle.notices.proofs.body_totals.Statement.{statement}
 use Rattle.notices.proofs.body_totals.Tie as tie
 
 used-slots-requires : tie.Need-used-slots-requires
 used-slots-requires c κs = search needs
 
-cents-of-requires : tie.Need-cents-of-requires
-cents-of-requires c κs = search needs
+add-read8 : tie.Need-add-read8
+add-read8 c = search needs
 
-cents-of-requires-2 : tie.Need-cents-of-requires-2
-cents-of-requires-2 c κs = search needs
+read8-requires : tie.Need-read8-requires
+read8-requires c κs = search needs
+
+add-read8-2 : tie.Need-add-read8-2
+add-read8-2 c = search needs
+
+read8-requires-2 : tie.Need-read8-requires-2
+read8-requires-2 c κs = search needs
 
 difference-requires : tie.Need-difference-requires
-difference-requires c κs = search needs
+difference-requires c κs =
+    let p = c .before .read8 .ensures ∙ paid-is (c .before .before .before .before .pre) in
+    let q = c .read82 .ensures ∙ collected-is (c .before .before .before .before .pre) in
+    let a = few-cents (c .before .before .before .before .pre) 1 in
+    let b = few-cents (c .before .before .before .before .pre) 2 in
+    (omega arith, omega arith)
 
 returns : tie.Need-returns
 returns c =
-    totals-made (c .before .before .before .before .before .args .t .now) (c .before .before .before .before .before .args .base) (c .before .before .before .before .before .args .n) (c .before .before .before .used-slots .ensures) (c .before .before .cents-of .ensures .0) (c .before .cents-of2 .ensures .0)
-    (difference-kept (c .before .cents-of2 .result) (c .before .before .cents-of .result) (omega arith) (omega arith) (c .difference .ensures))
+    let p = c .before .before .read8 .ensures ∙ paid-is (c .before .before .before .before .before .pre) in
+    let q = c .before .read82 .ensures ∙ collected-is (c .before .before .before .before .before .pre) in
+    let a = few-cents (c .before .before .before .before .before .pre) 1 in
+    let b = few-cents (c .before .before .before .before .before .pre) 2 in
+    totals-made (c .before .before .before .before .before .args .t .now) (c .before .before .before .before .before .args .base) (c .before .before .before .before .before .args .n) (c .before .before .before .used-slots .ensures) p q (difference-kept (c .before .read82 .result) (c .before .before .read8 .result) (omega arith) (omega arith) (c .difference .ensures))
 
 pub body-totals-spec : {M : Type 1} → statement M
 body-totals-spec =
     tie.close
     (tie.spec
     used-slots-requires
-    cents-of-requires
-    cents-of-requires-2
+    add-read8
+    read8-requires
+    add-read8-2
+    read8-requires-2
     difference-requires
     returns)

@@ -1,26 +1,22 @@
+use borrow.Author.Needs.{needs}
 use mathlib.Core.Path.{sym, _∙_}
+use native.Mathlib.Omega.{arith}
 use borrow.Author.Tests.{not-true, not-false}
 use Rattle.table.proofs.Laws.{entry-form, entry-place, entry-rest}
-use borrow.Author.Needs.{needs}
 use Rattle.table.proofs.entry_ok.Statement.{statement}
 use Rattle.table.proofs.entry_ok.Tie as tie
-use Rattle.table.proofs.entry_ok.Reads as reads
-use Rattle.table.proofs.entry_ok.Lts as lts
-use Rattle.entries.proofs.form_ok.Reads as form-ok-reads
-use Rattle.entries.proofs.place_of.Reads as place-of-reads
-use Rattle.ranges.proofs.are_zero.Reads as are-zero-reads
 
 form-ok-requires : tie.Need-form-ok-requires
 form-ok-requires c κs = search needs
 
 returns : tie.Need-returns
-returns c = sym (entry-form (c .before .before .before .args .t .now) (c .before .before .before .args .at) (c .before .before .before .args .p) (sym (c .before .form-ok .ensures) ∙ not-true _ (c .if1 .taken)))
+returns c = sym (entry-form (c .before .before .before .args .l) (c .before .before .before .args .t .now) (c .before .before .before .args .at) (c .before .before .before .args .p) (sym (c .before .form-ok .ensures) ∙ not-true _ (c .if1 .taken)))
 
 place-of-requires : tie.Need-place-of-requires
 place-of-requires c κs = search needs
 
 returns-2 : tie.Need-returns-2
-returns-2 c = sym (entry-place (c .before .before .before .before .before .args .t .now) (c .before .before .before .before .before .args .at) (c .before .before .before .before .before .args .p) (sym (c .before .before .before .form-ok .ensures) ∙ not-false _ (c .before .before .if1 .left)) (c .before .place-of .result) (c .before .place-of .ensures .0) (c .if2 .taken))
+returns-2 c = sym (entry-place (c .before .before .before .before .before .args .l) (c .before .before .before .before .before .args .t .now) (c .before .before .before .before .before .args .at) (c .before .before .before .before .before .args .p) (sym (c .before .before .before .form-ok .ensures) ∙ not-false _ (c .before .before .if1 .left)) (c .before .place-of .result) (c .before .place-of .ensures .0) (c .if2 .taken))
 
 add-are-zero : tie.Need-add-are-zero
 add-are-zero c = search needs
@@ -32,7 +28,7 @@ are-zero-requires : tie.Need-are-zero-requires
 are-zero-requires c κs = search needs
 
 returns-3 : tie.Need-returns-3
-returns-3 c = c .are-zero .ensures ∙ sym (entry-rest (c .before .before .before .before .before .before .args .t .now) (c .before .before .before .before .before .before .args .at) (c .before .before .before .before .before .before .args .p) (sym (c .before .before .before .before .form-ok .ensures) ∙ not-false _ (c .before .before .before .if1 .left)) (c .before .before .place-of .result) (c .before .before .place-of .ensures .0) (c .before .if2 .left))
+returns-3 c = c .are-zero .ensures ∙ sym (entry-rest (c .before .before .before .before .before .before .before .before .args .l) (c .before .before .before .before .before .before .before .before .args .t .now) (c .before .before .before .before .before .before .before .before .args .at) (c .before .before .before .before .before .before .before .before .args .p) (sym (c .before .before .before .before .before .before .form-ok .ensures) ∙ not-false _ (c .before .before .before .before .before .if1 .left)) (c .before .before .before .before .place-of .result) (c .before .before .before .before .place-of .ensures .0) (c .before .before .before .if2 .left))
 
 pub entry-ok-spec : {M : Type 1} → statement M
 entry-ok-spec =

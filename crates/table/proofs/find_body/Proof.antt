@@ -2,7 +2,7 @@ use Prim.Native.Nat.{ℕ, _-_}
 use mathlib.Core.Path.{ap, _∙_}
 use native.Mathlib.Omega.{arith}
 use Rattle.entries.specs.Entry.{entrySize, codesFrom, findCode, formsOk}
-use Rattle.table.specs.Table.{headSize}
+use Rattle.table.specs.Table.{table2, headSize}
 use Rattle.table.proofs.Laws.{head, table}
 use Rattle.table.proofs.find_body.Statement.{statement}
 use Rattle.table.proofs.find_body.Tie as tie
@@ -14,15 +14,15 @@ use Rattle.table.proofs.body_count.Reads as body-count-reads
 body-count-requires : tie.Need-body-count-requires
 body-count-requires c κs =
     let t = c .before .before .args .t .now in
-    let w = table t (c .before .before .pre) in
-    let h = head t (w .head-ok) in
+    let w = table table2 t (c .before .before .pre) in
+    let h = head table2 t (w .head-ok) in
     h .long
 
 find-code-requires : tie.Need-find-code-requires
 find-code-requires c κs =
     let t = c .before .before .before .args .t .now in
-    let w = table t (c .before .before .before .pre) in
-    let h = head t (w .head-ok) in
+    let w = table table2 t (c .before .before .before .pre) in
+    let h = head table2 t (w .head-ok) in
     let e = c .body-count .ensures .0 in
     (omega arith, omega (arith, h .room), ap (λ (n : ℕ). formsOk entrySize t headSize n) e ∙ w .forms)
 

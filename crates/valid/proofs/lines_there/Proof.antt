@@ -1,18 +1,28 @@
 use borrow.Author.Needs.{needs}
-use Prim.Native.Nat.{_-_, _≤_}
-use mathlib.Core.Path.{_≡_, sym, ap, _∙_}
+use Prim.Native.Nat.{ℕ, _+_, _-_, _≤_}
+use mathlib.Core.Path.{_≡_, refl, sym, ap, _∙_}
+use mathlib.Core.Bool.{Bool, cond}
+use lib.Dec.{eqb}
 use native.Mathlib.Omega.{arith}
+use lib.ListN.{getD, drop}
 use borrow.Author.Tests.{not-true, not-false}
 use Rattle.record.specs.Slot.{recordAt}
-use Rattle.valid.proofs.Lines.{leftOk, left-all, there-stop, over-stop, there-go, there-done}
+use Rattle.valid.specs.Valid.{executedIn, executed}
+use Rattle.valid.specs.Inner.{told}
+use Rattle.valid.proofs.Laws.{executed-sum}
+use Rattle.valid.proofs.Lines.{leftOk, left-all, there-stop, over-stop, there-go, there-cents, there-done, lines-told}
 use Rattle.valid.proofs.lines_there.Statement.{statement}
 use Rattle.valid.proofs.lines_there.Tie as tie
 
 abbrev Inv-loop : tie.InvT-loop
-Inv-loop t at lines annulled rest₀ k₀ rest k = (k ≤ lines) × (leftOk (recordAt t at) lines 0 (recordAt t at .total) ≡ leftOk (recordAt t at) lines k rest)
+Inv-loop t at lines annulled rest₀ cents₀ k₀ rest cents k =
+    (k ≤ lines)
+    × (cents + rest ≤ 18446744073709551615)
+    × (executed (recordAt t at) ≡ cents + executedIn (drop k (recordAt t at .states)) (drop k (recordAt t at .amounts)))
+    × (leftOk (recordAt t at) lines 0 (recordAt t at .total) ≡ leftOk (recordAt t at) lines k rest)
 
 abbrev μ-loop : tie.MeasureT-loop
-μ-loop t at lines annulled rest₀ k₀ rest k = lines - k
+μ-loop t at lines annulled rest₀ cents₀ k₀ rest cents k = lines - k
 
 add-annulled : tie.Need-add-annulled Inv-loop μ-loop
 add-annulled c = search needs
@@ -28,7 +38,9 @@ read8-requires c κs = search needs
 
 loop-holds : tie.Need-loop-holds Inv-loop μ-loop
 unfolding recordAt
-loop-holds c = (omega arith, ap (leftOk (recordAt (c .before .before .before .args .t .now) (c .before .before .before .args .at)) (c .before .before .before .args .lines) 0) (sym (c .read8 .ensures)))
+loop-holds c =
+    let e = c .read8 .ensures in
+    (omega arith, omega arith, omega arith, ap (leftOk (recordAt (c .before .before .before .args .t .now) (c .before .before .before .args .at)) (c .before .before .before .args .lines) 0) (sym e))
 
 add-read8-2 : tie.Need-add-read8-2 Inv-loop μ-loop
 add-read8-2 c = search needs
@@ -42,23 +54,29 @@ add-read8-3 c = search needs
 read8-requires-2 : tie.Need-read8-requires-2 Inv-loop μ-loop
 read8-requires-2 c κs = search needs
 
-add-line-there : tie.Need-add-line-there Inv-loop μ-loop
-add-line-there c = search needs
+add-state : tie.Need-add-state Inv-loop μ-loop
+add-state c = search needs
 
-add-line-there-2 : tie.Need-add-line-there-2 Inv-loop μ-loop
-add-line-there-2 c = search needs
+add-state-2 : tie.Need-add-state-2 Inv-loop μ-loop
+add-state-2 c = search needs
 
-shared-slice-read-line-there : tie.Need-shared-slice-read-line-there Inv-loop μ-loop
-shared-slice-read-line-there c = search needs
+shared-slice-read-state : tie.Need-shared-slice-read-state Inv-loop μ-loop
+shared-slice-read-state c = search needs
 
 line-there-requires : tie.Need-line-there-requires Inv-loop μ-loop
 line-there-requires c κs = search needs
 
 returns : tie.Need-returns Inv-loop μ-loop
-returns c = sym (sym (left-all (recordAt (c .before .before .before .before .before .before .before .before .before .args .t .now) (c .before .before .before .before .before .before .before .before .before .args .at)) (c .before .before .before .before .before .before .before .before .before .args .lines)) ∙ c .before .before .before .before .before .loop .inv .1 ∙ there-stop (c .before .before .before .before .before .before .before .before .before .args .t .now) (c .before .before .before .before .before .before .before .before .before .args .at) (c .before .before .before .before .before .before .before .before .before .args .lines) (c .before .before .before .before .before .loop .k) (c .before .before .before .before .before .loop .rest) (c .before .before .before .read82 .result) (omega arith) (omega arith) (c .before .before .before .before .before .before .before .before .before .pre .2) (c .before .before .before .read82 .ensures) (sym (c .before .line-there .ensures) ∙ not-true _ (c .if1 .taken)))
+returns c = lines-told (recordAt (c .before .before .before .before .before .before .before .before .before .args .t .now) (c .before .before .before .before .before .before .before .before .before .args .at)) (c .before .before .before .before .before .before .before .before .before .args .lines) (c .before .before .before .before .before .loop .inv .3 ∙ there-stop (c .before .before .before .before .before .before .before .before .before .args .t .now) (c .before .before .before .before .before .before .before .before .before .args .at) (c .before .before .before .before .before .before .before .before .before .args .lines) (c .before .before .before .before .before .loop .k) (c .before .before .before .before .before .loop .rest) (c .before .before .before .read82 .result) (omega arith) (omega arith) (c .before .before .before .before .before .before .before .before .before .pre .2) (c .before .before .before .read82 .ensures) (sym (c .before .line-there .ensures) ∙ not-true _ (c .if1 .taken)))
 
 returns-2 : tie.Need-returns-2 Inv-loop μ-loop
-returns-2 c = sym (sym (left-all (recordAt (c .before .before .before .before .before .before .before .before .before .before .args .t .now) (c .before .before .before .before .before .before .before .before .before .before .args .at)) (c .before .before .before .before .before .before .before .before .before .before .args .lines)) ∙ c .before .before .before .before .before .before .loop .inv .1 ∙ over-stop (c .before .before .before .before .before .before .before .before .before .before .args .t .now) (c .before .before .before .before .before .before .before .before .before .before .args .at) (c .before .before .before .before .before .before .before .before .before .before .args .lines) (c .before .before .before .before .before .before .loop .k) (c .before .before .before .before .before .before .loop .rest) (c .before .before .before .before .read82 .result) (omega arith) (omega arith) (c .before .before .before .before .before .before .before .before .before .before .pre .2) (c .before .before .before .before .read82 .ensures) (c .if2 .taken))
+returns-2 c = lines-told (recordAt (c .before .before .before .before .before .before .before .before .before .before .args .t .now) (c .before .before .before .before .before .before .before .before .before .before .args .at)) (c .before .before .before .before .before .before .before .before .before .before .args .lines) (c .before .before .before .before .before .before .loop .inv .3 ∙ over-stop (c .before .before .before .before .before .before .before .before .before .before .args .t .now) (c .before .before .before .before .before .before .before .before .before .before .args .at) (c .before .before .before .before .before .before .before .before .before .before .args .lines) (c .before .before .before .before .before .before .loop .k) (c .before .before .before .before .before .before .loop .rest) (c .before .before .before .before .read82 .result) (omega arith) (omega arith) (c .before .before .before .before .before .before .before .before .before .before .pre .2) (c .before .before .before .before .read82 .ensures) (c .if2 .taken))
+
+line-cents-requires : tie.Need-line-cents-requires Inv-loop μ-loop
+line-cents-requires c κs = search needs
+
+add-cents : tie.Need-add-cents Inv-loop μ-loop
+add-cents c = omega arith
 
 add-k : tie.Need-add-k Inv-loop μ-loop
 add-k c = search needs
@@ -67,10 +85,24 @@ loop-less : tie.Need-loop-less Inv-loop μ-loop
 loop-less c = search needs
 
 loop-again : tie.Need-loop-again Inv-loop μ-loop
-loop-again c = (omega arith, c .before .before .before .before .before .before .loop .inv .1 ∙ there-go (c .before .before .before .before .before .before .before .before .before .before .args .t .now) (c .before .before .before .before .before .before .before .before .before .before .args .at) (c .before .before .before .before .before .before .before .before .before .before .args .lines) (c .before .before .before .before .before .before .loop .k) (c .before .before .before .before .before .before .loop .rest) (c .before .before .before .before .read82 .result) (omega arith) (omega arith) (c .before .before .before .before .before .before .before .before .before .before .pre .2) (c .before .before .before .before .read82 .ensures) (sym (c .before .before .line-there .ensures) ∙ not-false _ (c .before .if1 .left)) (c .if2 .left))
+loop-again c =
+    let e = there-cents (c .before .before .before .before .before .before .before .before .before .before .before .args .t .now) (c .before .before .before .before .before .before .before .before .before .before .before .args .at) (c .before .before .before .before .before .before .before .before .before .before .before .args .lines) (c .before .before .before .before .before .before .before .loop .k) (c .before .before .before .before .before .before .before .loop .rest) (c .before .before .before .before .before .read82 .result) (omega arith) (omega arith) (c .before .before .before .before .before .before .before .before .before .before .before .pre .2) (c .before .before .before .before .before .read82 .ensures) in
+    let x : c .line-cents .result ≡ cond (eqb (getD (c .before .before .before .before .before .before .before .before .before .before .before .args .t .now) (c .before .before .before .before .before .before .before .before .before .before .before .args .at + 24 + c .before .before .before .before .before .before .before .loop .k) 0) 2) (c .before .before .before .before .before .read82 .result) 0 = c .line-cents .ensures .0 in
+    (omega arith, omega arith, omega arith, c .before .before .before .before .before .before .before .loop .inv .3 ∙ there-go (c .before .before .before .before .before .before .before .before .before .before .before .args .t .now) (c .before .before .before .before .before .before .before .before .before .before .before .args .at) (c .before .before .before .before .before .before .before .before .before .before .before .args .lines) (c .before .before .before .before .before .before .before .loop .k) (c .before .before .before .before .before .before .before .loop .rest) (c .before .before .before .before .before .read82 .result) (omega arith) (omega arith) (c .before .before .before .before .before .before .before .before .before .before .before .pre .2) (c .before .before .before .before .before .read82 .ensures) (sym (c .before .before .before .line-there .ensures) ∙ not-false _ (c .before .before .if1 .left)) (c .before .if2 .left))
+
+told-by-requires : tie.Need-told-by-requires Inv-loop μ-loop
+told-by-requires c κs = search needs
 
 returns-3 : tie.Need-returns-3 Inv-loop μ-loop
-returns-3 c = sym (sym (left-all (recordAt (c .before .before .before .before .before .args .t .now) (c .before .before .before .before .before .args .at)) (c .before .before .before .before .before .args .lines)) ∙ c .before .loop .inv .1 ∙ there-done (recordAt (c .before .before .before .before .before .args .t .now) (c .before .before .before .before .before .args .at)) (c .before .before .before .before .before .args .lines) (c .before .loop .k) (c .before .loop .rest) (omega arith) (omega arith) (c .before .before .before .before .before .pre .3))
+returns-3 c =
+    let r = recordAt (c .before .before .before .before .before .before .args .t .now) (c .before .before .before .before .before .before .args .at) in
+    let q = c .before .before .before .before .before .before .pre .3 in
+    let z = executed-sum (drop (c .before .before .before .before .before .before .args .lines) (r .states)) (drop (c .before .before .before .before .before .before .args .lines) (r .amounts)) in
+    let k : c .before .before .loop .k ≡ c .before .before .before .before .before .before .args .lines = omega arith in
+    let w = ap (λ (j : ℕ). executedIn (drop j (r .states)) (drop j (r .amounts))) k in
+    let v : c .before .before .loop .cents ≡ executed r = omega arith in
+    let b = sym (left-all r (c .before .before .before .before .before .before .args .lines)) ∙ c .before .before .loop .inv .3 ∙ there-done r (c .before .before .before .before .before .before .args .lines) (c .before .before .loop .k) (c .before .before .loop .rest) (omega arith) (omega arith) q in
+    c .told-by .ensures ∙ (λ i. told (sym b i) (v i))
 
 pub lines-there-spec : {M : Type 1} → statement M
 lines-there-spec =
@@ -87,13 +119,16 @@ lines-there-spec =
     mul-read8
     add-read8-3
     read8-requires-2
-    add-line-there
-    add-line-there-2
-    shared-slice-read-line-there
+    add-state
+    add-state-2
+    shared-slice-read-state
     line-there-requires
     returns
     returns-2
+    line-cents-requires
+    add-cents
     add-k
     loop-less
     loop-again
+    told-by-requires
     returns-3)
