@@ -160,7 +160,7 @@ impl Table {
         let mut bytes = vec![0; old.len() + 16 * bodies];
         // SAFETY: the pointers and lengths are those of a slice and of a vector.
         let code = unsafe { ffi::hondivole_convert(old.as_ptr(), old.len(), bytes.as_mut_ptr(), bytes.len()) };
-        Refusal::answer(code, 0)?;
+        Refusal::answer(code, 0, 0)?;
         Ok(Table { bytes })
     }
 }
