@@ -4,9 +4,10 @@
  * Hondivole: the order tables of a treasury house's order desk.
  *
  * Six functions open an order table, convert one of the old form, take a body's flow of payment and collection orders, take the bank's
- * notices of execution and reversal, and report a body's totals. Each answers with a code: 0, or the number of a refusal in the list below.
- * A seventh shows the field that a flow was refused for. Each checks its own inputs: tables, flows, requests, codes and numbers may be any
- * bytes and any values. Each writes all its results on every path. What stands below them, written in C and not proved, says codes in words and lays out a request.
+ * notices of execution and reversal, and report a body's totals. Two answer questions about dates. Each answers with a code: 0, or the
+ * number of a refusal in the list below. A ninth shows the field that a flow was refused for. Each checks its own inputs: tables, flows,
+ * requests, codes and numbers may be any bytes and any values. Each writes all its results on every path. What stands below them, written
+ * in C and not proved, says codes in words and lays out a request.
  * None reads or writes anything but the buffers and results it is lent, and none keeps anything from one call to the next, so that
  * calls on different tables may be made at the same time.
  *
@@ -37,7 +38,7 @@
 extern "C" {
 #endif
 
-/* The codes: of calls (1 to 10, 16, 17, 20 to 22) and of orders (11 to 19). */
+/* The codes: of calls (1 to 10, 16, 17, 20 to 22, 27, 28) and of orders (11 to 19). */
 enum hondivole_code {
     HONDIVOLE_DONE = 0,                 /* nothing is refused */
     HONDIVOLE_TABLE_NOT_VALID = 1,      /* the table isn't valid */
