@@ -94,7 +94,7 @@ pub fn days_between(from: Date, to: Date) -> (u64, i64) {
 mod tests {
     use super::*;
 
-    /// The dates of Easter Sunday as the almanacs have them.
+    /// Known dates of Easter Sunday, written from memory: no almanac was at hand to compare them with.
     #[test]
     fn easters() {
         let known = [
