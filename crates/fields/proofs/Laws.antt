@@ -1,15 +1,11 @@
 -- Laws of readings: a way out of the code at a time.
-use mathlib.Core.Path.{_≡_, refl, sym, _∙_}
+use mathlib.Core.Path.{_≡_, refl, sym, ap, _∙_}
 use mathlib.Core.List.{List}
 use mathlib.Core.Bool.{Bool, true, false}
 use Prim.Native.Nat.{ℕ}
 use native.Mathlib.Omega.{arith}
 use lib.ListN.{length}
 use borrow.Author.Tests.{eq-eqb, ne-eqb}
-use Rattle.codes.specs.declared.Asked.{Asked}
-use Rattle.codes.specs.declared.Esito.{Esito}
-use Rattle.digits.specs.declared.Number.{Number}
-use Rattle.dates.specs.declared.Day.{Day}
 use Rattle.fields.specs.declared.Judged.the-variants.{Stands, Breaks}
 use Rattle.fields.specs.declared.Value.{Value}
 use Rattle.fields.specs.declared.Reading.the-variants as reading
@@ -18,24 +14,19 @@ use Rattle.fields.specs.declared.Longest.{Longest}
 use Rattle.fields.specs.declared.Cause.{Cause}
 use Rattle.fields.specs.declared.Cause.the-variants.{Empty, Long, Misformed, OutOfRange}
 use Rattle.fields.specs.Causes.{longest, longer, formed, causeOf}
-use Rattle.fields.specs.Fields.{Valued, some, none, ofText, ofNumber, ofDay, ofOperation, ofEsito, told, fieldValue, standsBy, readingOf, fieldStands}
+use Rattle.fields.specs.Fields.{Valued, some, none, told, fieldValue, standsBy, readingOf, fieldStands}
 
--- a reading of what a form's own function answers
-module _ (w : Cause) where
-  pub told-text : {a b : Bool} → a ≡ b → told w (ofText a) ≡ told w (ofText b)
-  told-text e = rw e
+-- a reading by what a form's own function answers: x is what the text says
+module _ (f : Form) (t : List ℕ) {x : Valued} (e : x ≡ fieldValue f t) where
+  pub reading-some : {v : Value} → x ≡ some v → reading.Holds v ≡ readingOf f t
+  reading-some h = ap (told (causeOf f t)) (sym h ∙ e)
 
-  pub told-number : {a b : Number} → a ≡ b → told w (ofNumber a) ≡ told w (ofNumber b)
-  told-number e = rw e
+  pub none-breaks : x ≡ none → fieldStands f t ≡ Breaks
+  unfolding fieldStands
+  none-breaks h = ap standsBy (sym e ∙ h)
 
-  pub told-day : {a b : Day} → a ≡ b → told w (ofDay a) ≡ told w (ofDay b)
-  told-day e = rw e
-
-  pub told-operation : {a b : Asked} → a ≡ b → told w (ofOperation a) ≡ told w (ofOperation b)
-  told-operation e = rw e
-
-  pub told-esito : {a b : Esito} → a ≡ b → told w (ofEsito a) ≡ told w (ofEsito b)
-  told-esito e = rw e
+  pub reading-none : {w : Cause} → x ≡ none → w ≡ causeOf f t → reading.Breaks w ≡ readingOf f t
+  reading-none h g = ap reading.Breaks g ∙ ap (told (causeOf f t)) (sym h ∙ e)
 
 -- what a reading says of whether its text stands
 module _ (f : Form) (t : List ℕ) where

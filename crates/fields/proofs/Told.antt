@@ -94,6 +94,15 @@ stands-ranged CodiceErrore t = number-ranged isRefusal (codiceErroreWritten t)
 stands-ranged Descrizione t = text-whole (descrizione t)
 stands-ranged Elemento t = text-whole (elemento t)
 
+-- of a text that breaks, the form g, which asks for no range, is not had
+pub broken-whole : (g : Form) {f : Form} (t : List ℕ) → f ≡ g → inRange g t ≡ true → fieldStands f t ≡ Breaks → false ≡ formed f t
+broken-whole g {f} t e r b = go (formed f t) (inRange f t) (ap (λ x. inRange x t) e ∙ r) (sym (stands-ranged f t) ∙ b)
+  where
+    go : (a i : Bool) → i ≡ true → judged (a && i) ≡ Breaks → false ≡ a
+    go false i r b = refl
+    go true true r b = let z : _≡_ {A = ℕ} 0 1 = cc in absurd (omega arith)
+    go true false r b = no (sym r)
+
 -- A TEXT OF THE RIGHT FORM is neither empty nor too long
 
 in-bytes : (t : List ℕ) (lo n : ℕ) → 1 ≤ lo → (lo ≤ length t) × (length t ≤ n) → (eqb (length t) 0 ≡ false) × (ltb n (length t) ≡ false)

@@ -8,7 +8,7 @@ use dates::Day;
 use digits::Number;
 ghost use mathlib.Core.Path.{_≡_};
 ghost use Rattle.fields.specs.Causes.{causeNumber, longest, longer, formed, causeOf};
-ghost use Rattle.fields.specs.Fields.{ofText, ofNumber, ofDay, ofOperation, ofEsito, told, readingOf, fieldStands};
+ghost use Rattle.fields.specs.Fields.{ofText, ofNumber, ofDay, ofOperation, ofEsito, fieldValue, readingOf, fieldStands};
 
 pub enum Judged {
     Stands,
@@ -111,33 +111,35 @@ fn is_longer(l: Longest, t: &[u8]) -> bool
     }
 }
 
-// Whether a text has the form, whatever value it writes.
+// Whether a text that breaks has the form, whatever value it writes: where document 01 gives no range, it has not.
 fn is_formed(f: Form, t: &[u8]) -> bool
+    requires { ⌜ fieldStands f (now t) ≡ Judged.Breaks ⌝ }
     ensures { λ r. ⌜ r ≡ formed f (now (t .entry)) ⌝ }
 {
     match f {
-        Form::CodiceAbi => codes::codice_abi(t),
-        Form::Identificativo => codes::identificativo_flusso(t),
+        Form::CodiceAbi => false,
+        Form::Identificativo => false,
         Form::DataOra => dates::data_ora_written(t),
-        Form::CodiceEnte => codes::codice_ente(t),
+        Form::CodiceEnte => false,
         Form::Esercizio => digits::is_value(digits::four_digits(t)),
-        Form::TipoOperazione => codes::is_asked(codes::tipo_operazione(t)),
+        Form::TipoOperazione => false,
         Form::Numero => digits::is_value(digits::numero_written(t)),
         Form::Data => dates::is_on(dates::data_written(t)),
-        Form::Importo => digits::is_value(digits::importo_of(t)),
-        Form::Progressivo => digits::is_value(digits::progressivo_of(t)),
-        Form::Anagrafica => names::anagrafica_of(t),
+        Form::Importo => false,
+        Form::Progressivo => false,
+        Form::Anagrafica => false,
         Form::DataOraZona => dates::data_ora_zona_written(t),
-        Form::Testo => codes::sized_text(t, 1, 140),
-        Form::EsitoOperazione => codes::is_word(codes::esito_operazione(t)),
+        Form::Testo => false,
+        Form::EsitoOperazione => false,
         Form::CodiceErrore => digits::is_value(digits::two_digits(t)),
-        Form::Descrizione => codes::sized_text(t, 1, 2),
-        Form::Elemento => codes::sized_text(t, 1, 24),
+        Form::Descrizione => false,
+        Form::Elemento => false,
     }
 }
 
-// What is wrong with a text that breaks: the first cause that applies. A text that stands is never asked for one.
-pub fn cause_of(f: Form, t: &[u8]) -> Cause
+// What is wrong with a text that breaks: the first cause that applies.
+fn cause_of(f: Form, t: &[u8]) -> Cause
+    requires { ⌜ fieldStands f (now t) ≡ Judged.Breaks ⌝ }
     ensures { λ r. ⌜ r ≡ causeOf f (now (t .entry)) ⌝ }
 {
     if t.len() == 0 {
@@ -153,7 +155,8 @@ pub fn cause_of(f: Form, t: &[u8]) -> Cause
 }
 
 fn text_reading(has_form: bool, f: Form, t: &[u8]) -> Reading
-    ensures { λ r. ⌜ r ≡ told (causeOf f (now (t .entry))) (ofText «has_form») ⌝ }
+    requires { ⌜ ofText «has_form» ≡ fieldValue f (now t) ⌝ }
+    ensures { λ r. ⌜ r ≡ readingOf f (now (t .entry)) ⌝ }
 {
     if has_form {
         Reading::Holds(Value::Text)
@@ -163,7 +166,8 @@ fn text_reading(has_form: bool, f: Form, t: &[u8]) -> Reading
 }
 
 fn number_reading(n: Number, f: Form, t: &[u8]) -> Reading
-    ensures { λ r. ⌜ r ≡ told (causeOf f (now (t .entry))) (ofNumber n) ⌝ }
+    requires { ⌜ ofNumber n ≡ fieldValue f (now t) ⌝ }
+    ensures { λ r. ⌜ r ≡ readingOf f (now (t .entry)) ⌝ }
 {
     match n {
         Number::Value(v) => Reading::Holds(Value::Number(v)),
@@ -172,7 +176,8 @@ fn number_reading(n: Number, f: Form, t: &[u8]) -> Reading
 }
 
 fn day_reading(d: Day, f: Form, t: &[u8]) -> Reading
-    ensures { λ r. ⌜ r ≡ told (causeOf f (now (t .entry))) (ofDay d) ⌝ }
+    requires { ⌜ ofDay d ≡ fieldValue f (now t) ⌝ }
+    ensures { λ r. ⌜ r ≡ readingOf f (now (t .entry)) ⌝ }
 {
     match d {
         Day::On(date) => Reading::Holds(Value::Day(date)),
@@ -181,7 +186,8 @@ fn day_reading(d: Day, f: Form, t: &[u8]) -> Reading
 }
 
 fn operation_reading(a: Asked, f: Form, t: &[u8]) -> Reading
-    ensures { λ r. ⌜ r ≡ told (causeOf f (now (t .entry))) (ofOperation a) ⌝ }
+    requires { ⌜ ofOperation a ≡ fieldValue f (now t) ⌝ }
+    ensures { λ r. ⌜ r ≡ readingOf f (now (t .entry)) ⌝ }
 {
     match a {
         Asked::Operazione(o) => Reading::Holds(Value::Operation(o)),
@@ -190,7 +196,8 @@ fn operation_reading(a: Asked, f: Form, t: &[u8]) -> Reading
 }
 
 fn esito_reading(e: Esito, f: Form, t: &[u8]) -> Reading
-    ensures { λ r. ⌜ r ≡ told (causeOf f (now (t .entry))) (ofEsito e) ⌝ }
+    requires { ⌜ ofEsito e ≡ fieldValue f (now t) ⌝ }
+    ensures { λ r. ⌜ r ≡ readingOf f (now (t .entry)) ⌝ }
 {
     match e {
         Esito::Accepted(o) => Reading::Holds(Value::Accepted(o)),

@@ -1,8 +1,12 @@
 use mathlib.Core.Path.{ap}
-use Rattle.fields.specs.declared.Reading.the-variants.{Breaks}
+use Rattle.fields.specs.Fields.{ofEsito}
+use Rattle.fields.proofs.Laws.{reading-some, none-breaks, reading-none}
 use borrow.Author.Needs.{needs}
 use Rattle.fields.proofs.esito_reading.Statement.{statement}
 use Rattle.fields.proofs.esito_reading.Tie as tie
+use Rattle.fields.proofs.esito_reading.Reads as reads
+use Rattle.fields.proofs.esito_reading.Lts as lts
+use Rattle.fields.proofs.cause_of.Reads as cause-of-reads
 
 enum-known-e : tie.Need-enum-known-e
 enum-known-e c = search needs
@@ -14,25 +18,18 @@ enum-told : tie.Need-enum-told
 enum-told c = search needs
 
 cause-of-requires : tie.Need-cause-of-requires
-cause-of-requires c κs = search needs
+cause-of-requires c κs = none-breaks (c .before .before .before .args .f) (c .before .before .before .args .t .now) (c .before .before .before .pre) (ap ofEsito (c .enum-told .given .1))
 
 returns : tie.Need-returns
-returns c = rw (c .before .e .given .1)
+returns c = reading-some (c .before .before .before .before .args .f) (c .before .before .before .before .args .t .now) (c .before .before .before .before .pre) (ap ofEsito (c .before .e .given .1))
 
 returns-2 : tie.Need-returns-2
-returns-2 c = rw (c .before .e2 .given .1)
+returns-2 c = reading-some (c .before .before .before .before .args .f) (c .before .before .before .before .args .t .now) (c .before .before .before .before .pre) (ap ofEsito (c .before .e2 .given .1))
 
 returns-3 : tie.Need-returns-3
-returns-3 c = rw (c .before .enum-told .given .1) (ap Breaks (c .cause-of .ensures))
+returns-3 c = reading-none (c .before .before .before .before .args .f) (c .before .before .before .before .args .t .now) (c .before .before .before .before .pre) (ap ofEsito (c .before .enum-told .given .1)) (c .cause-of .ensures)
 
 pub esito-reading-spec : {M : Type 1} → statement M
 esito-reading-spec =
     tie.close
-    (tie.spec
-    enum-known-e
-    enum-known-e-2
-    enum-told
-    cause-of-requires
-    returns
-    returns-2
-    returns-3)
+    (tie.spec enum-known-e enum-known-e-2 enum-told cause-of-requires returns returns-2 returns-3)
