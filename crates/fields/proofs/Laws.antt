@@ -38,6 +38,14 @@ module _ (f : Form) (t : List ℕ) where
       go (some u) e = refl
       go none e = let z : _≡_ {A = ℕ} 0 1 = cc in absurd (omega arith)
 
+  pub holds-value : fieldStands f t ≡ Stands → (v : Value) × (readingOf f t ≡ reading.Holds v)
+  unfolding fieldStands
+  holds-value = go (fieldValue f t)
+    where
+      go : (x : Valued) → standsBy x ≡ Stands → (v : Value) × (told (causeOf f t) x ≡ reading.Holds v)
+      go (some u) e = (u, refl)
+      go none e = let z : _≡_ {A = ℕ} 0 1 = cc in absurd (omega arith)
+
   pub stands-breaks : {w : Cause} → reading.Breaks w ≡ readingOf f t → Breaks ≡ fieldStands f t
   unfolding fieldStands
   stands-breaks = go (fieldValue f t)

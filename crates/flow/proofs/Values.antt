@@ -16,8 +16,9 @@ use Rattle.calendar.specs.Calendar.{isDate}
 use Rattle.fields.specs.declared.Cause.{Cause}
 use Rattle.fields.specs.declared.Form.{Form}
 use Rattle.fields.specs.declared.Form.the-variants.{CodiceAbi, Identificativo, DataOra, CodiceEnte, Esercizio, TipoOperazione, Numero, Data, Importo, Progressivo}
-use Rattle.fields.specs.declared.Judged.{Judged}
-use Rattle.fields.specs.declared.Judged.the-variants.{Stands, Breaks}
+use Rattle.fields.specs.declared.Judged.the-variants.{Stands}
+use Rattle.fields.specs.declared.Reading.{Reading}
+use Rattle.fields.specs.declared.Reading.the-variants as reading
 use Rattle.digits.specs.declared.Number.{Number}
 use Rattle.digits.specs.declared.Number.the-variants.{Value, NoNumber}
 use Rattle.dates.specs.declared.Day.{Day}
@@ -25,8 +26,8 @@ use Rattle.dates.specs.declared.Day.the-variants.{On, NoDay}
 use Rattle.codes.specs.Codes.{codiceAbi, codiceEnte}
 use Rattle.digits.specs.Digits.{esercizio, numero, importo}
 use Rattle.dates.specs.Dates.{dataOf}
-use Rattle.fields.specs.Causes.{causeOf}
-use Rattle.fields.specs.Fields.{judged, isNumber, isDay, fieldStands}
+use Rattle.fields.specs.Fields.{readingOf, judged, isNumber, isDay, fieldStands}
+use Rattle.fields.proofs.Laws.{stands-holds}
 use Rattle.digits.proofs.Laws.{esercizio-range, numero-range, importo-range}
 use Rattle.dates.proofs.Laws.{data-real}
 use Rattle.rows.specs.declared.Parent.{Parent}
@@ -104,11 +105,11 @@ nowhere Nowhere e = refl
 -- a field's own
 text-stands : (d : ℕ) (s : List ℕ) (k : Kept) (f : Form) → k .holds ≡ Text f → standsIn d s k ≡ true → fieldStands f (textOf s k) ≡ Stands
 unfolding firstBad
-text-stands d s k f h e = go (causeOf f (textOf s k)) (fieldStands f (textOf s k)) (rw h at e)
+text-stands d s k f h e = go (readingOf f (textOf s k)) refl (rw h at e)
   where
-    go : (c : Cause) (j : Judged) → isNowhere (badOr (k .child .lt) c Nowhere j) ≡ true → j ≡ Stands
-    go c Stands e = refl
-    go c Breaks e = let z : _≡_ {A = ℕ} 0 1 = cc in absurd (omega arith)
+    go : (r : Reading) → readingOf f (textOf s k) ≡ r → isNowhere (badOr (k .child .lt) Nowhere r) ≡ true → fieldStands f (textOf s k) ≡ Stands
+    go (reading.Holds v) z e = sym (stands-holds f (textOf s k) (sym z))
+    go (reading.Breaks c) z e = let y : _≡_ {A = ℕ} 0 1 = cc in absurd (omega arith)
 
 -- ROWS IN ORDER whose fields stand
 record Well (rs : List Range) (d : ℕ) (p : Parent) (s : List ℕ) (n i : ℕ) : Type 0 where

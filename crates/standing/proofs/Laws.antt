@@ -9,8 +9,9 @@ use Rattle.scan.specs.Bytes.{part}
 use Rattle.tokens.specs.Tokens.{whiteAt}
 use Rattle.fields.specs.declared.Form.{Form}
 use Rattle.fields.specs.declared.Cause.{Cause}
-use Rattle.fields.specs.Causes.{causeOf}
-use Rattle.fields.specs.Fields.{Valued, some, none, fieldValue, told, standsBy, fieldStands}
+use Rattle.fields.specs.declared.Reading.{Reading}
+use Rattle.fields.specs.declared.Reading.the-variants as reading
+use Rattle.fields.specs.Fields.{readingOf}
 use Rattle.rows.specs.declared.FieldRead.{FieldRead}
 use Rattle.rows.specs.declared.FieldRead.the-variants.{Said, Broken}
 use Rattle.rows.specs.Read.{readAt, fieldRead}
@@ -81,12 +82,12 @@ module _ (s : List ℕ) (f : Form) (c : Child) where
   field-other e = rw e
 
   pub field-judged : (r : FieldRead) → textOnly s (c .gt + 1) ≡ true → fieldRead s f c ≡ r → readStanding r ≡ fieldStanding s f c
-  unfolding fieldStanding fieldRead fieldStands
-  field-judged r e g = rw (e, ← g) (go (fieldValue f (part s (c .gt + 1) (c .to))))
+  unfolding fieldStanding fieldRead
+  field-judged r e g = rw (e, ← g) (go (readingOf f (part s (c .gt + 1) (c .to))))
     where
-      go : (w : Valued) → readStanding (readAt c (told (causeOf f (part s (c .gt + 1) (c .to))) w)) ≡ byFields (badOr (c .lt) (causeOf f (part s (c .gt + 1) (c .to))) Nowhere (standsBy w))
-      go (some v) = refl
-      go none = refl
+      go : (x : Reading) → readStanding (readAt c x) ≡ byFields (badOr (c .lt) Nowhere x)
+      go (reading.Holds v) = refl
+      go (reading.Breaks w) = refl
 
 -- what a named child holds
 abbrev pub heldStanding : ℕ → List ℕ → Child → held.Holds → Standing

@@ -5,10 +5,9 @@ use Prim.Native.Nat.{ℕ, zero, suc, _-_}
 use native.Mathlib.Omega.{arith}
 use Rattle.tokens.specs.Tokens.{whiteAt}
 use Rattle.fields.specs.declared.Cause.{Cause}
-use Rattle.fields.specs.declared.Judged.{Judged}
-use Rattle.fields.specs.declared.Judged.the-variants.{Stands, Breaks}
-use Rattle.fields.specs.Causes.{causeOf}
-use Rattle.fields.specs.Fields.{fieldStands}
+use Rattle.fields.specs.declared.Reading.{Reading}
+use Rattle.fields.specs.declared.Reading.the-variants as reading
+use Rattle.fields.specs.Fields.{readingOf}
 use Rattle.rows.specs.declared.Parent.{Parent}
 use Rattle.rows.specs.Kept.{keptFrom}
 use Rattle.standing.specs.Readings.{Field, Bad, Place, Nowhere, fieldsBy, fieldsAt, badOr, firstBad}
@@ -21,11 +20,11 @@ orBad Nowhere b = b
 pub bad-append : (xs ys : List Field) → firstBad (xs ++ ys) ≡ orBad (firstBad xs) (firstBad ys)
 unfolding firstBad
 bad-append [] ys = refl
-bad-append (f ∷ xs) ys = go (causeOf (f .form) (f .text)) (fieldStands (f .form) (f .text)) (bad-append xs ys)
+bad-append (f ∷ xs) ys = go (readingOf (f .form) (f .text)) (bad-append xs ys)
   where
-    go : (c : Cause) (j : Judged) → firstBad (xs ++ ys) ≡ orBad (firstBad xs) (firstBad ys) → badOr (f .lt) c (firstBad (xs ++ ys)) j ≡ orBad (badOr (f .lt) c (firstBad xs) j) (firstBad ys)
-    go c Stands e = e
-    go c Breaks e = refl
+    go : (r : Reading) → firstBad (xs ++ ys) ≡ orBad (firstBad xs) (firstBad ys) → badOr (f .lt) (firstBad (xs ++ ys)) r ≡ orBad (badOr (f .lt) (firstBad xs) r) (firstBad ys)
+    go (reading.Holds v) e = e
+    go (reading.Breaks c) e = refl
 
 -- the level below
 abbrev pub below : ℕ → List ℕ → Parent → ℕ → List Field

@@ -13,10 +13,12 @@ use Rattle.children.specs.Child.{childAt, thenFrom, childrenBy, childrenFrom, f
 use Rattle.children.proofs.Laws.{child-lies, field-one}
 use Rattle.fields.specs.declared.Cause.{Cause}
 use Rattle.fields.specs.declared.Form.{Form}
-use Rattle.fields.specs.declared.Judged.{Judged}
-use Rattle.fields.specs.declared.Judged.the-variants.{Stands, Breaks}
+use Rattle.fields.specs.declared.Judged.the-variants.{Breaks}
+use Rattle.fields.specs.declared.Reading.{Reading}
+use Rattle.fields.specs.declared.Reading.the-variants as reading
 use Rattle.fields.specs.Causes.{causeOf}
-use Rattle.fields.specs.Fields.{fieldStands}
+use Rattle.fields.specs.Fields.{readingOf, fieldStands}
+use Rattle.fields.proofs.Told.{breaks}
 use Rattle.rows.specs.declared.Parent.{Parent}
 use Rattle.rows.specs.declared.Holds.{Holds}
 use Rattle.rows.specs.declared.Holds.the-variants.{Text, Rows}
@@ -82,12 +84,16 @@ unfolding keptFrom childrenFrom
 kept-each p s i = keep-each p s (childrenFrom s i) (children-each (suc (length s)) s i)
 
 -- THE FIRST FIELD THAT BREAKS
-field-shown : (p : Parent) (s : List ℕ) (k : Kept) (f : Form) (q : ℕ) (x : Cause) → IsKept p s k → k .holds ≡ Text f → badOr (k .child .lt) (causeOf f (textOf s k)) Nowhere (fieldStands f (textOf s k)) ≡ Place q x → Shown s q x
-field-shown p s k f q x w h e = go (fieldStands f (textOf s k)) refl e
+field-shown : (p : Parent) (s : List ℕ) (k : Kept) (f : Form) (q : ℕ) (x : Cause) → IsKept p s k → k .holds ≡ Text f → badOr (k .child .lt) Nowhere (readingOf f (textOf s k)) ≡ Place q x → Shown s q x
+field-shown p s k f q x w h e = go (readingOf f (textOf s k)) refl e
   where
-    go : (j : Judged) → fieldStands f (textOf s k) ≡ j → badOr (k .child .lt) (causeOf f (textOf s k)) Nowhere j ≡ Place q x → Shown s q x
-    go Stands b e = none e
-    go Breaks b e = let z : k .child .lt ≡ q = cc in let y : causeOf f (textOf s k) ≡ x = cc in rw (← z, ← y) (shown-one s (k .child) (w .0) p (k .row) f (rw h at (w .1)) b)
+    go : (r : Reading) → readingOf f (textOf s k) ≡ r → badOr (k .child .lt) Nowhere r ≡ Place q x → Shown s q x
+    go (reading.Holds v) b e = none e
+    go (reading.Breaks c) b e =
+        let z : k .child .lt ≡ q = cc in
+        let y : c ≡ x = cc in
+        let g = breaks f (textOf s k) c b in
+        rw (← z, ← y, ← (g .0)) (shown-one s (k .child) (w .0) p (k .row) f (rw h at (w .1)) (g .1))
 
 -- of the named children of one level, where `below` says it of those they hold
 level-shown : (d : ℕ) (p : Parent) (s : List ℕ) (q : ℕ) (x : Cause) → ((r : Parent) (a : ℕ) → firstBad (fieldsAt d r s a) ≡ Place q x → Shown s q x)

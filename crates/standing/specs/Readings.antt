@@ -5,10 +5,9 @@ use Rattle.scan.specs.Bytes.{part}
 use Rattle.tokens.specs.Tokens.{whiteAt}
 use Rattle.fields.specs.declared.Cause.{Cause}
 use Rattle.fields.specs.declared.Form.{Form}
-use Rattle.fields.specs.declared.Judged.{Judged}
-use Rattle.fields.specs.declared.Judged.the-variants.{Stands, Breaks}
-use Rattle.fields.specs.Causes.{causeOf}
-use Rattle.fields.specs.Fields.{fieldStands}
+use Rattle.fields.specs.declared.Reading.{Reading}
+use Rattle.fields.specs.declared.Reading.the-variants as reading
+use Rattle.fields.specs.Fields.{readingOf}
 use Rattle.rows.specs.declared.Parent.{Parent}
 use Rattle.rows.specs.declared.Holds.{Holds}
 use Rattle.rows.specs.declared.Holds.the-variants.{Text, Rows}
@@ -44,11 +43,11 @@ pub data Bad : Type 0 where
   Place : ℕ → Cause → Bad
   Nowhere : Bad
 
-abbrev pub badOr : ℕ → Cause → Bad → Judged → Bad
-badOr lt cause rest Stands = rest
-badOr lt cause rest Breaks = Place lt cause
+abbrev pub badOr : ℕ → Bad → Reading → Bad
+badOr lt rest (reading.Holds v) = rest
+badOr lt rest (reading.Breaks c) = Place lt c
 
 -- the place of the first field that hasn't its form, and what is wrong with that field
 unfoldable pub firstBad : List Field → Bad
 firstBad [] = Nowhere
-firstBad (f ∷ fs) = badOr (f .lt) (causeOf (f .form) (f .text)) (firstBad fs) (fieldStands (f .form) (f .text))
+firstBad (f ∷ fs) = badOr (f .lt) (firstBad fs) (readingOf (f .form) (f .text))

@@ -5,8 +5,7 @@ use mathlib.Core.Bool.{Bool, true, false, cond}
 use Rattle.scan.specs.Bytes.{part}
 use Rattle.children.specs.declared.Child.{Child}
 use Rattle.fields.specs.declared.Form.{Form}
-use Rattle.fields.specs.Causes.{causeOf}
-use Rattle.fields.specs.Fields.{fieldStands}
+use Rattle.fields.specs.Fields.{readingOf}
 use Rattle.rows.specs.declared.Parent.{Parent}
 use Rattle.structure.specs.Structure.{textOnly, fitsAt}
 use Rattle.standing.specs.declared.Standing.{Standing}
@@ -30,8 +29,7 @@ standingAt d p s at = standingBy (fitsAt d p s at) (firstBad (fieldsAt d p s at)
 -- a field by itself: it holds text only, and has its form
 unfoldable pub fieldStanding : List ℕ → Form → Child → Standing
 fieldStanding s f c =
-    let t = part s (c .gt + 1) (c .to) in
-    standingBy (textOnly s (c .gt + 1)) (badOr (c .lt) (causeOf f t) Nowhere (fieldStands f t))
+    standingBy (textOnly s (c .gt + 1)) (badOr (c .lt) Nowhere (readingOf f (part s (c .gt + 1) (c .to))))
 
 abbrev pub structured : Standing → Bool
 structured StructureBreaks = false

@@ -1,5 +1,5 @@
 -- Fields that stand: the list of them as a test, and what it says of the parts.
-use mathlib.Core.Path.{_≡_, refl}
+use mathlib.Core.Path.{_≡_, refl, sym, ap, _∙_}
 use mathlib.Core.List.{List, [], _∷_, _++_}
 use mathlib.Core.Bool.{Bool, true, false, _&&_}
 use Prim.Native.Nat.{ℕ}
@@ -8,9 +8,10 @@ use Rattle.scan.proofs.Laws.{both}
 use Rattle.fields.specs.declared.Cause.{Cause}
 use Rattle.fields.specs.declared.Judged.{Judged}
 use Rattle.fields.specs.declared.Judged.the-variants.{Stands, Breaks}
-use Rattle.fields.specs.Causes.{causeOf}
-use Rattle.fields.specs.Fields.{fieldStands}
-use Rattle.fields.proofs.Told.{broken, breaks}
+use Rattle.fields.specs.declared.Reading.{Reading}
+use Rattle.fields.specs.declared.Reading.the-variants as reading
+use Rattle.fields.specs.Fields.{readingOf, fieldStands}
+use Rattle.fields.proofs.Laws.{stands-holds, holds-value}
 use Rattle.rows.specs.declared.Parent.{Parent}
 use Rattle.standing.specs.Readings.{Field, firstBad, badOr, Place, Nowhere}
 use Rattle.tree.specs.Tree.{Trees}
@@ -51,32 +52,31 @@ stand-all (f ∷ fs) e = let b = both (stand (fieldStands (f .form) (f .text))) 
 pub no-bad : (fs : List Field) → AllStand fs → firstBad fs ≡ Nowhere
 unfolding firstBad
 no-bad fs all-none = refl
-no-bad fs (all-next {fs = gs} e a) = rw (e, no-bad gs a)
+no-bad fs (all-next {f = f} {fs = gs} e a) = rw (holds-value (f .form) (f .text) e .1, no-bad gs a)
 
 pub bad-none : (fs : List Field) → firstBad fs ≡ Nowhere → AllStand fs
 unfolding firstBad
 bad-none [] e = all-none
-bad-none (f ∷ fs) e = go (fieldStands (f .form) (f .text)) refl e (bad-none fs)
+bad-none (f ∷ fs) e = go (readingOf (f .form) (f .text)) refl e (bad-none fs)
   where
-    go : (w : Judged) → fieldStands (f .form) (f .text) ≡ w → badOr (f .lt) (causeOf (f .form) (f .text)) (firstBad fs) w ≡ Nowhere → (firstBad fs ≡ Nowhere → AllStand fs) → AllStand (f ∷ fs)
-    go Stands z h i = all-next z (i h)
-    go Breaks z h i = let y : _≡_ {A = ℕ} 0 1 = cc in absurd (omega arith)
+    go : (r : Reading) → readingOf (f .form) (f .text) ≡ r → badOr (f .lt) (firstBad fs) r ≡ Nowhere → (firstBad fs ≡ Nowhere → AllStand fs) → AllStand (f ∷ fs)
+    go (reading.Holds v) z h i = all-next (sym (stands-holds (f .form) (f .text) (sym z))) (i h)
+    go (reading.Breaks d) z h i = let y : _≡_ {A = ℕ} 0 1 = cc in absurd (omega arith)
 
 -- the first that breaks
 pub bad-first : (fs : List Field) (p : ℕ) (c : Cause) → firstBad fs ≡ Place p c → FirstBreaks fs p c
 unfolding firstBad
 bad-first [] p c e = let z : _≡_ {A = ℕ} 0 1 = cc in absurd (omega arith)
-bad-first (f ∷ fs) p c e = go (fieldStands (f .form) (f .text)) refl e (bad-first fs p c)
+bad-first (f ∷ fs) p c e = go (readingOf (f .form) (f .text)) refl e (bad-first fs p c)
   where
-    go : (w : Judged) → fieldStands (f .form) (f .text) ≡ w → badOr (f .lt) (causeOf (f .form) (f .text)) (firstBad fs) w ≡ Place p c → (firstBad fs ≡ Place p c → FirstBreaks fs p c)
-        → FirstBreaks (f ∷ fs) p c
-    go Stands z h i = later z (i h)
-    go Breaks z h i = let y : f .lt ≡ p = cc in let x : causeOf (f .form) (f .text) ≡ c = cc in here (broken (f .form) (f .text) c x z) y
+    go : (r : Reading) → readingOf (f .form) (f .text) ≡ r → badOr (f .lt) (firstBad fs) r ≡ Place p c → (firstBad fs ≡ Place p c → FirstBreaks fs p c) → FirstBreaks (f ∷ fs) p c
+    go (reading.Holds v) z h i = later (sym (stands-holds (f .form) (f .text) (sym z))) (i h)
+    go (reading.Breaks d) z h i = let y : f .lt ≡ p = cc in let x : d ≡ c = cc in here (z ∙ ap reading.Breaks x) y
 
 pub first-bad : (fs : List Field) (p : ℕ) (c : Cause) → FirstBreaks fs p c → firstBad fs ≡ Place p c
 unfolding firstBad
-first-bad fs p c (here {f = f} e z) = let k = breaks (f .form) (f .text) c e in rw (k .1, z, k .0)
-first-bad fs p c (later {fs = gs} e b) = rw (e, first-bad gs p c b)
+first-bad fs p c (here {f = f} e z) = rw (e, z)
+first-bad fs p c (later {f = f} {fs = gs} e b) = rw (holds-value (f .form) (f .text) e .1, first-bad gs p c b)
 
 -- of two lists
 and-assoc : (a b c : Bool) → (a && (b && c)) ≡ ((a && b) && c)
