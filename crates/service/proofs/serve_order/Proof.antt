@@ -20,7 +20,7 @@ same-length : tie.Need-same-length
 same-length c = search needs
 
 returns : tie.Need-returns
-returns c = served-change (c .before .before .before .before .before .before .before .before .before .args .t .now) (c .before .before .before .before .before .before .before .before .before .args .base) (c .before .before .before .before .before .before .before .before .before .args .n) (c .before .before .before .before .before .before .before .before .before .args .year) (ordinativo (c .before .before .before .before .before .before .before .before .before .args .o)) (c .before .before .before .before .before .before .before .asks-of .ensures) (c .before .before .before .before .before .c .given .1) (c .before .before .serve-change .ensures)
+returns c = served-change (c .before .before .before .before .before .before .before .before .before .args .t .now) (c .before .before .before .before .before .before .before .before .before .args .base) (c .before .before .before .before .before .before .before .before .before .args .n) (c .before .before .before .before .before .before .before .before .before .args .year) (ordinativo (c .before .before .before .before .before .before .before .before .before .args .o)) (c .before .before .before .before .before .before .before .asks-of .ensures) _ (c .before .before .before .before .before .c .given .1) (c .before .before .serve-change .ensures)
 
 returns-2 : tie.Need-returns-2
 returns-2 c = served-refused (c .before .before .before .before .before .args .t .now) (c .before .before .before .before .before .args .base) (c .before .before .before .before .before .args .n) (c .before .before .before .before .before .args .year) (ordinativo (c .before .before .before .before .before .args .o)) (c .before .before .before .asks-of .ensures) (c .before .code .given .1)
