@@ -65,12 +65,15 @@ stepped-past : (slots : ℕ) (o : Ordinativo) (rs : List Record) (c : Change) (f
 unfolding stepped
 stepped-past slots o rs c f = unless-past (stepCode c (situationOf rs f)) _ (step-past c (situationOf rs f)) (placed-past slots o rs c f)
 
--- and one before it: 12 or 13
-line-codes : (ls : List Line) (total : ℕ) → (lineCode ls total ≡ 0) ⊎ ((lineCode ls total ≡ 12) ⊎ (lineCode ls total ≡ 13))
+-- AND ONE BEFORE IT, of its lines: 12 or 13, or none
+abbrev Lined : ℕ → Type 0
+Lined c = (c ≡ 0) ⊎ ((c ≡ 12) ⊎ (c ≡ 13))
+
+line-codes : (ls : List Line) (total : ℕ) → Lined (lineCode ls total)
 unfolding lineCode
 line-codes ls total = go (numberedFrom 1 ls) (eqb (sumOf ls) total)
   where
-    go : (a b : Bool) → (cond a (cond b 0 13) 12 ≡ 0) ⊎ ((cond a (cond b 0 13) 12 ≡ 12) ⊎ (cond a (cond b 0 13) 12 ≡ 13))
+    go : (a b : Bool) → Lined (cond a (cond b 0 13) 12)
     go true true = inl refl
     go true false = inr (inr refl)
     go false b = inr (inl refl)
@@ -80,7 +83,7 @@ pub data Told (looked : ℕ) : ℕ → ℕ → Type 0 where
   before : {c : ℕ} → (c ≡ 11) ⊎ ((c ≡ 12) ⊎ (c ≡ 13)) → Told looked c 0
   past : {c : ℕ} → Past c → Told looked c looked
 
-lines-told : (code looked : ℕ) (j : Ruling) → (code ≡ 0) ⊎ ((code ≡ 12) ⊎ (code ≡ 13)) → Past (orderCode j)
+lines-told : (code looked : ℕ) (j : Ruling) → Lined code → Past (orderCode j)
     → Told looked (orderCode (unless Refused code j)) (unless (λ c. 0) code looked)
 lines-told zero looked j h k = past k
 lines-told (suc code) looked j (inl e) k = absurd (omega arith)
