@@ -1,8 +1,8 @@
 // One order or one notice served on a body of a table's bytes: judged first, then stored. Each looks at the one record that its search found.
+use codes::Operation;
 use order::Order;
 use ranges::Found;
 use record::Key;
-use rules::Asks;
 use rules::Change;
 use rules::Noticed;
 use rules::Ruling;
@@ -98,16 +98,19 @@ fn serve_change(t: &mut [u8], base: usize, n: usize, year: u64, o: Order, c: Cha
     }
 }
 
-// Serves an order: its record is stored where it is accepted.
+// Serves an order: its record is stored where it is accepted. A call for each operation keeps the compiler from taking the search into the loop over
+// the orders, where its counters would lie in memory.
 pub fn serve_order(t: &mut [u8], base: usize, n: usize, year: u64, o: Order) -> Counted
     requires { ⌜ base + slotSize * n ≤ length (now t) ⌝ }
     ensures { λ r. ⌜ OrderServed (now (t .entry)) base n year (ordinativo o) r (now (t .exit)) ⌝ }
 {
     let operation = o.operation;
-    match rules::asks_of(operation) {
-        Asks::For(c) => serve_change(t, base, n, year, o, c),
-        Asks::Unserved(code) => Counted {
-            ruling: Ruling::Refused(code),
+    match operation {
+        Operation::Inserimento => serve_change(t, base, n, year, o, Change::Insert),
+        Operation::Variazione => serve_change(t, base, n, year, o, Change::Vary),
+        Operation::Annullo => serve_change(t, base, n, year, o, Change::Annul),
+        Operation::Sostituzione => Counted {
+            ruling: Ruling::Refused(11),
             steps: 0,
         },
     }
