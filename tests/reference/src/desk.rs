@@ -182,7 +182,10 @@ fn taken(table: &[u8], flow: &[u8], room: usize) -> Result<(Table, Vec<u8>, u64)
 
 /// How many slots a search for this order looks at: those up to and including its own, or all that are used.
 fn looked_at(body: &Body, esercizio: u16, order: &FlowOrder) -> u64 {
-    let others = body.orders.iter().take_while(|record| (record.kind, record.esercizio, record.number) != (order.kind, esercizio, order.number));
+    let others = body
+        .orders
+        .iter()
+        .take_while(|record| (record.kind, record.esercizio, record.number) != (order.kind, esercizio, order.number));
     (others.count() + 1).min(body.orders.len()) as u64
 }
 
