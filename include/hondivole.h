@@ -129,16 +129,18 @@ uint64_t hondivole_convert(const uint8_t *old, size_t old_len, uint8_t *table, s
 
 /*
  * Takes a body's flow. It answers 0 when the flow is taken: its orders are then served as written, each on the table the one before left;
- * *orders is how many it holds (1 to 64) and *accepted how many of them got outcome code 0; *place and *cause are 0. Each order has written
+ * *orders is how many it holds (1 to 64) and *accepted how many of them got outcome code 0; *place and *cause are 0. *steps is how many
+ * slots the searches for its orders looked at, together: each up to and including the slot found, or all the body's used slots when there is
+ * none, and none for an order answered 11, 12 or 13; at most *orders times the body's slots. Each order has written
  * 16 outcome bytes: 0 kind, 1 operation (1 INSERIMENTO, 2 VARIAZIONE, 3 ANNULLO, 4 SOSTITUZIONE), 2 code (0, 11 to 19), 3 lines, 4-7
- * number, 8-15 total, numbers with the highest byte first. Otherwise it answers the first code of 1 to 8 that applies, with *orders and
- * *accepted 0, and *place and *cause 0 but for code 5, where *place is the byte of `<` of the first element whose field breaks, counted
+ * number, 8-15 total, numbers with the highest byte first. Otherwise it answers the first code of 1 to 8 that applies, with *orders, *accepted
+ * and *steps 0, and *place and *cause 0 but for code 5, where *place is the byte of `<` of the first element whose field breaks, counted
  * from 0, and *cause what is wrong with that field, 1 to 4: hondivole_cause_text says it in words. It never changes table or outcomes with
  * a code other than 0, never changes the record of a refused order or of another body, and never writes outcome bytes past the last
  * order's.
  */
 uint64_t hondivole_flow(uint8_t *table, size_t table_len, const uint8_t *flow, size_t flow_len, uint8_t *outcomes, size_t outcomes_len,
-                        uint64_t *place, uint64_t *orders, uint64_t *accepted, uint64_t *cause);
+                        uint64_t *place, uint64_t *orders, uint64_t *accepted, uint64_t *cause, uint64_t *steps);
 
 /*
  * Takes the bank's notice that a line is executed. It names the body by its code, the order by kind (1 mandato, 2 reversale), esercizio

@@ -27,7 +27,7 @@ static void order(const char *operation, unsigned number, size_t room, const cha
 {
     char flow[2048];
     uint8_t outcomes[16];
-    uint64_t place, orders, accepted, cause;
+    uint64_t place, orders, accepted, cause, steps;
     int length = snprintf(flow, sizeof flow,
                           "<flusso_ordinativi><codice_ABI_BT>01234</codice_ABI_BT><identificativo_flusso>A1</identificativo_flusso>"
                           "<data_ora_creazione_flusso>2021-03-01T09:30:00</data_ora_creazione_flusso>"
@@ -40,7 +40,7 @@ static void order(const char *operation, unsigned number, size_t room, const cha
                           "</informazioni_beneficiario></mandato></flusso_ordinativi>",
                           operation, number);
     uint64_t code = hondivole_flow(table, sizeof table, (const uint8_t *)flow, (size_t)length, outcomes, room, &place, &orders, &accepted,
-                                   &cause);
+                                   &cause, &steps);
     print(code == HONDIVOLE_DONE ? outcomes[2] : code, what);
 }
 

@@ -78,7 +78,7 @@ int main(void)
 {
     static const uint8_t body[] = {'0', '0', '0', '4', '7', '1'};
     uint8_t request[HONDIVOLE_REQUEST_BYTES(2)], outcomes[HONDIVOLE_MOST_OUTCOME_BYTES];
-    uint64_t place, orders, accepted, cause, cents;
+    uint64_t place, orders, accepted, cause, steps, cents;
 
     size_t length = hondivole_request("01234", bodies, 2, request, sizeof request);
     uint64_t code = hondivole_open(request, length, table, sizeof table);
@@ -88,8 +88,9 @@ int main(void)
 
     /* A string literal ends with a zero that is no part of the flow. */
     code = hondivole_flow(table, sizeof table, (const uint8_t *)flow, sizeof flow - 1, outcomes, sizeof outcomes, &place, &orders,
-                          &accepted, &cause);
-    printf("flow: code %" PRIu64 ", place %" PRIu64 ", orders %" PRIu64 ", accepted %" PRIu64 "\n", code, place, orders, accepted);
+                          &accepted, &cause, &steps);
+    printf("flow: code %" PRIu64 ", place %" PRIu64 ", orders %" PRIu64 ", accepted %" PRIu64 ", steps %" PRIu64 "\n", code, place, orders, accepted,
+           steps);
     for (uint64_t i = 0; i < orders; i++) {
         const uint8_t *outcome = outcomes + 16 * i;
         printf("  order: kind %d, operation %d, number %" PRIu64 ", lines %d, total %" PRIu64 ", code %d\n", outcome[0], outcome[1],

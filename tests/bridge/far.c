@@ -124,7 +124,7 @@ uint64_t hondivole_convert(const uint8_t *old, size_t old_len, uint8_t *table, s
 }
 
 uint64_t hondivole_flow(uint8_t *table, size_t table_len, const uint8_t *flow, size_t flow_len, uint8_t *outcomes, size_t outcomes_len,
-                        uint64_t *place, uint64_t *orders, uint64_t *accepted, uint64_t *cause)
+                        uint64_t *place, uint64_t *orders, uint64_t *accepted, uint64_t *cause, uint64_t *steps)
 {
     struct call call = {.function = FLOW, .lengths = {table_len, flow_len, outcomes_len}};
     struct answer answer = forward(&call, table, flow, table, table_len, outcomes);
@@ -132,6 +132,7 @@ uint64_t hondivole_flow(uint8_t *table, size_t table_len, const uint8_t *flow, s
     *orders = answer.results[1];
     *accepted = answer.results[2];
     *cause = answer.results[3];
+    *steps = answer.results[4];
     return answer.code;
 }
 

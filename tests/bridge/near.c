@@ -32,8 +32,8 @@ enum { NO_ACCESS = 0, READ_AND_WRITE = 3, PRIVATE_AND_ANONYMOUS = 0x22 };
 /* What a result holds before the call. */
 #define CANARY 0xC0DEC0DE5A5AA5A5u
 
-/* The four results are lent as the buffers are. */
-enum { FIRST_RESULT = BUFFERS, PENS = BUFFERS + 4 };
+/* The five results are lent as the buffers are. */
+enum { FIRST_RESULT = BUFFERS, PENS = BUFFERS + 5 };
 
 /* Memory that lends one thing at a time: right before or after the pages that may not be touched, with guard bytes on its other side. */
 struct pen {
@@ -46,7 +46,8 @@ struct pen {
 
 static struct pen pens[PENS];
 static uint8_t guards[GUARD_BYTES];
-static const char *const pen_names[PENS] = {"table", "input", "outcomes", "first result", "second result", "third result", "fourth result"};
+static const char *const pen_names[PENS] = {"table", "input", "outcomes", "first result", "second result", "third result", "fourth result",
+                                            "fifth result"};
 
 static void say(const char *text)
 {
@@ -142,8 +143,8 @@ static uint64_t make(const struct call *call)
     uint8_t *table = pens[TABLE].lent, *input = pens[INPUT].lent, *outcomes = pens[OUTCOMES].lent;
     size_t table_len = pens[TABLE].length, input_len = pens[INPUT].length, outcomes_len = pens[OUTCOMES].length;
     const uint64_t *n = call->numbers;
-    uint64_t *results[4];
-    for (int i = 0; i < 4; i++)
+    uint64_t *results[5];
+    for (int i = 0; i < 5; i++)
         results[i] = (uint64_t *)pens[FIRST_RESULT + i].lent;
 
     switch (call->function) {
@@ -153,7 +154,7 @@ static uint64_t make(const struct call *call)
         return hondivole_convert(input, input_len, table, table_len);
     case FLOW:
         return hondivole_flow(table, table_len, input, input_len, outcomes, outcomes_len, results[0], results[1], results[2],
-                              results[3]);
+                              results[3], results[4]);
     case EXECUTE:
         return hondivole_execute(table, table_len, input, input_len, n[0], n[1], n[2], n[3], n[4], n[5], n[6],
                                  results[0]);
@@ -183,7 +184,7 @@ static void serve(const struct call *call, int at_end)
     alarm(0);
     look_over(call);
 
-    for (int i = 0; i < 4; i++)
+    for (int i = 0; i < 5; i++)
         answer.results[i] = *(uint64_t *)pens[FIRST_RESULT + i].lent;
     give(&answer, sizeof answer);
     if (call->function != TOTALS)

@@ -27,7 +27,7 @@ struct call {
 
 struct answer {
     uint64_t code;
-    uint64_t results[4]; /* as the header lists them; a balance or a number of days as its 64 bits */
+    uint64_t results[5]; /* as the header lists them; a balance or a number of days as its 64 bits */
 };
 
 static const char *const function_names[FUNCTIONS] = {"hondivole_open", "hondivole_convert", "hondivole_flow", "hondivole_execute",

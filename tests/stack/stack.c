@@ -26,7 +26,7 @@ static uint8_t *stack; /* its lowest byte; below it lie pages that may not be to
 static uint8_t table[HONDIVOLE_MOST_TABLE_BYTES], old[HONDIVOLE_MOST_TABLE_BYTES], outcomes[HONDIVOLE_MOST_OUTCOME_BYTES];
 static uint8_t flow[HONDIVOLE_MOST_FLOW_BYTES + 1];
 static size_t flow_len;
-static uint64_t code, results[4];
+static uint64_t code, results[5];
 static int64_t balance;
 static uint8_t request[HONDIVOLE_REQUEST_BYTES(16)];
 static size_t request_len, table_len, old_len;
@@ -129,7 +129,7 @@ static void call_convert(void) { code = hondivole_convert(old, old_len, table, t
 static void call_flow(void)
 {
     code = hondivole_flow(table, table_len, flow, flow_len, outcomes, sizeof outcomes, &results[0], &results[1], &results[2],
-                          &results[3]);
+                          &results[3], &results[4]);
 }
 static void call_execute(void)
 {

@@ -32,7 +32,7 @@ unsafe extern "C" {
     ///
     /// # Safety
     ///
-    /// Each pointer is good for its length, the last four for one number each; `table`, `outcomes` and the four numbers can be
+    /// Each pointer is good for its length, the last five for one number each; `table`, `outcomes` and the five numbers can be
     /// written, and no two of all these overlap.
     pub fn hondivole_flow(
         table: *mut u8,
@@ -45,6 +45,7 @@ unsafe extern "C" {
         orders: *mut u64,
         accepted: *mut u64,
         cause: *mut u64,
+        steps: *mut u64,
     ) -> u64;
 
     /// Takes a notice of execution: see [`Table::execute`](crate::Table::execute).

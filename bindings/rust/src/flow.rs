@@ -100,7 +100,8 @@ impl OrderOutcome {
     }
 }
 
-/// The answer to a flow that was taken: how many of its orders were accepted, and what became of each.
+/// The answer to a flow that was taken: how many of its orders were accepted, how many slots their searches looked at, and what became of
+/// each.
 ///
 /// ```
 /// use hondivole::{Refusal, Table, MOST_OUTCOME_BYTES};
@@ -118,6 +119,7 @@ impl OrderOutcome {
 #[derive(Clone, Copy, Debug, PartialEq, Eq)]
 pub struct FlowAnswer<'o> {
     pub(crate) accepted: usize,
+    pub(crate) steps: u64,
     pub(crate) outcomes: &'o [[u8; 16]],
 }
 
@@ -146,6 +148,23 @@ impl<'o> FlowAnswer<'o> {
     /// ```
     pub fn accepted(&self) -> usize {
         self.accepted
+    }
+
+    /// How many slots of the body the searches for its orders looked at, together: each up to and including the slot found, or all used
+    /// slots when there is none; none for an order refused before its search (codes 11, 12 and 13). At most the number of orders times the
+    /// body's slots.
+    ///
+    /// ```
+    /// # use hondivole::{Refusal, Table};
+    /// # let flow = include_bytes!("run.xml").as_slice();
+    /// let mut table = Table::open("01234", &[("000471", 4)])?;
+    /// // The mandato meets an empty body, and the reversale's line doesn't sum to its total; then the mandato is found in the first slot.
+    /// assert_eq!(table.flow(flow, &mut [0; 32])?.steps(), 0);
+    /// assert_eq!(table.flow(flow, &mut [0; 32])?.steps(), 1);
+    /// # Ok::<(), Refusal>(())
+    /// ```
+    pub fn steps(&self) -> u64 {
+        self.steps
     }
 
     /// What became of each order, in the flow's order.

@@ -254,7 +254,7 @@ impl<B: AsMut<[u8]>> Table<B> {
     /// ```
     pub fn flow<'o>(&mut self, flow: &[u8], outcomes: &'o mut [u8]) -> Result<FlowAnswer<'o>, Refusal> {
         let table = self.bytes.as_mut();
-        let (mut place, mut orders, mut accepted, mut cause) = (0, 0, 0, 0);
+        let (mut place, mut orders, mut accepted, mut cause, mut steps) = (0, 0, 0, 0, 0);
         // SAFETY: the pointers and lengths are those of slices that don't overlap and of numbers that live here.
         let code = unsafe {
             ffi::hondivole_flow(
@@ -268,11 +268,12 @@ impl<B: AsMut<[u8]>> Table<B> {
                 &mut orders,
                 &mut accepted,
                 &mut cause,
+                &mut steps,
             )
         };
         Refusal::answer(code, place, cause)?;
         let (written, _) = outcomes.as_chunks();
-        Ok(FlowAnswer { accepted: accepted as usize, outcomes: &written[..orders as usize] })
+        Ok(FlowAnswer { accepted: accepted as usize, steps, outcomes: &written[..orders as usize] })
     }
 
     /// Takes the bank's notice that a line is executed; the answer is the line's amount in cents.

@@ -110,7 +110,8 @@ fn notices() {
     assert_eq!(verdicts, [Err(Refusal::LineExecuted), Err(Refusal::LinesDontSum)]);
     assert_eq!(table.totals("000471"), Ok(Totals { used: 1, paid: 10_000, collected: 0, balance: -10_000 }));
     assert_eq!(table.reverse(&LINE), Ok(10_000));
-    assert_eq!(table.flow(&again, &mut outcomes).unwrap().accepted(), 1);
+    let answer = table.flow(&again, &mut outcomes).unwrap();
+    assert_eq!((answer.accepted(), answer.steps()), (1, 1));
     assert_eq!(table.execute(&LINE), Err(Refusal::OrderAnnulled));
 }
 

@@ -7,61 +7,16 @@ use casebook::number;
 use casebook::say;
 use casebook::say_next;
 use casebook::say_number;
-use desk::FlowAnswer;
 use notices::NoticeAnswer;
-use opening::Opened;
 use record::Key;
 ghost use mathlib.Core.Path.{_≡_};
 ghost use Prim.Native.Nat.{_+_, _≤_, _<_};
 ghost use lib.ListN.{length};
 
-// Says so if out, which was all zero, has something else from a place on.
-fn say_touched(out: &[u8], from: usize) {
-    let mut i = from;
-    while i < out.len() {
-        if out[i] != 0 {
-            return say(b", touched");
-        }
-        i += 1;
-    }
-}
-
-// A flow's answer: code, place, orders, accepted, cause, and the outcomes.
-fn say_flow(a: FlowAnswer, out: &[u8]) {
-    let r = desk::reply_of(a);
-    say_number(r.code);
-    say_next(r.place);
-    say_next(r.orders);
-    say_next(r.accepted);
-    say_next(r.cause);
-    let past = casebook::say_outcomes(out, r.orders, b",", b"");
-    say_touched(out, past)
-}
-
-// A flow's call with at most so many bytes of out for its outcomes.
-fn run_within(t: &mut [u8], flow: &[u8], room: u64, out: &mut [u8]) {
-    let all = out.len() as u64;
-    if all <= room {
-        let a = desk::take_flow(t, flow, out);
-        return say_flow(a, out);
-    }
-    let a = desk::take_flow(t, flow, &mut out[..room as usize]);
-    say_flow(a, out)
-}
-
-fn run_flow(t: &mut [u8], flow: &[u8], room: u64) {
-    let mut out = [0u8; 1024];
-    run_within(t, flow, room, &mut out);
-}
-
 fn say_notice(a: NoticeAnswer) {
     let r = notices::reply_of(a);
     say_number(r.code);
     say_next(r.cents);
-}
-
-fn say_opened(o: Opened) {
-    say_number(opening::code_of(o));
 }
 
 // Collected less paid, which may be below zero.
@@ -84,45 +39,6 @@ fn run_totals(t: &[u8], body: &[u8]) {
     say_next(a.paid);
     say_next(a.collected);
     say_balance(a.paid, a.collected, a.balance);
-}
-
-// Opens a table in the first bytes of t: the length that it was given.
-fn run_open(t: &mut [u8], request: &[u8], n: u64) -> usize
-    ensures { λ r. ⌜ r ≤ length (now (t .exit)) ⌝ }
-{
-    if 65800 < n {
-        return 0;
-    }
-    let k = n as usize;
-    if t.len() < k {
-        return 0;
-    }
-    say_opened(opening::open_table(request, &mut t[..k]));
-    k
-}
-
-fn run_poke(t: &mut [u8], at: u64, b: u64) {
-    let n = t.len() as u64;
-    if n <= at {
-        return say(b"none");
-    }
-    t[at as usize] = (b % 256) as u8;
-    say(b"done")
-}
-
-// A flow of the first n bytes of f.
-fn run_front(t: &mut [u8], f: &[u8], n: u64) {
-    let all = f.len() as u64;
-    if all <= n {
-        return run_flow(t, f, 1024);
-    }
-    run_flow(t, &f[..n as usize], 1024)
-}
-
-// A flow of so many zero bytes.
-fn run_long(t: &mut [u8], n: u64) {
-    let f = [0u8; 32769];
-    run_front(t, &f, n);
 }
 
 // The date in column k and the two after it.
@@ -172,10 +88,10 @@ fn run_call(s: &[u8], a: usize, e: usize, kind: &[u8], t: &mut [u8])
     requires { ⌜ (a ≤ e) × (e ≤ length (now s)) × (length (now s) ≤ 262144) ⌝ }
 {
     if scan::same(kind, b"poke") {
-        return run_poke(t, number(s, a, e, 2), number(s, a, e, 3));
+        return deskbook::run_poke(t, number(s, a, e, 2), number(s, a, e, 3));
     }
     if scan::same(kind, b"long") {
-        return run_long(t, number(s, a, e, 2));
+        return deskbook::run_long(t, number(s, a, e, 2));
     }
     if scan::same(kind, b"first") {
         return run_first(date_at(s, a, e, 2));
@@ -185,7 +101,7 @@ fn run_call(s: &[u8], a: usize, e: usize, kind: &[u8], t: &mut [u8])
     }
     let mut f = [0u8; 4096];
     let n = casebook::bytes(s, a, e, 2, &mut f);
-    run_flow(t, &f[..n], number(s, a, e, 3))
+    deskbook::run_flow(t, &f[..n], number(s, a, e, 3))
 }
 
 // One line: the length of the table from there on.
@@ -201,7 +117,7 @@ fn run_line(s: &[u8], a: usize, e: usize, t: &mut [u8], len: usize) -> usize
     let mut request = [0u8; 512];
     let n = casebook::bytes(s, a, e, 2, &mut request);
     let k = number(s, a, e, 3);
-    run_open(t, &request[..n], k)
+    deskbook::run_open(t, &request[..n], k)
 }
 
 // Where the last column of the line from a up to e begins.

@@ -26,7 +26,7 @@ use Rattle.flow.specs.declared.Verdict.{Verdict}
 use Rattle.flow.specs.declared.Verdict.the-variants.{Stands}
 use Rattle.flow.specs.Flow.{verdictOf, headerOf, flowOrders}
 use Rattle.flow.proofs.Laws.{flow-stood}
-use Rattle.service.specs.Service.{allLeave, allOutcomes, allAccepted}
+use Rattle.service.specs.Service.{allLeave, allOutcomes, allAccepted, allSteps}
 use Rattle.desk.specs.declared.FlowAnswer.{FlowAnswer}
 use Rattle.desk.specs.declared.FlowAnswer.the-variants.{InvalidTable, TooLong, OtherBank, NoRoom, Taken}
 use Rattle.desk.specs.Desk.{maxFlow, withRoom, forBody, forBank, forFlow, flowReads, Gives, FlowPromise}
@@ -39,10 +39,10 @@ module _ (t out : List ℕ) (os : List Ordinativo) where
     pub room-none : length out < 16 * count → Gives t out (withRoom (length out) base n year os) NoRoom t out
     room-none l = rw (lt-leb (16 * length os) (length out) (omega arith)) (refl, refl, refl)
 
-    pub room-served : {accepted : ℕ} {t′ out′ : List ℕ} → 16 * count ≤ length out
-        → accepted ≡ allAccepted t base n year os → t′ ≡ allLeave t base n year os → out′ ≡ put out 0 (allOutcomes t base n year os)
-        → Gives t out (withRoom (length out) base n year os) (Taken count accepted) t′ out′
-    room-served l a u o = rw (le-leb (16 * length os) (length out) (omega arith), e, a, u, o) (refl, refl, refl)
+    pub room-served : {accepted steps : ℕ} {t′ out′ : List ℕ} → 16 * count ≤ length out
+        → accepted ≡ allAccepted t base n year os → steps ≡ allSteps t base n year os → t′ ≡ allLeave t base n year os → out′ ≡ put out 0 (allOutcomes t base n year os)
+        → Gives t out (withRoom (length out) base n year os) (Taken count accepted steps) t′ out′
+    room-served l a p u o = rw (le-leb (16 * length os) (length out) (omega arith), e, a, p, u, o) (refl, refl, refl)
 
 module _ (t out : List ℕ) (h : Header) (os : List Ordinativo) where
   pub body-read : {code : List ℕ} {a b : Addressed} {r : FlowAnswer} {t′ out′ : List ℕ} → code ≡ h .ente → a ≡ bodyNamed t code → a ≡ b

@@ -26,17 +26,17 @@ code-keeps t f out h p =
     let k = coded t out (flowReads t f (length out)) (λ z. h (ap flowCode (p .0) ∙ z)) in
     (p .1 ∙ k .0, p .2 ∙ k .1)
 
--- "A refusal gives orders and accepted 0"
-pub code-zeros : (r : FlowAnswer) → (flowCode r ≡ 0 → ⊥) → (flowReply r .orders ≡ 0) × (flowReply r .accepted ≡ 0)
-code-zeros InvalidTable h = (refl, refl)
-code-zeros TooLong h = (refl, refl)
-code-zeros BrokenMarkup h = (refl, refl)
-code-zeros BrokenStructure h = (refl, refl)
-code-zeros (BrokenField p c) h = (refl, refl)
-code-zeros OtherBank h = (refl, refl)
-code-zeros UnknownBody h = (refl, refl)
-code-zeros NoRoom h = (refl, refl)
-code-zeros (Taken orders accepted) h = absurd (h refl)
+-- "A refusal gives orders and accepted 0"; "refused flows count 0" (document 02, Req 09)
+pub code-zeros : (r : FlowAnswer) → (flowCode r ≡ 0 → ⊥) → (flowReply r .orders ≡ 0) × (flowReply r .accepted ≡ 0) × (flowReply r .steps ≡ 0)
+code-zeros InvalidTable h = (refl, refl, refl)
+code-zeros TooLong h = (refl, refl, refl)
+code-zeros BrokenMarkup h = (refl, refl, refl)
+code-zeros BrokenStructure h = (refl, refl, refl)
+code-zeros (BrokenField p c) h = (refl, refl, refl)
+code-zeros OtherBank h = (refl, refl, refl)
+code-zeros UnknownBody h = (refl, refl, refl)
+code-zeros NoRoom h = (refl, refl, refl)
+code-zeros (Taken orders accepted steps) h = absurd (h refl)
 
 -- there is no second result
 pub one-result : (t f out : List ℕ) {r r′ : FlowAnswer} {u u′ o o′ : List ℕ} → FlowPromise t f out r u o → FlowPromise t f out r′ u′ o′ → (r ≡ r′) × (u ≡ u′) × (o ≡ o′)

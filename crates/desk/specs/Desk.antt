@@ -14,7 +14,7 @@ use Rattle.orders.specs.Orders.{Header}
 use Rattle.flow.specs.declared.Verdict.{Verdict}
 use Rattle.flow.specs.declared.Verdict.the-variants.{MarkupBreaks, StructureBreaks, FieldBreaks, Stands}
 use Rattle.flow.specs.Flow.{verdictOf, headerOf, flowOrders}
-use Rattle.service.specs.Service.{outcomeSize, allLeave, allOutcomes, allAccepted}
+use Rattle.service.specs.Service.{outcomeSize, allLeave, allOutcomes, allAccepted, allSteps}
 use Rattle.address.specs.declared.Addressed.{Addressed}
 use Rattle.address.specs.declared.Addressed.the-variants.{Invalid, Unknown, Body}
 use Rattle.address.specs.Address.{bodyNamed}
@@ -62,7 +62,7 @@ flowReads t f room =
 -- the answer
 abbrev pub flowAnswer : List ℕ → Reading → FlowAnswer
 flowAnswer t (refused a) = a
-flowAnswer t (served base n year os) = Taken (length os) (allAccepted t base n year os)
+flowAnswer t (served base n year os) = Taken (length os) (allAccepted t base n year os) (allSteps t base n year os)
 
 -- the table afterwards: "Codes 1 to 10 change no buffer. Otherwise .. orders are taken as written, each on the table the one before left"
 abbrev pub flowTable : List ℕ → Reading → List ℕ
@@ -86,27 +86,28 @@ FlowPromise t f out a t′ out′ = Gives t out (flowReads t f (length out)) a t
 
 -- DOCUMENT 01'S NUMBERS of an answer: "A refusal gives orders and accepted 0; place is 0 but for code 5". Document 02, Req 03: "the flow's answer
 -- carries it: 1 empty, 2 longer than the longest allowed text, 3 wrong form, 4 right form but a value outside its range. .. All other answers carry
--- cause 0"
+-- cause 0". Req 09: "refused flows count 0 .. The flow's answer carries their sum"
 abbrev refusal : ℕ → FlowReply
-refusal c = record { code = c; place = 0; orders = 0; accepted = 0; cause = 0 }
+refusal c = record { code = c; place = 0; orders = 0; accepted = 0; cause = 0; steps = 0 }
 
 abbrev pub flowReply : FlowAnswer → FlowReply
 flowReply InvalidTable = refusal 1
 flowReply TooLong = refusal 2
 flowReply BrokenMarkup = refusal 3
 flowReply BrokenStructure = refusal 4
-flowReply (BrokenField p c) = record { code = 5; place = p; orders = 0; accepted = 0; cause = causeNumber c }
+flowReply (BrokenField p c) = record { code = 5; place = p; orders = 0; accepted = 0; cause = causeNumber c; steps = 0 }
 flowReply OtherBank = refusal 6
 flowReply UnknownBody = refusal 7
 flowReply NoRoom = refusal 8
-flowReply (Taken n m) = record { code = 0; place = 0; orders = n; accepted = m; cause = 0 }
+flowReply (Taken n m k) = record { code = 0; place = 0; orders = n; accepted = m; cause = 0; steps = k }
 
 abbrev pub flowCode : FlowAnswer → ℕ
 flowCode a = flowReply a .code
 
 -- the same reply, number by number
 abbrev pub SameReply : FlowReply → FlowReply → Type 0
-SameReply m n = (m .code ≡ n .code) × (m .place ≡ n .place) × (m .orders ≡ n .orders) × (m .accepted ≡ n .accepted) × (m .cause ≡ n .cause)
+SameReply m n =
+    (m .code ≡ n .code) × (m .place ≡ n .place) × (m .orders ≡ n .orders) × (m .accepted ≡ n .accepted) × (m .cause ≡ n .cause) × (m .steps ≡ n .steps)
 
 -- the promise in these numbers
 abbrev pub FlowReplies : List ℕ → List ℕ → List ℕ → FlowReply → List ℕ → List ℕ → Type 0

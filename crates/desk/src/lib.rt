@@ -10,6 +10,7 @@ ghost use mathlib.Core.Bool.{true};
 ghost use Prim.Native.Nat.{ℕ, _+_, _*_, _≤_, _<_};
 ghost use lib.ListN.{length};
 ghost use Rattle.markup.specs.Noted.{Noted};
+ghost use Rattle.bounds.specs.Bounds.{maxSlots};
 ghost use Rattle.record.specs.Slot.{slotSize};
 ghost use Rattle.table.specs.Table.{tableOk};
 ghost use Rattle.rows.specs.declared.Parent.the-variants.{FlussoOrdinativi};
@@ -30,16 +31,17 @@ pub enum FlowAnswer {
     OtherBank,
     UnknownBody,
     NoRoom,
-    Taken(usize, usize),
+    Taken(usize, usize, usize),
 }
 
-// Document 01's numbers of an answer, and the cause that document 02 adds.
+// Document 01's numbers of an answer, and the cause and steps that document 02 adds.
 pub struct FlowReply {
     pub code: u64,
     pub place: u64,
     pub orders: u64,
     pub accepted: u64,
     pub cause: u64,
+    pub steps: u64,
 }
 
 // The orders of a flow for a body of the table: 8, or they are served.
@@ -53,7 +55,7 @@ fn with_room(
     out: &mut [u8],
     past: &[u32],
 ) -> FlowAnswer
-    requires { ⌜ (base + slotSize * n ≤ length (now t)) × Rooted FlussoOrdinativi (now f) (now past) from × (length (now f) ≤ maxFlow) ⌝ }
+    requires { ⌜ (base + slotSize * n ≤ length (now t)) × (n ≤ maxSlots) × Rooted FlussoOrdinativi (now f) (now past) from × (length (now f) ≤ maxFlow) ⌝ }
     ensures { λ r. ⌜ Gives (now (t .entry)) (now (out .entry))
         (withRoom (length (now (out .entry))) base n year (ordersFrom FlussoOrdinativi (now (f .entry)) from)) r (now (t .exit)) (now (out .exit)) ⌝ }
 {
@@ -61,20 +63,18 @@ fn with_room(
     if out.len() < service::OUTCOME * count {
         return FlowAnswer::NoRoom;
     }
-    FlowAnswer::Taken(
-        count,
-        serving::serve_all(
-            t,
-            f,
-            from,
-            Parent::FlussoOrdinativi,
-            base,
-            n,
-            year,
-            out,
-            past,
-        ),
-    )
+    let s = serving::serve_all(
+        t,
+        f,
+        from,
+        Parent::FlussoOrdinativi,
+        base,
+        n,
+        year,
+        out,
+        past,
+    );
+    FlowAnswer::Taken(count, s.accepted, s.steps)
 }
 
 // The orders of a flow, for the body with the flow's code: 7, or as the room says.
@@ -141,7 +141,7 @@ pub fn take_flow(t: &mut [u8], f: &[u8], out: &mut [u8]) -> FlowAnswer
 }
 
 fn refusal(code: u64) -> FlowReply
-    ensures { λ r. ⌜ SameReply r (record { code = code; place = 0; orders = 0; accepted = 0; cause = 0 }) ⌝ }
+    ensures { λ r. ⌜ SameReply r (record { code = code; place = 0; orders = 0; accepted = 0; cause = 0; steps = 0 }) ⌝ }
 {
     FlowReply {
         code,
@@ -149,6 +149,7 @@ fn refusal(code: u64) -> FlowReply
         orders: 0,
         accepted: 0,
         cause: 0,
+        steps: 0,
     }
 }
 
@@ -167,16 +168,18 @@ pub fn reply_of(a: FlowAnswer) -> FlowReply
             orders: 0,
             accepted: 0,
             cause: fields::cause_number(x),
+            steps: 0,
         },
         FlowAnswer::OtherBank => refusal(6),
         FlowAnswer::UnknownBody => refusal(7),
         FlowAnswer::NoRoom => refusal(8),
-        FlowAnswer::Taken(n, k) => FlowReply {
+        FlowAnswer::Taken(n, k, s) => FlowReply {
             code: 0,
             place: 0,
             orders: n as u64,
             accepted: k as u64,
             cause: 0,
+            steps: s as u64,
         },
     }
 }

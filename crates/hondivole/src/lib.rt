@@ -36,9 +36,17 @@ pub extern "C" fn hondivole_flow(
     orders: &mut u64,
     accepted: &mut u64,
     cause: &mut u64,
+    steps: &mut u64,
 ) -> u64
     ensures { λ r. ⌜ FlowReplies (now (table .entry)) (now (flow .entry)) (now (outcomes .entry))
-        (record { code = r; place = now (place .exit); orders = now (orders .exit); accepted = now (accepted .exit); cause = now (cause .exit) })
+        (record {
+          code = r;
+          place = now (place .exit);
+          orders = now (orders .exit);
+          accepted = now (accepted .exit);
+          cause = now (cause .exit);
+          steps = now (steps .exit);
+        })
         (now (table .exit)) (now (outcomes .exit)) ⌝ }
 {
     let a = desk::reply_of(desk::take_flow(table, flow, outcomes));
@@ -46,6 +54,7 @@ pub extern "C" fn hondivole_flow(
     *orders = a.orders;
     *accepted = a.accepted;
     *cause = a.cause;
+    *steps = a.steps;
     a.code
 }
 

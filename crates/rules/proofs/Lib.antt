@@ -3,3 +3,4 @@ pub mod Judging
 pub mod Kept
 pub mod Listed
 pub mod Codes
+pub mod Searches

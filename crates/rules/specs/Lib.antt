@@ -1,5 +1,6 @@
 pub mod Rules
 pub mod Effects
+pub mod Searches
 pub mod Listed
 pub mod Inner
 pub mod Worth

@@ -33,10 +33,12 @@ use Rattle.rules.specs.declared.Noticed.the-variants.{Moved, Unmoved}
 use Rattle.lines.specs.Lines.{lineCode}
 use Rattle.rules.specs.Rules.{asksOf, keyFor, nth, noRecord, unless, stepped, judgeChange, judgeAsked, judgeOrder, recordOf, written, noticeIn, noticeAt, judgeNotice}
 use Rattle.rules.specs.Inner.{absentCode}
+use Rattle.rules.specs.Searches.{stepsSearched, stepsAsked, stepsOf}
 use Rattle.rules.proofs.Judging.{accepted-slot, moved}
 use Rattle.rules.proofs.Codes.{stepped-at, stepped-none, absent-zero}
+use Rattle.service.specs.declared.Counted.{Counted}
 use Rattle.service.specs.Inner.{onRecord, onNone, Ruled}
-use Rattle.service.specs.Service.{orderComes, orderStored, OrderServed, outcomeBytes, noticeComes, noticeStored, noticeLeaves}
+use Rattle.service.specs.Service.{orderComes, orderSteps, orderStored, OrderServed, outcomeBytes, noticeComes, noticeStored, noticeLeaves}
 
 -- A RECORD OF A BODY stands in its slot
 pub record Held (t : List ℕ) (base n i : ℕ) : Type 0 where
@@ -64,6 +66,11 @@ unless-stop : (code : ℕ) (next : Ruling) → (code ≡ 0 → ⊥) → unless R
 unless-stop zero next h = absurd (h refl)
 unless-stop (suc code) next h = refl
 
+-- and no search is counted
+unless-none : (code steps : ℕ) → (code ≡ 0 → ⊥) → unless (λ c. 0) code steps ≡ 0
+unless-none zero steps h = absurd (h refl)
+unless-none (suc code) steps h = refl
+
 -- refused, or not, by a code: where its record is, and where it has none
 module _ (t : List ℕ) (base year : ℕ) (o : Ordinativo) (next : Ruling) {code′ code : ℕ} (e : code ≡ code′) where
   pub ruled-refused : (code ≡ 0 → ⊥) → Ruled t base year o (unless Refused code′ next) (Refused code) t
@@ -89,6 +96,9 @@ module _ (t : List ℕ) (base n year : ℕ) (o : Ordinativo) (c : Change) {code 
   pub change-lines : (code ≡ 0 → ⊥) → Ruled t base year o (judgeChange n year o (recordsAt t base n) c) (Refused code) t
   change-lines h = ruled-refused t base year o (stepped n o (recordsAt t base n) c (findIn (recordsAt t base n) 0 (keyFor year o))) e h
 
+  pub steps-lines : (code ≡ 0 → ⊥) → 0 ≡ stepsSearched year o (recordsAt t base n)
+  steps-lines h = rw (← e) (sym (unless-none code _ h))
+
   module _ {f : Sought} (h : code ≡ 0) (g : f ≡ seekIn (recordsAt t base n) 0 (keyFor year o)) where
     seek-here : {x : Sought} → f ≡ x → seekIn (recordsAt t base n) 0 (keyFor year o) ≡ x
     seek-here z = sym g ∙ z
@@ -112,18 +122,35 @@ module _ (t : List ℕ) (base n year : ℕ) (o : Ordinativo) (c : Change) {code 
         let d : length (recordsAt t base n) ≡ m = omega (arith, a .1) in
         (r .0 ∙ rw (← e, h, a .0, b, d), r .1)
 
+    -- the one walk tells the steps: up to and including the slot found, or all that are used
+    pub steps-at : {i : ℕ} → f ≡ sought.At i → i + 1 ≡ stepsSearched year o (recordsAt t base n)
+    steps-at {i} z =
+        let a = seek-at (recordsAt t base n) 0 (keyFor year o) i (seek-here z) in
+        rw (← e, h, a) (omega arith)
+
+    pub steps-none : {m : ℕ} → f ≡ sought.Absent m → m ≡ stepsSearched year o (recordsAt t base n)
+    steps-none {m} z =
+        let a = seek-absent (recordsAt t base n) 0 (keyFor year o) m (seek-here z) in
+        rw (← e, h, a .0) (omega (arith, a .1))
+
 -- its operation decides
 module _ (t : List ℕ) (base n year : ℕ) (o : Ordinativo) {a : Asks} (e : a ≡ asksOf (o .operation)) where
   comes-by : {b : Asks} → a ≡ b → orderComes t base n year o ≡ judgeAsked n year o (recordsAt t base n) b
   unfolding orderComes judgeOrder
   comes-by q = ap (judgeAsked n year o (recordsAt t base n)) (sym e ∙ q)
 
-  pub served-change : {c : Change} {j : Ruling} {t′ : List ℕ} → a ≡ For c → Ruled t base year o (judgeChange n year o (recordsAt t base n) c) j t′ → OrderServed t base n year o j t′
-  served-change q r = let x = r .0 ∙ sym (comes-by q) in (x, r .1 ∙ ap (orderStored t base year o) x)
+  steps-by : {b : Asks} → a ≡ b → orderSteps t base n year o ≡ stepsAsked year o (recordsAt t base n) b
+  unfolding stepsOf
+  steps-by q = ap (stepsAsked year o (recordsAt t base n)) (sym e ∙ q)
 
-  pub served-refused : {code : ℕ} → a ≡ Unserved code → OrderServed t base n year o (Refused code) t
+  pub served-change : {c : Change} (r : Counted) {t′ : List ℕ} → a ≡ For c
+      → Ruled t base year o (judgeChange n year o (recordsAt t base n) c) (r .ruling) t′ × (r .steps ≡ stepsSearched year o (recordsAt t base n))
+      → OrderServed t base n year o r t′
+  served-change r q s = let x = s .0 .0 ∙ sym (comes-by q) in (x, s .1 ∙ sym (steps-by q), s .0 .1 ∙ ap (orderStored t base year o) x)
+
+  pub served-refused : {code : ℕ} → a ≡ Unserved code → OrderServed t base n year o (record { ruling = Refused code; steps = 0 }) t
   unfolding orderStored
-  served-refused q = let x = sym (comes-by q) in (x, ap (orderStored t base year o) x)
+  served-refused q = let x = sym (comes-by q) in (x, sym (steps-by q), ap (orderStored t base year o) x)
 
 -- its slot is one of the body's
 pub order-low : (t : List ℕ) (base n year : ℕ) (o : Ordinativo) (c : Change) (i : ℕ) → orderComes t base n year o ≡ Accepted c i → i < n

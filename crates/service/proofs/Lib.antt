@@ -4,3 +4,4 @@ pub mod Kept
 pub mod Totals
 pub mod Moved
 pub mod Own
+pub mod Searches

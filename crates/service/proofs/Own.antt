@@ -23,10 +23,11 @@ use Rattle.rules.specs.declared.Ruling.the-variants.{Accepted, Refused}
 use Rattle.rules.specs.declared.Noticed.{Noticed}
 use Rattle.rules.specs.declared.Noticed.the-variants.{Moved, Unmoved}
 use Rattle.rules.specs.Rules.{judgeOrder, orderCode, written, judgeNotice, movedTo}
+use Rattle.rules.specs.Searches.{stepsOf}
 use Rattle.rules.proofs.Kept.{split}
 use Rattle.service.proofs.Laws.{order-low, notice-line}
 use Rattle.service.proofs.Kept.{Writables, none, more, order-kept}
-use Rattle.service.specs.Service.{orderComes, orderStored, orderLeaves, outcomeBytes, allLeave, allOutcomes, allAccepted, noticeComes, statePlace, lineMoved, settled, noticeStored, noticeLeaves}
+use Rattle.service.specs.Service.{orderComes, orderStored, orderLeaves, outcomeBytes, allLeave, allOutcomes, allAccepted, allSteps, noticeComes, statePlace, lineMoved, settled, noticeStored, noticeLeaves}
 use Rattle.service.specs.Inner.{Served}
 
 -- the same bytes put at the same place
@@ -139,6 +140,7 @@ notice-own {s} {t} {e} {base} {n} a b S T executing k line =
 pub record Same (s t : List ℕ) (p q n year : ℕ) (os : List Ordinativo) : Type 0 where
   pub outcomes : allOutcomes s p n year os ≡ allOutcomes t q n year os
   pub accepted : allAccepted s p n year os ≡ allAccepted t q n year os
+  pub steps : allSteps s p n year os ≡ allSteps t q n year os
   pub left : Agree (allLeave s p n year os) p (allLeave t q n year os) q (slotSize * n)
 
 -- a body that a call can be served on
@@ -147,8 +149,8 @@ Ready t base n = (base + slotSize * n ≤ length t) × (bodyOk t base n ≡ true
 
 pub all-own : {s t : List ℕ} {p q : ℕ} (n year : ℕ) (os : List Ordinativo) → Agree s p t q (slotSize * n) → Ready s p n → Ready t q n → Writables os → (2000 ≤ year) × (year ≤ 2099)
     → Same s t p q n year os
-unfolding allOutcomes allAccepted allLeave
-all-own n year [] a hs ht none y = record { outcomes = refl; accepted = refl; left = a }
+unfolding allOutcomes allAccepted allSteps allLeave
+all-own n year [] a hs ht none y = record { outcomes = refl; accepted = refl; steps = refl; left = a }
 all-own {s} {t} {p} {q} n year (o ∷ os) a hs ht (more w ws) y =
     let e = order-same n a year o in
     let ks = order-kept s p n year o (hs .0) (hs .1) w y in
@@ -158,5 +160,6 @@ all-own {s} {t} {p} {q} n year (o ∷ os) a hs ht (more w ws) y =
     record {
       outcomes = λ k. outcomeBytes o (orderCode (e k)) ++ r .outcomes k;
       accepted = λ k. cond (eqb (orderCode (e k)) 0) 1 0 + r .accepted k;
+      steps = λ k. stepsOf year o (records-agree n a k) + r .steps k;
       left = r .left;
     }

@@ -19,6 +19,8 @@ use Rattle.rules.specs.declared.Ruling.the-variants.{Accepted, Refused}
 use Rattle.rules.specs.declared.Noticed.{Noticed}
 use Rattle.rules.specs.declared.Noticed.the-variants.{Moved, Unmoved}
 use Rattle.rules.specs.Rules.{judgeOrder, orderCode, written, judgeNotice, movedTo}
+use Rattle.rules.specs.Searches.{stepsOf}
+use Rattle.service.specs.declared.Counted.{Counted}
 
 -- A BODY of a table: where its slots begin, and how many they are; for a notice, where its entry begins too. An ORDER is served in the flow's esercizio, `year`.
 
@@ -34,9 +36,14 @@ orderStored t base year o (Refused code) = t
 abbrev pub orderLeaves : List ℕ → ℕ → ℕ → ℕ → Ordinativo → List ℕ
 orderLeaves t base n year o = orderStored t base year o (orderComes t base n year o)
 
--- an order served on the table t: the ruling r, and the table t′ afterwards
-abbrev pub OrderServed : List ℕ → ℕ → ℕ → ℕ → Ordinativo → Ruling → List ℕ → Type 0
-OrderServed t base n year o r t′ = (r ≡ orderComes t base n year o) × (t′ ≡ orderLeaves t base n year o)
+-- the slots that its search looked at (document 02, Req 09)
+abbrev pub orderSteps : List ℕ → ℕ → ℕ → ℕ → Ordinativo → ℕ
+orderSteps t base n year o = stepsOf year o (recordsAt t base n)
+
+-- an order served on the table t: the ruling and the steps r, and the table t′ afterwards
+abbrev pub OrderServed : List ℕ → ℕ → ℕ → ℕ → Ordinativo → Counted → List ℕ → Type 0
+OrderServed t base n year o r t′ =
+    (r .ruling ≡ orderComes t base n year o) × (r .steps ≡ orderSteps t base n year o) × (t′ ≡ orderLeaves t base n year o)
 
 -- "Each writes 16 outcome bytes"
 abbrev pub outcomeSize : ℕ
@@ -63,6 +70,11 @@ unfoldable pub allAccepted : List ℕ → ℕ → ℕ → ℕ → List Ordinativ
 allAccepted t base n year [] = 0
 allAccepted t base n year (o ∷ os) =
     cond (eqb (orderCode (orderComes t base n year o)) 0) 1 0 + allAccepted (orderLeaves t base n year o) base n year os
+
+-- "The flow's answer carries their sum" (document 02, Req 09)
+unfoldable pub allSteps : List ℕ → ℕ → ℕ → ℕ → List Ordinativo → ℕ
+allSteps t base n year [] = 0
+allSteps t base n year (o ∷ os) = orderSteps t base n year o + allSteps (orderLeaves t base n year o) base n year os
 
 -- A NOTICE
 

@@ -1,8 +1,8 @@
 // One order or one notice served on a body of a table's bytes: judged first, then stored. Each looks at the one record that its search found.
+use codes::Operation;
 use order::Order;
 use ranges::Found;
 use record::Key;
-use rules::Asks;
 use rules::Change;
 use rules::Noticed;
 use rules::Ruling;
@@ -18,8 +18,15 @@ ghost use Rattle.slots.specs.Slots.{recordsAt};
 ghost use Rattle.body.specs.Body.{bodyOk};
 ghost use Rattle.entries.specs.Entry.{entryFixed, entryRest, kept};
 ghost use Rattle.rules.specs.Rules.{judgeChange, movedTo};
+ghost use Rattle.rules.specs.Searches.{stepsSearched};
 ghost use Rattle.service.specs.Service.{outcomeSize, OrderServed, outcomeBytes, noticeComes, NoticeServed};
 ghost use Rattle.service.specs.Inner.{onRecord, onNone, Ruled, sumMoved, Movable, its, keptMoved, Served};
+
+// What an order comes to, and how many slots its search looked at.
+pub struct Counted {
+    pub ruling: Ruling,
+    pub steps: usize,
+}
 
 // How many bytes an order's outcome takes.
 pub const OUTCOME: usize = 16;
@@ -60,15 +67,19 @@ fn serve_absent(
     Ruling::Accepted(c, used)
 }
 
-// Serves an order that asks for a change: its lines, then one search for its key.
-fn serve_change(t: &mut [u8], base: usize, n: usize, year: u64, o: Order, c: Change) -> Ruling
+// Serves an order that asks for a change: its lines, then one search for its key, which tells the steps too.
+fn serve_change(t: &mut [u8], base: usize, n: usize, year: u64, o: Order, c: Change) -> Counted
     requires { ⌜ base + slotSize * n ≤ length (now t) ⌝ }
-    ensures { λ j. ⌜ Ruled (now (t .entry)) base year (ordinativo o) (judgeChange n year (ordinativo o) (recordsAt (now (t .entry)) base n) c) j (now (t .exit)) ⌝ }
+    ensures { λ j. ⌜ Ruled (now (t .entry)) base year (ordinativo o) (judgeChange n year (ordinativo o) (recordsAt (now (t .entry)) base n) c) (j .ruling) (now (t .exit))
+        × (j .steps ≡ stepsSearched year (ordinativo o) (recordsAt (now (t .entry)) base n)) ⌝ }
 {
     let ls = o.lines;
     let code = lines::check_lines(ls, o.total);
     if code != 0 {
-        return Ruling::Refused(code);
+        return Counted {
+            ruling: Ruling::Refused(code),
+            steps: 0,
+        };
     }
     let key = Key {
         kind: o.kind as u64,
@@ -76,20 +87,32 @@ fn serve_change(t: &mut [u8], base: usize, n: usize, year: u64, o: Order, c: Cha
         number: o.number,
     };
     match slots::seek(t, base, n, key) {
-        Sought::At(i) => serve_record(t, base, i, year, o, c),
-        Sought::Absent(used) => serve_absent(t, base, n, used, year, o, c),
+        Sought::At(i) => Counted {
+            ruling: serve_record(t, base, i, year, o, c),
+            steps: i + 1,
+        },
+        Sought::Absent(used) => Counted {
+            ruling: serve_absent(t, base, n, used, year, o, c),
+            steps: used,
+        },
     }
 }
 
-// Serves an order: its record is stored where it is accepted.
-pub fn serve_order(t: &mut [u8], base: usize, n: usize, year: u64, o: Order) -> Ruling
+// Serves an order: its record is stored where it is accepted. A call for each operation keeps the compiler from taking the search into the loop over
+// the orders, where its counters would lie in memory.
+pub fn serve_order(t: &mut [u8], base: usize, n: usize, year: u64, o: Order) -> Counted
     requires { ⌜ base + slotSize * n ≤ length (now t) ⌝ }
     ensures { λ r. ⌜ OrderServed (now (t .entry)) base n year (ordinativo o) r (now (t .exit)) ⌝ }
 {
     let operation = o.operation;
-    match rules::asks_of(operation) {
-        Asks::For(c) => serve_change(t, base, n, year, o, c),
-        Asks::Unserved(code) => Ruling::Refused(code),
+    match operation {
+        Operation::Inserimento => serve_change(t, base, n, year, o, Change::Insert),
+        Operation::Variazione => serve_change(t, base, n, year, o, Change::Vary),
+        Operation::Annullo => serve_change(t, base, n, year, o, Change::Annul),
+        Operation::Sostituzione => Counted {
+            ruling: Ruling::Refused(11),
+            steps: 0,
+        },
     }
 }
 

@@ -8,6 +8,7 @@ use lib.ListN.{length, length-map}
 use lib.Dec.{eqb}
 use Rattle.words.specs.Numbers.{put}
 use Rattle.words.proofs.Laws.{put-nil, put-put}
+use Rattle.bounds.specs.Bounds.{maxSlots}
 use Rattle.record.specs.Slot.{slotSize}
 use Rattle.rows.specs.declared.Parent.{Parent}
 use Rattle.rows.specs.declared.Kept.{Kept}
@@ -20,8 +21,9 @@ use Rattle.orders.specs.Orders.{those, orderOf, isOrder, ordersIn}
 use Rattle.orders.proofs.Laws.{those-at, orders-one, orders-end, Order-at, order-at}
 use Rattle.rules.specs.declared.Ruling.{Ruling}
 use Rattle.rules.specs.Rules.{orderCode}
-use Rattle.service.specs.Service.{orderComes, orderLeaves, outcomeBytes, allLeave, allOutcomes, allAccepted}
-use Rattle.serving.specs.Served.{ordersFrom, Rooted}
+use Rattle.service.specs.Service.{orderComes, orderSteps, orderLeaves, outcomeBytes, allLeave, allOutcomes, allAccepted, allSteps}
+use Rattle.service.proofs.Searches.{order-most}
+use Rattle.serving.specs.Served.{ordersFrom, Rooted, maxSteps}
 
 -- HOW MANY: each order takes at least a byte of the flow
 orders-by : (m : ℕ) (root : Parent) (f : List ℕ) (i : ℕ) → length f - i < m → i ≤ length f → length (ordersFrom root f i) ≤ length f - i
@@ -46,31 +48,49 @@ unfolding outcomeBytes
 outcome-length o code = refl
 
 -- SERVING, while the orders are walked: those from i on are to come, their outcomes from `to` on
-pub record Serving (root : Parent) (f past : List ℕ) (base n year : ℕ) (t₀ out₀ : List ℕ) (from : ℕ) (t out : List ℕ) (i to accepted : ℕ) : Type 0 where
+pub record Serving (root : Parent) (f past : List ℕ) (base n year : ℕ) (t₀ out₀ : List ℕ) (from : ℕ) (t out : List ℕ) (i to accepted steps : ℕ) : Type 0 where
   pub rooted : Rooted root f past i
   pub slots : base + slotSize * n ≤ length t
   pub room : to + 16 * length (ordersFrom root f i) ≤ length out
   pub few : accepted ≤ to
+  pub small : n ≤ maxSlots
+  pub most : steps + maxSlots * length (ordersFrom root f i) ≤ maxSteps
   pub same-table : length t ≡ length t₀
   pub same-out : length out ≡ length out₀
   pub counted : accepted + allAccepted t base n year (ordersFrom root f i) ≡ allAccepted t₀ base n year (ordersFrom root f from)
+  pub stepped : steps + allSteps t base n year (ordersFrom root f i) ≡ allSteps t₀ base n year (ordersFrom root f from)
   pub leaves : allLeave t base n year (ordersFrom root f i) ≡ allLeave t₀ base n year (ordersFrom root f from)
   pub outcomes : put out to (allOutcomes t base n year (ordersFrom root f i)) ≡ put out₀ 0 (allOutcomes t₀ base n year (ordersFrom root f from))
 
 module _ (root : Parent) (f past : List ℕ) (base n year : ℕ) (t₀ out₀ : List ℕ) (from : ℕ) where
-  pub serving-start : Rooted root f past from → base + slotSize * n ≤ length t₀ → 16 * length (ordersFrom root f from) ≤ length out₀ → Serving root f past base n year t₀ out₀ from t₀ out₀ from 0 0
-  serving-start r s h = record { rooted = r; slots = s; room = omega arith; few = omega arith; same-table = refl; same-out = refl; counted = omega arith; leaves = refl; outcomes = refl }
+  pub serving-start : Rooted root f past from → base + slotSize * n ≤ length t₀ → n ≤ maxSlots → 16 * length (ordersFrom root f from) ≤ length out₀
+      → maxSlots * length (ordersFrom root f from) ≤ maxSteps → Serving root f past base n year t₀ out₀ from t₀ out₀ from 0 0 0
+  serving-start r s v h m = record {
+    rooted = r;
+    slots = s;
+    room = omega arith;
+    few = omega arith;
+    small = v;
+    most = omega arith;
+    same-table = refl;
+    same-out = refl;
+    counted = omega arith;
+    stepped = omega arith;
+    leaves = refl;
+    outcomes = refl;
+  }
 
-  module _ (t out : List ℕ) (i to accepted : ℕ) (s : Serving root f past base n year t₀ out₀ from t out i to accepted) where
+  module _ (t out : List ℕ) (i to accepted steps : ℕ) (s : Serving root f past base n year t₀ out₀ from t out i to accepted steps) where
     pub serving-end : nextOf (those isOrder (keptFrom root f i)) ≡ Done
-        → (accepted ≡ allAccepted t₀ base n year (ordersFrom root f from)) × (t ≡ allLeave t₀ base n year (ordersFrom root f from)) × (out ≡ put out₀ 0 (allOutcomes t₀ base n year (ordersFrom root f from)))
-    unfolding allAccepted allLeave allOutcomes
+        → (accepted ≡ allAccepted t₀ base n year (ordersFrom root f from)) × (steps ≡ allSteps t₀ base n year (ordersFrom root f from)) × (t ≡ allLeave t₀ base n year (ordersFrom root f from)) × (out ≡ put out₀ 0 (allOutcomes t₀ base n year (ordersFrom root f from)))
+    unfolding allAccepted allSteps allLeave allOutcomes
     serving-end e =
         let z = orders-end root f i e in
         let a : accepted + 0 ≡ allAccepted t₀ base n year (ordersFrom root f from) = rw z at (s .counted) in
+        let p : steps + 0 ≡ allSteps t₀ base n year (ordersFrom root f from) = rw z at (s .stepped) in
         let l : t ≡ allLeave t₀ base n year (ordersFrom root f from) = rw z at (s .leaves) in
         let o : put out to [] ≡ put out₀ 0 (allOutcomes t₀ base n year (ordersFrom root f from)) = rw z at (s .outcomes) in
-        (omega arith, l, sym (put-nil out to) ∙ o)
+        (omega arith, omega arith, l, sym (put-nil out to) ∙ o)
 
     module _ (k : Kept) (e : nextOf (those isOrder (keptFrom root f i)) ≡ Named k) where
       pub serving-order : Order-at root f i k
@@ -79,11 +99,18 @@ module _ (root : Parent) (f past : List ℕ) (base n year : ℕ) (t₀ out₀ : 
       pub serving-room : to + 16 ≤ length out
       serving-room = let h : to + 16 * suc (length (ordersFrom root f (k .child .after))) ≤ length out = rw (serving-order .rest) at (s .room) in omega arith
 
-      pub serving-step : {o : Order} {j : Ruling} {code a : ℕ} {t′ out′ : List ℕ} → o ≡ orderOf f k → j ≡ orderComes t base n year (ordinativo o) → t′ ≡ orderLeaves t base n year (ordinativo o) → length t′ ≡ length t
+      -- an order's search looks at no more slots than the body has
+      pub serving-steps : (o : Ordinativo) {d : ℕ} → d ≡ orderSteps t base n year o → (steps + d) + maxSlots * length (ordersFrom root f (k .child .after)) ≤ maxSteps
+      serving-steps o e =
+          let h : steps + maxSlots * suc (length (ordersFrom root f (k .child .after))) ≤ maxSteps = rw (serving-order .rest) at (s .most) in
+          omega (arith, order-most t base n year o, s .small)
+
+      pub serving-step : {o : Order} {j : Ruling} {d code a : ℕ} {t′ out′ : List ℕ} → o ≡ orderOf f k → j ≡ orderComes t base n year (ordinativo o)
+          → d ≡ orderSteps t base n year (ordinativo o) → t′ ≡ orderLeaves t base n year (ordinativo o) → length t′ ≡ length t
           → code ≡ orderCode j → out′ ≡ put out to (outcomeBytes (ordinativo o) code) → length out′ ≡ length out → a ≡ cond (eqb code 0) 1 0 → a ≤ 1
-          → Serving root f past base n year t₀ out₀ from t′ out′ (k .child .after) (to + 16) (accepted + a)
-      unfolding allAccepted allLeave allOutcomes
-      serving-step {o} {j} {code} {a} {t′} {out′} eo ej et lt ec eu lu ea la =
+          → Serving root f past base n year t₀ out₀ from t′ out′ (k .child .after) (to + 16) (accepted + a) (steps + d)
+      unfolding allAccepted allSteps allLeave allOutcomes
+      serving-step {o} {j} {d} {code} {a} {t′} {out′} eo ej ed et lt ec eu lu ea la =
           let q = serving-order in
           let os = ordersFrom root f (k .child .after) in
           let l = q .lies in
@@ -91,10 +118,12 @@ module _ (root : Parent) (f past : List ℕ) (base n year : ℕ) (t₀ out₀ : 
           let w = s .few in
           let h : to + 16 * suc (length os) ≤ length out = rw (q .rest) at (s .room) in
           let c : accepted + (cond (eqb (orderCode (orderComes t base n year (ordinativo (orderOf f k)))) 0) 1 0 + allAccepted (orderLeaves t base n year (ordinativo (orderOf f k))) base n year os) ≡ allAccepted t₀ base n year (ordersFrom root f from) = rw (q .rest) at (s .counted) in
+          let x : steps + (orderSteps t base n year (ordinativo (orderOf f k)) + allSteps (orderLeaves t base n year (ordinativo (orderOf f k))) base n year os) ≡ allSteps t₀ base n year (ordersFrom root f from) = rw (q .rest) at (s .stepped) in
           let m : allLeave (orderLeaves t base n year (ordinativo (orderOf f k))) base n year os ≡ allLeave t₀ base n year (ordersFrom root f from) = rw (q .rest) at (s .leaves) in
           let p : put out to (outcomeBytes (ordinativo (orderOf f k)) (orderCode (orderComes t base n year (ordinativo (orderOf f k)))) ++ allOutcomes (orderLeaves t base n year (ordinativo (orderOf f k))) base n year os) ≡ put out₀ 0 (allOutcomes t₀ base n year (ordersFrom root f from)) = rw (q .rest) at (s .outcomes) in
           let tt : t′ ≡ orderLeaves t base n year (ordinativo (orderOf f k)) = et ∙ ap (λ (x : Order). orderLeaves t base n year (ordinativo x)) eo in
           let jj : j ≡ orderComes t base n year (ordinativo (orderOf f k)) = ej ∙ ap (λ (x : Order). orderComes t base n year (ordinativo x)) eo in
+          let dd : d ≡ orderSteps t base n year (ordinativo (orderOf f k)) = ed ∙ ap (λ (x : Order). orderSteps t base n year (ordinativo x)) eo in
           let aa : a ≡ cond (eqb (orderCode (orderComes t base n year (ordinativo (orderOf f k)))) 0) 1 0 = ea ∙ ap (λ (x : ℕ). cond (eqb x 0) 1 0) (ec ∙ ap orderCode jj) in
           let uu : out′ ≡ put out to (outcomeBytes (ordinativo (orderOf f k)) (orderCode (orderComes t base n year (ordinativo (orderOf f k))))) = rw (← eo, ← ej, ← ec) eu in
           record {
@@ -102,9 +131,12 @@ module _ (root : Parent) (f past : List ℕ) (base n year : ℕ) (t₀ out₀ : 
             slots = omega arith;
             room = omega arith;
             few = omega arith;
+            small = s .small;
+            most = serving-steps (ordinativo o) ed;
             same-table = lt ∙ s .same-table;
             same-out = lu ∙ s .same-out;
             counted = rw (tt, aa) (omega arith);
+            stepped = rw (tt, dd) (omega arith);
             leaves = rw tt m;
             outcomes = rw (tt, uu) (put-put out to (outcomeBytes (ordinativo (orderOf f k)) (orderCode (orderComes t base n year (ordinativo (orderOf f k))))) _ (to + 16) (omega arith) (ap (λ (x : ℕ). to + x) (outcome-length (ordinativo (orderOf f k)) _)) ∙ p);
           }

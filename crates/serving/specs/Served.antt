@@ -11,7 +11,8 @@ use Rattle.structure.specs.Structure.{allKept, keptHolds, fitsAt}
 use Rattle.order.specs.Ordinativo.{Ordinativo, ordinativo}
 use Rattle.orders.specs.Orders.{ordersIn}
 use Rattle.words.specs.Numbers.{put}
-use Rattle.service.specs.Service.{allLeave, allOutcomes, allAccepted}
+use Rattle.service.specs.Service.{allLeave, allOutcomes, allAccepted, allSteps}
+use Rattle.serving.specs.declared.FlowSums.{FlowSums}
 
 -- the orders among a root's named children from a place on
 abbrev pub ordersFrom : Parent → List ℕ → ℕ → List Ordinativo
@@ -23,8 +24,13 @@ pub record Rooted (root : Parent) (f past : List ℕ) (from : ℕ) : Type 0 wher
   pub holds : allKept (keptHolds (λ q a. fitsAt 3 q f a) f) (keptFrom root f from) ≡ true
   pub noted : Noted f past
 
--- the orders os served one after another on the table t, their outcomes written into the buffer out: how many were accepted, and the two buffers
--- afterwards
-abbrev pub AllServed : List ℕ → ℕ → ℕ → ℕ → List Ordinativo → List ℕ → ℕ → List ℕ → List ℕ → Type 0
-AllServed t base n year os out accepted t′ out′ =
-    (accepted ≡ allAccepted t base n year os) × (t′ ≡ allLeave t base n year os) × (out′ ≡ put out 0 (allOutcomes t base n year os))
+-- the greatest sum of steps that a word can hold
+abbrev pub maxSteps : ℕ
+maxSteps = 18446744073709551615
+
+-- the orders os served one after another on the table t, their outcomes written into the buffer out: how many were accepted, the steps of their
+-- searches, and the two buffers afterwards
+abbrev pub AllServed : List ℕ → ℕ → ℕ → ℕ → List Ordinativo → List ℕ → FlowSums → List ℕ → List ℕ → Type 0
+AllServed t base n year os out s t′ out′ =
+    (s .accepted ≡ allAccepted t base n year os) × (s .steps ≡ allSteps t base n year os)
+    × (t′ ≡ allLeave t base n year os) × (out′ ≡ put out 0 (allOutcomes t base n year os))

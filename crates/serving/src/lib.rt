@@ -7,10 +7,17 @@ ghost use mathlib.Core.Bool.{cond};
 ghost use Prim.Native.Nat.{_+_, _*_, _≤_};
 ghost use lib.ListN.{length};
 ghost use lib.Dec.{eqb};
+ghost use Rattle.bounds.specs.Bounds.{maxSlots};
 ghost use Rattle.record.specs.Slot.{slotSize};
 ghost use Rattle.rules.specs.Rules.{orderCode};
 ghost use Rattle.service.specs.Service.{outcomeSize};
-ghost use Rattle.serving.specs.Served.{ordersFrom, Rooted, AllServed};
+ghost use Rattle.serving.specs.Served.{ordersFrom, Rooted, maxSteps, AllServed};
+
+// What a flow's orders come to together: how many were accepted, and how many slots their searches looked at.
+pub struct FlowSums {
+    pub accepted: usize,
+    pub steps: usize,
+}
 
 // An order's code, for its outcome bytes.
 fn code_of(j: Ruling) -> u8
@@ -29,7 +36,7 @@ fn one_of(code: u8) -> usize
     if code == 0 { 1 } else { 0 }
 }
 
-// Serves the orders among a root's named children from a place on, each on the table that the one before left: how many were accepted.
+// Serves the orders among a root's named children from a place on, each on the table that the one before left.
 pub fn serve_all(
     t: &mut [u8],
     f: &[u8],
@@ -40,23 +47,27 @@ pub fn serve_all(
     year: u64,
     out: &mut [u8],
     past: &[u32],
-) -> usize
-    requires { ⌜ (base + slotSize * n ≤ length (now t)) × Rooted root (now f) (now past) from × (outcomeSize * length (ordersFrom root (now f) from) ≤ length (now out)) ⌝ }
+) -> FlowSums
+    requires { ⌜ (base + slotSize * n ≤ length (now t)) × (n ≤ maxSlots) × Rooted root (now f) (now past) from
+        × (outcomeSize * length (ordersFrom root (now f) from) ≤ length (now out)) × (maxSlots * length (ordersFrom root (now f) from) ≤ maxSteps) ⌝ }
     ensures { λ r. ⌜ AllServed (now (t .entry)) base n year (ordersFrom root (now (f .entry)) from) (now (out .entry)) r (now (t .exit)) (now (out .exit)) ⌝ }
 {
     let mut i = from;
     let mut to: usize = 0;
     let mut accepted: usize = 0;
+    let mut steps: usize = 0;
     loop {
         let Next::Named(k) = orders::next_order(f, i, root, past) else {
-            return accepted;
+            return FlowSums { accepted, steps };
         };
         let c = k.child;
         let o = orders::order_of(f, k, past);
-        let j = service::serve_order(t, base, n, year, o);
+        let s = service::serve_order(t, base, n, year, o);
+        let j = s.ruling;
         let code = code_of(j);
         service::put_outcome(out, to, o, code);
         accepted += one_of(code);
+        steps += s.steps;
         to += service::OUTCOME;
         i = c.after;
     }

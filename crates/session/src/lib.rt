@@ -58,6 +58,7 @@ fn run(flow: &[u8], explaining: bool) -> bool {
     let mut orders: u64 = 0;
     let mut accepted: u64 = 0;
     let mut cause: u64 = 0;
+    let mut steps: u64 = 0;
     hondivole::hondivole_open(
         b"01234\x06000471\0\0\0\0\0\0\0\0\0\0\0\0\x04\x03471\0\0\0\0\0\0\0\0\0\0\0\0\0\0\0\x04",
         &mut table,
@@ -70,6 +71,7 @@ fn run(flow: &[u8], explaining: bool) -> bool {
         &mut orders,
         &mut accepted,
         &mut cause,
+        &mut steps,
     );
     say_flow(code, place, orders, accepted)
         && tell_reason(flow, code, place, cause, explaining)

@@ -143,7 +143,7 @@ module _ (t₀ : List ℕ) (r : tableOk t₀ ≡ true) where
         let x : Reading = served (base t₀ b) (size t₀ b) year os in
         let m = all-own (size t₀ b) year os (a .slots) (ready t₀ r s g b l) (ready t₀ r t h b l) w y in
         let c : ofFlow (flowAnswer s x) (flowOutcomes s out x) ≡ ofFlow (flowAnswer t x) (flowOutcomes t out x) =
-        λ i. ofFlow (Taken (length os) (m .accepted i)) (put out 0 (m .outcomes i)) in
+        λ i. ofFlow (Taken (length os) (m .accepted i) (m .steps i)) (put out 0 (m .outcomes i)) in
         (answered s x (e s g) ∙ c ∙ sym (answered t x (e t h)), rw (e s g, e t h) (m .left)))
         (λ t g. rw (e t g))
 

@@ -243,7 +243,7 @@ flow-codes f out (BrokenField p c) = refl
 flow-codes f out OtherBank = refl
 flow-codes f out UnknownBody = refl
 flow-codes f out NoRoom = refl
-flow-codes f out (Taken n m) = refl
+flow-codes f out (Taken n m k) = refl
 
 pub flow-causes : (a : FlowAnswer) → oneOf (causesWith (flowCode a)) (flowReply a .cause) ≡ true
 flow-causes InvalidTable = refl
@@ -257,7 +257,7 @@ flow-causes (BrokenField p OutOfRange) = refl
 flow-causes OtherBank = refl
 flow-causes UnknownBody = refl
 flow-causes NoRoom = refl
-flow-causes (Taken n m) = refl
+flow-causes (Taken n m k) = refl
 
 totals-codes : (t code : List ℕ) (b : Addressed) → oneOf (callCodes (totals code)) (totalsBy t b .code) ≡ true
 unfolding bodyTotals

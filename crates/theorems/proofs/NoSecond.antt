@@ -47,7 +47,8 @@ no-second = record {
       let orders = same (λ (r : FlowReply). r .orders) e (p .2 .2) (q .2 .2) in
       let accepted = same (λ (r : FlowReply). r .accepted) e (p .2 .3) (q .2 .3) in
       let cause = same (λ (r : FlowReply). r .cause) e (p .2 .4) (q .2 .4) in
-      (λ i. record { code = code i; place = place i; orders = orders i; accepted = accepted i; cause = cause i }, one (p .1 .1) (q .1 .1), one (p .1 .2) (q .1 .2));
+      let steps = same (λ (r : FlowReply). r .steps) e (p .2 .5) (q .2 .5) in
+      (λ i. record { code = code i; place = place i; orders = orders i; accepted = accepted i; cause = cause i; steps = steps i }, one (p .1 .1) (q .1 .1), one (p .1 .2) (q .1 .2));
   notice-replies = λ t executing code k line d m n cents dents u v x y.
       let e = one (x .1 .0) (y .1 .0) in
       (same noticeCodeOf e (x .2) (y .2), same (λ (a : NoticeAnswer). noticeReply a .cents) e (x .3) (y .3), one (x .1 .1) (y .1 .1));

@@ -24,14 +24,16 @@ use Rattle.flow.proofs.Values.{orders-ok, header-ok}
 use Rattle.rules.specs.Rules.{judgeOrder, orderCode}
 use Rattle.rules.specs.Effects.{recordsBy, allRecords}
 use Rattle.rules.specs.Listed.{Applies}
-use Rattle.service.specs.Service.{orderComes, orderLeaves, outcomeSize, allLeave}
+use Rattle.rules.specs.Searches.{stepsOf}
+use Rattle.service.specs.Service.{orderComes, orderLeaves, outcomeSize, allLeave, allSteps}
+use Rattle.service.proofs.Searches.{all-most}
 use Rattle.service.proofs.Kept.{Writables, none, more, order-kept, order-records, all-kept, all-records}
 use Rattle.desk.specs.declared.FlowAnswer.{FlowAnswer}
 use Rattle.desk.specs.declared.FlowAnswer.the-variants.{InvalidTable, TooLong, BrokenMarkup, BrokenStructure, BrokenField, OtherBank, UnknownBody, NoRoom}
 use Rattle.desk.specs.Desk.{Reading, refused, served, maxFlow, flowReads, flowAnswer, FlowPromise, flowCode, flowReply}
 use Rattle.theorems.specs.Engine.{recordsOf}
 use Rattle.theorems.specs.Codes.{outcomeCodes}
-use Rattle.theorems.specs.Condition2.{codesInTurn, Exactly, None, Taken}
+use Rattle.theorems.specs.Condition2.{codesInTurn, stepsInTurn, Exactly, None, Taken}
 use Rattle.theorems.proofs.Accepted.{codesOn, orders-in-turn}
 use Rattle.theorems.proofs.Exactly.{order-exactly}
 use Rattle.theorems.proofs.Named.{writables}
@@ -49,6 +51,15 @@ module _ (base n year : ℕ) (y : (2000 ≤ year) × (year ≤ 2099)) where
       let k = order-kept t base n year o fits ok w y in
       ap (λ (cs : List ℕ). orderCode (judgeOrder n year o (recordsAt t base n)) ∷ cs)
       (codes-over (orderLeaves t base n year o) os (omega (arith, k .long)) (k .ok) ws ∙ ap (codesInTurn n year os) (order-records t base n year o fits ok w y))
+
+  steps-over : (t : List ℕ) (os : List Ordinativo) → base + slotSize * n ≤ length t → bodyOk t base n ≡ true → Writables os
+      → allSteps t base n year os ≡ stepsInTurn n year os (recordsAt t base n)
+  unfolding allSteps
+  steps-over t [] fits ok none = refl
+  steps-over t (o ∷ os) fits ok (more w ws) =
+      let k = order-kept t base n year o fits ok w y in
+      ap (λ (m : ℕ). stepsOf year o (recordsAt t base n) + m)
+      (steps-over (orderLeaves t base n year o) os (omega (arith, k .long)) (k .ok) ws ∙ ap (stepsInTurn n year os) (order-records t base n year o fits ok w y))
 
   exactly-then : (t : List ℕ) (before : List Ordinativo) (o : Ordinativo) → base + slotSize * n ≤ length t → bodyOk t base n ≡ true → Writables before
       → Exactly (orderCode (judgeOrder n year o (allRecords n year before (recordsAt t base n))) ≡ 0) (None (Applies n year o (allRecords n year before (recordsAt t base n))))
@@ -73,6 +84,8 @@ module _ (t f out : List ℕ) (a : FlowAnswer) (t′ out′ : List ℕ) (p : Flo
       let n = slotsOf t (entryOf b) in
       let year = headerOf f at .esercizio in
       let x = orders-in-turn t f out a t′ out′ p base n year os d in
+      let q = ap (λ (r : FlowAnswer). flowReply r .steps) ((rw d at p) .0) in
+      let m = all-most t base n year os in
       record {
         valid = ok;
         at = at;
@@ -83,6 +96,8 @@ module _ (t f out : List ℕ) (a : FlowAnswer) (t′ out′ : List ℕ) (p : Flo
         orders = x .0;
         codes = x .1 ∙ codes-over base n year y t os (v .inside) (v .holds .body) ws;
         records = ap (λ (u : List ℕ). recordsAt u base n) ((rw d at p) .1) ∙ all-records t base n year os (v .inside) (v .holds .body) ws y;
+        steps = q ∙ steps-over base n year y t os (v .inside) (v .holds .body) ws;
+        steps-bound = rw (q, x .0) m;
         exactly = λ before o after q. exactly-then base n year y t before o (v .inside) (v .holds .body) (front-writable before (o ∷ after) (rw q at ws));
       }
 

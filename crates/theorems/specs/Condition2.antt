@@ -1,5 +1,5 @@
 -- CONDITION 2 of the tender letter, about the calls' own promises: whatever keeps them does this. Proved: `condition2 : Condition2`.
-use Prim.Native.Nat.{ℕ, _<_, _≤_}
+use Prim.Native.Nat.{ℕ, _+_, _*_, _<_, _≤_}
 use lib.IntN.{pos, _-ℤ_}
 use mathlib.Core.Path.{_≡_}
 use mathlib.Core.Bool.{Bool, true, false, cond}
@@ -24,6 +24,7 @@ use Rattle.tree.specs.Flow.{Answered}
 use Rattle.rules.specs.Rules.{orderCode, judgeOrder, judgeNotice}
 use Rattle.rules.specs.declared.Ruling.{Ruling}
 use Rattle.rules.specs.Effects.{recordsBy, allRecords, recordsMoved}
+use Rattle.rules.specs.Searches.{stepsOf}
 use Rattle.rules.specs.Listed.{Applies, turn, NoticeApplies, noticeTurn}
 use Rattle.service.specs.Service.{orderComes}
 use Rattle.notices.specs.declared.NoticeAnswer.{NoticeAnswer}
@@ -43,6 +44,11 @@ use Rattle.theorems.specs.Codes.{outcomeCodes, zeroCodes}
 abbrev pub codesInTurn : ℕ → ℕ → List Ordinativo → List Record → List ℕ
 codesInTurn slots year [] rs = []
 codesInTurn slots year (o ∷ os) rs = orderCode (judgeOrder slots year o rs) ∷ codesInTurn slots year os (recordsBy year o rs (judgeOrder slots year o rs))
+
+-- the slots that their searches looked at, together (document 02, Req 09)
+abbrev pub stepsInTurn : ℕ → ℕ → List Ordinativo → List Record → ℕ
+stepsInTurn slots year [] rs = 0
+stepsInTurn slots year (o ∷ os) rs = stepsOf year o rs + stepsInTurn slots year os (recordsBy year o rs (judgeOrder slots year o rs))
 
 -- what an order comes to for body b of a table
 abbrev pub comesTo : List ℕ → ℕ → ℕ → Ordinativo → Ruling
@@ -90,6 +96,9 @@ pub record Taken (t f : List ℕ) (a : FlowAnswer) (t′ out′ : List ℕ) : Ty
       ≡ codesInTurn (slotsOf t (entryOf body)) (headerOf f at .esercizio) (flowOrders f at) (recordsOf body t)
   pub records : recordsAt t′ (placeOf t (entryOf body)) (slotsOf t (entryOf body))
       ≡ allRecords (slotsOf t (entryOf body)) (headerOf f at .esercizio) (flowOrders f at) (recordsOf body t)
+  -- "The flow's answer carries their sum, shown to be at most orders times the body's slots" (document 02, Req 09)
+  pub steps : flowReply a .steps ≡ stepsInTurn (slotsOf t (entryOf body)) (headerOf f at .esercizio) (flowOrders f at) (recordsOf body t)
+  pub steps-bound : flowReply a .steps ≤ flowReply a .orders * slotsOf t (entryOf body)
   -- "An order is accepted exactly when no listed refusal applies", on what the orders before it left
   pub exactly : (before : List Ordinativo) (o : Ordinativo) (after : List Ordinativo) → flowOrders f at ≡ before ++ (o ∷ after)
       → let rs = allRecords (slotsOf t (entryOf body)) (headerOf f at .esercizio) before (recordsOf body t) in

@@ -7,7 +7,7 @@ use Rattle.scan.specs.Bytes.{bytes, isLetter, isDigit, isAlnum, all, startsWith
 use Rattle.words.specs.Numbers.{put, be2, be4, be8}
 use Rattle.table.specs.Table.{headOk, entryOk, layoutOk, agrees, bodyHolds, bodiesOk, validAs, tableOk}
 use Rattle.order.specs.Ordinativo.{Ordinativo}
-use Rattle.service.specs.Service.{orderComes, orderStored, orderLeaves, outcomeBytes, allLeave, allOutcomes, allAccepted, noticeComes}
+use Rattle.service.specs.Service.{orderComes, orderStored, orderLeaves, outcomeBytes, allLeave, allOutcomes, allAccepted, allSteps, noticeComes}
 use Rattle.notices.specs.declared.NoticeAnswer.the-variants.{Done, Declined}
 use Rattle.address.specs.Address.{addressed}
 use Rattle.calendar.specs.declared.Date.{Date}
@@ -36,6 +36,7 @@ use Rattle.contents.specs.Contents.{headBytes, entryBytes, entriesBytes}
 use Rattle.opening.specs.Opening.{opened, openOf}
 use Rattle.lines.specs.Lines.{numberedFrom, sumOf, lineCode}
 use Rattle.rules.specs.Rules.{amountsOf, anyExecuted, situationIn, situationOf, sameList, sameOrder, placed, stepped, judgeOrder, written, lineMoves, noticeIn, noticeAt, judgeNotice}
+use Rattle.rules.specs.Searches.{stepsOf}
 
 -- THE ORDERS, as they are served: 000471's slots begin at byte 112, 471's at 496, four of 96 bytes each; at 112 and 208 where each has one slot
 abbrev pub one : List Ordinativo
@@ -64,11 +65,11 @@ pub record Facts : Type 0 where
   pub other-first : forBank first 16 (headerFor "000471") one ≡ served 112 4 2021 one
   pub own-first : forBank first 16 (headerFor "471") one ≡ served 496 4 2021 one
   -- the answers
-  pub answer : flowAnswer sampleTable (served 496 4 2021 one) ≡ Taken 1 1
-  pub answer-again : flowAnswer second (served 496 4 2021 one) ≡ Taken 1 0
-  pub answer-more : flowAnswer second (served 496 4 2021 both) ≡ Taken 2 1
-  pub answer-other : flowAnswer first (served 112 4 2021 one) ≡ Taken 1 0
-  pub answer-first : flowAnswer first (served 496 4 2021 one) ≡ Taken 1 1
+  pub answer : flowAnswer sampleTable (served 496 4 2021 one) ≡ Taken 1 1 0
+  pub answer-again : flowAnswer second (served 496 4 2021 one) ≡ Taken 1 0 1
+  pub answer-more : flowAnswer second (served 496 4 2021 both) ≡ Taken 2 1 2
+  pub answer-other : flowAnswer first (served 112 4 2021 one) ≡ Taken 1 0 1
+  pub answer-first : flowAnswer first (served 496 4 2021 one) ≡ Taken 1 1 0
   -- outcome codes
   pub code-0 : getD (flowOutcomes second (room 2) (served 496 4 2021 both)) 2 0 ≡ 14
   pub code-1 : getD (flowOutcomes second (room 2) (served 496 4 2021 both)) 18 0 ≡ 0
@@ -90,7 +91,7 @@ pub record Facts : Type 0 where
   pub opens : openOf (requestOf 4) 880 ≡ Open
 
 pub facts : Facts
-unfolding isLetter isDigit isAlnum all startsWith hasAt textIs be2 be4 be8 put leap monthLength isDate zeros digitsAfter digits recordAt restZero flat8 recordBytes keyIs lineThere lineAbsent lineOk allFrom sum rangesOk recordOk usedAt slotsAt findIn distinct slotOk slotsOk bodyOk codeAt slotsOf placeOf formOk formsOk codesFrom findCode distinctCodes headOk entryOk layoutOk agrees bodyHolds bodiesOk validAs centsOf executedIn keptBytes slotsFrom asked needed bodiesAskedOk requestOk headBytes entryBytes entriesBytes opened openOf numberedFrom sumOf lineCode amountsOf anyExecuted situationIn situationOf sameList sameOrder placed stepped judgeOrder written lineMoves noticeIn noticeAt judgeNotice orderComes orderStored outcomeBytes allLeave allOutcomes allAccepted noticeComes addressed noticeBy targetCode daysServed closing closesOn weekend fixedClosing marchDay easter sundayAfter fullMoon paschal weekday numberOf monthOf startOf lengthAt bodyTotals totalsOf
+unfolding isLetter isDigit isAlnum all startsWith hasAt textIs be2 be4 be8 put leap monthLength isDate zeros digitsAfter digits recordAt restZero flat8 recordBytes keyIs lineThere lineAbsent lineOk allFrom sum rangesOk recordOk usedAt slotsAt findIn distinct slotOk slotsOk bodyOk codeAt slotsOf placeOf formOk formsOk codesFrom findCode distinctCodes headOk entryOk layoutOk agrees bodyHolds bodiesOk validAs centsOf executedIn keptBytes slotsFrom asked needed bodiesAskedOk requestOk headBytes entryBytes entriesBytes opened openOf numberedFrom sumOf lineCode amountsOf anyExecuted situationIn situationOf sameList sameOrder placed stepped judgeOrder written lineMoves noticeIn noticeAt judgeNotice orderComes orderStored outcomeBytes allLeave allOutcomes allAccepted allSteps stepsOf noticeComes addressed noticeBy targetCode daysServed closing closesOn weekend fixedClosing marchDay easter sundayAfter fullMoon paschal weekday numberOf monthOf startOf lengthAt bodyTotals totalsOf
 facts = record {
   valid = refl;
   valid-first = refl;

@@ -115,7 +115,7 @@ byte i e = ap (λ (x : List ℕ). getD x i 0) e
 
 -- TAKEN: the flow of one order for 471, its order accepted, whatever keeps the promise
 module _ (a : FlowAnswer) (t′ out′ : List ℕ) (p : FlowPromise sampleTable (single "471") (room 1) a t′ out′) where
-  pub taken : a ≡ Taken 1 1
+  pub taken : a ≡ Taken 1 1 0
   taken = by-reading sampleTable (single "471") (room 1) own-reads p .0 ∙ facts .answer
 
   pub stored : getD t′ 496 0 ≡ 1
@@ -123,7 +123,7 @@ module _ (a : FlowAnswer) (t′ out′ : List ℕ) (p : FlowPromise sampleTable 
 
 -- the same of the exported function, in document 01's numbers
 pub taken-reply : (n : FlowReply) (t′ out′ : List ℕ) → FlowReplies sampleTable (single "471") (room 1) n t′ out′
-    → (n .code ≡ 0) × (n .place ≡ 0) × (n .orders ≡ 1) × (n .accepted ≡ 1) × (n .cause ≡ 0)
+    → (n .code ≡ 0) × (n .place ≡ 0) × (n .orders ≡ 1) × (n .accepted ≡ 1) × (n .cause ≡ 0) × (n .steps ≡ 0)
 taken-reply n t′ out′ p =
     let e = ap flowReply (taken (p .0) t′ out′ (p .1)) in (
       p .2 .0 ∙ ap (λ (x : FlowReply). x .code) e,
@@ -131,15 +131,16 @@ taken-reply n t′ out′ p =
       p .2 .2 ∙ ap (λ (x : FlowReply). x .orders) e,
       p .2 .3 ∙ ap (λ (x : FlowReply). x .accepted) e,
       p .2 .4 ∙ ap (λ (x : FlowReply). x .cause) e,
+      p .2 .5 ∙ ap (λ (x : FlowReply). x .steps) e,
     )
 
 -- taken again on the table that it left: its order is refused (14)
-pub taken-again : (a : FlowAnswer) (t′ out′ : List ℕ) → FlowPromise second (single "471") (room 1) a t′ out′ → a ≡ Taken 1 0
+pub taken-again : (a : FlowAnswer) (t′ out′ : List ℕ) → FlowPromise second (single "471") (room 1) a t′ out′ → a ≡ Taken 1 0 1
 taken-again a t′ out′ p = by-reading second (single "471") (room 1) again-reads p .0 ∙ facts .answer-again
 
 -- two orders there: 14, accepted; the second is in the second slot
 module _ (a : FlowAnswer) (t′ out′ : List ℕ) (p : FlowPromise second two (room 2) a t′ out′) where
-  pub more-taken : a ≡ Taken 2 1
+  pub more-taken : a ≡ Taken 2 1 2
   more-taken = by-reading second two (room 2) more-reads p .0 ∙ facts .answer-more
 
   pub more-codes : (getD out′ 2 0 ≡ 14) × (getD out′ 18 0 ≡ 0)

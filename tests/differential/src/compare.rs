@@ -31,7 +31,7 @@ pub struct Yard {
     table: Pen,
     input: Pen,
     outcomes: Pen,
-    results: [Pen; 4],
+    results: [Pen; 5],
 }
 
 impl Default for Yard {
@@ -104,7 +104,7 @@ impl Yard {
 
     /// Makes the call on what the pens hold.
     fn call(&mut self, engine: &dyn Engine, call: &Call) -> Answer {
-        let [first, second, third, fourth] = &mut self.results;
+        let [first, second, third, fourth, fifth] = &mut self.results;
         let lent = self.table.bytes_mut();
         let given = self.input.bytes();
         match call {
@@ -113,9 +113,10 @@ impl Yard {
             Call::Flow { .. } => {
                 let outcomes = self.outcomes.bytes_mut();
                 let (place, orders, accepted) = (first.number_mut(), second.number_mut(), third.number_mut());
-                let code = engine.flow(lent, given, outcomes, place, orders, accepted, fourth.number_mut());
+                let (cause, steps) = (fourth.number_mut(), fifth.number_mut());
+                let code = engine.flow(lent, given, outcomes, place, orders, accepted, cause, steps);
                 let (place, orders, accepted) = (first.number(), second.number(), third.number());
-                Answer::Flow(FlowAnswer { code, place, orders, accepted, cause: fourth.number() })
+                Answer::Flow(FlowAnswer { code, place, orders, accepted, cause: fourth.number(), steps: fifth.number() })
             }
             Call::Execute { notice, .. } => {
                 let code = engine.execute(lent, given, notice, first.number_mut());
@@ -136,7 +137,7 @@ impl Yard {
 
     /// The first byte that was written outside what was lent: beside which buffer, and how far from its beginning.
     fn stray(&self) -> Option<(&'static str, isize)> {
-        let [first, second, third, fourth] = &self.results;
+        let [first, second, third, fourth, fifth] = &self.results;
         let pens = [
             ("table", &self.table),
             ("input", &self.input),
@@ -145,6 +146,7 @@ impl Yard {
             ("second result", second),
             ("third result", third),
             ("fourth result", fourth),
+            ("fifth result", fifth),
         ];
         pens.into_iter().find_map(|(buffer, pen)| Some((buffer, pen.stray()?)))
     }

@@ -24,6 +24,7 @@ pub trait Engine {
         orders: &mut u64,
         accepted: &mut u64,
         cause: &mut u64,
+        steps: &mut u64,
     ) -> u64;
 
     /// Takes a notice of execution.
@@ -61,9 +62,11 @@ impl Engine for Reference {
         orders: &mut u64,
         accepted: &mut u64,
         cause: &mut u64,
+        steps: &mut u64,
     ) -> u64 {
         let answer = reference::flow(table, flow, outcomes);
-        (*place, *orders, *accepted, *cause) = (answer.place, answer.orders, answer.accepted, answer.cause);
+        (*place, *orders, *accepted) = (answer.place, answer.orders, answer.accepted);
+        (*cause, *steps) = (answer.cause, answer.steps);
         answer.code
     }
 
@@ -115,6 +118,7 @@ impl Engine for Library {
         orders: &mut u64,
         accepted: &mut u64,
         cause: &mut u64,
+        steps: &mut u64,
     ) -> u64 {
         // SAFETY: the pointers and lengths are those of slices and numbers that don't overlap.
         unsafe {
@@ -129,6 +133,7 @@ impl Engine for Library {
                 orders,
                 accepted,
                 cause,
+                steps,
             )
         }
     }

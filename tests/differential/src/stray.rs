@@ -35,6 +35,7 @@ impl Engine for Stray {
         orders: &mut u64,
         accepted: &mut u64,
         cause: &mut u64,
+        steps: &mut u64,
     ) -> u64 {
         let beside = match self {
             Stray::ReadsPast => flow.as_ptr().wrapping_add(flow.len()),
@@ -44,7 +45,7 @@ impl Engine for Stray {
         let read = unsafe { beside.read_volatile() };
         // A memory checker may wait until a value is used.
         let flow = if read == 0 { &flow.to_vec() } else { flow };
-        Reference.flow(table, flow, outcomes, place, orders, accepted, cause)
+        Reference.flow(table, flow, outcomes, place, orders, accepted, cause, steps)
     }
 
     fn execute(&self, table: &mut [u8], body: &[u8], notice: &Notice, cents: &mut u64) -> u64 {

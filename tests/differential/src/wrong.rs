@@ -26,6 +26,8 @@ pub enum Fault {
     PlaceWithoutMark,
     /// A text that is too long is called misformed.
     LongCalledMisformed,
+    /// The empty slot that an INSERIMENTO fills is counted among the steps.
+    EmptySlotCounted,
     /// The last bytes of an entry aren't looked at.
     EntryRestIgnored,
     /// Annulled orders are no used slots.
@@ -43,7 +45,7 @@ pub enum Fault {
 }
 
 /// All of them.
-pub const FAULTS: [Fault; 15] = [
+pub const FAULTS: [Fault; 16] = [
     Fault::CodesAsIntegers,
     Fault::StaleAmounts,
     Fault::AnnulloByNumber,
@@ -52,6 +54,7 @@ pub const FAULTS: [Fault; 15] = [
     Fault::OutcomesCleared,
     Fault::PlaceWithoutMark,
     Fault::LongCalledMisformed,
+    Fault::EmptySlotCounted,
     Fault::EntryRestIgnored,
     Fault::AnnulledNotUsed,
     Fault::CentsOnRefusal,
@@ -165,10 +168,11 @@ impl Engine for Wrong {
         orders: &mut u64,
         accepted: &mut u64,
         cause: &mut u64,
+        steps: &mut u64,
     ) -> u64 {
         let before = table.to_vec();
         let mut scratch = self.mended(table);
-        let code = Reference.flow(&mut scratch, flow, outcomes, place, orders, accepted, cause);
+        let code = Reference.flow(&mut scratch, flow, outcomes, place, orders, accepted, cause, steps);
         if code == 0 {
             table.copy_from_slice(&scratch);
         }
@@ -176,7 +180,7 @@ impl Engine for Wrong {
             Fault::CodesAsIntegers if matches!(code, 0 | 7) => {
                 table.copy_from_slice(&before);
                 let renamed = self.renamed(table, flow).unwrap_or_default();
-                return Reference.flow(table, &renamed, outcomes, place, orders, accepted, cause);
+                return Reference.flow(table, &renamed, outcomes, place, orders, accepted, cause, steps);
             }
             Fault::StaleAmounts if code == 0 => {
                 let slots = HEAD + ENTRY * number_at(table, 0, 2) as usize;
@@ -223,6 +227,9 @@ impl Engine for Wrong {
                 reference::flow(table, &cut, &mut [0; 1024]);
             }
             Fault::LongCalledMisformed if *cause == 2 => *cause = 3,
+            Fault::EmptySlotCounted if code == 0 => {
+                *steps += outcomes.chunks(16).take(*orders as usize).filter(|outcome| outcome[1..3] == [1, 0]).count() as u64
+            }
             Fault::OutcomesCleared if code == 0 => outcomes[16 * *orders as usize..].fill(0),
             Fault::PlaceWithoutMark if code == 5 && markup::read(flow).is_some() && flow.starts_with(b"\xEF\xBB\xBF") => {
                 *place -= 3

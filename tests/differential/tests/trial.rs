@@ -144,8 +144,9 @@ fn unwritten_results_are_found() {
             orders: &mut u64,
             accepted: &mut u64,
             cause: &mut u64,
+            steps: &mut u64,
         ) -> u64 {
-            Reference.flow(table, flow, outcomes, place, orders, accepted, cause)
+            Reference.flow(table, flow, outcomes, place, orders, accepted, cause, steps)
         }
         fn execute(&self, table: &mut [u8], body: &[u8], notice: &reference::Notice, cents: &mut u64) -> u64 {
             Reference.execute(table, body, notice, cents)

@@ -17,6 +17,8 @@ pub struct FlowAnswer {
     pub accepted: u64,
     /// What is wrong with the field that breaks with code 5, 1 to 4, else 0.
     pub cause: u64,
+    /// How many slots the searches for its orders looked at.
+    pub steps: u64,
 }
 
 /// What a notice of execution or reversal names, besides the body.
@@ -124,12 +126,12 @@ pub fn request(abi: &[u8; 5], bodies: &[(&[u8], u16)]) -> Vec<u8> {
 pub fn flow(table: &mut [u8], flow: &[u8], outcomes: &mut [u8]) -> FlowAnswer {
     match taken(table, flow, outcomes.len()) {
         Err(Refused { code, place, cause }) => FlowAnswer { code, place: place as u64, cause, ..FlowAnswer::default() },
-        Ok((changed, written)) => {
+        Ok((changed, written, steps)) => {
             table.copy_from_slice(&changed.encode());
             outcomes[..written.len()].copy_from_slice(&written);
             let codes = written.chunks(OUTCOME).map(|outcome| outcome[2]);
             let orders = codes.len() as u64;
-            FlowAnswer { orders, accepted: codes.filter(|&code| code == 0).count() as u64, ..FlowAnswer::default() }
+            FlowAnswer { orders, accepted: codes.filter(|&code| code == 0).count() as u64, steps, ..FlowAnswer::default() }
         }
     }
 }
@@ -145,8 +147,8 @@ fn refused(code: u64) -> Refused {
     Refused { code, place: 0, cause: 0 }
 }
 
-/// The table after the flow and the outcome bytes, or the refusal.
-fn taken(table: &[u8], flow: &[u8], room: usize) -> Result<(Table, Vec<u8>), Refused> {
+/// The table after the flow, the outcome bytes and the steps of the searches, or the refusal.
+fn taken(table: &[u8], flow: &[u8], room: usize) -> Result<(Table, Vec<u8>, u64), Refused> {
     let mut table = Table::decode(table).ok_or(refused(1))?;
     if flow.len() > LONGEST_FLOW {
         return Err(refused(2));
@@ -163,13 +165,28 @@ fn taken(table: &[u8], flow: &[u8], room: usize) -> Result<(Table, Vec<u8>), Ref
         return Err(refused(8));
     }
     let mut outcomes = Vec::new();
+    let mut steps = 0;
     for order in &flow.orders {
+        // Before the order is served: an accepted one changes what there is to look at.
+        let looked = looked_at(body, flow.esercizio, order);
         let code = serve(body, flow.esercizio, order);
+        if !matches!(code, 11..=13) {
+            steps += looked;
+        }
         outcomes.extend([order.kind as u8, order.operation as u8, code, order.lines.len() as u8]);
         outcomes.extend(order.number.to_be_bytes());
         outcomes.extend(order.total.to_be_bytes());
     }
-    Ok((table, outcomes))
+    Ok((table, outcomes, steps))
+}
+
+/// How many slots a search for this order looks at: those up to and including its own, or all that are used.
+fn looked_at(body: &Body, esercizio: u16, order: &FlowOrder) -> u64 {
+    let others = body
+        .orders
+        .iter()
+        .take_while(|record| (record.kind, record.esercizio, record.number) != (order.kind, esercizio, order.number));
+    (others.count() + 1).min(body.orders.len()) as u64
 }
 
 /// Serves one order; the answer is its outcome code.

@@ -68,7 +68,7 @@ fn refusal(table: &[u8], text: &[u8], room: usize) -> (u64, u64) {
     let mut outcomes = vec![0xEE; room];
     let answer = flow(&mut after, text, &mut outcomes);
     assert_ne!(answer.code, 0);
-    assert_eq!((answer.orders, answer.accepted), (0, 0));
+    assert_eq!((answer.orders, answer.accepted, answer.steps), (0, 0, 0));
     assert!(after == table && outcomes.iter().all(|&byte| byte == 0xEE));
     (answer.code, answer.place)
 }
@@ -101,6 +101,22 @@ fn the_run_whole() {
     };
     assert_eq!(used(b"000471"), (0, 1, 0));
     assert_eq!(used(b"471"), (0, 0, 0));
+}
+
+/// Document 02, Req 09: up to and including the slot found, or all used slots; none for 11, 12 and 13.
+#[test]
+fn steps_of_a_search() {
+    let mut table = fresh();
+    let mut steps = |orders: &[String]| flow(&mut table, whole("471", orders).as_bytes(), &mut [0; 1024]).steps;
+    let insert = |number: &str| mandato("INSERIMENTO", number, "1.00", ONE);
+    let annul = |number: &str| mandato("ANNULLO", number, "1.00", ONE);
+    assert_eq!(steps(&[annul("1")]), 0);
+    assert_eq!(steps(&[insert("1"), insert("2")]), 1);
+    assert_eq!(steps(&[insert("1"), insert("2"), annul("3"), annul("2")]), 1 + 2 + 2 + 2);
+    assert_eq!(steps(&[insert("3"), insert("4"), insert("5")]), 2 + 3 + 4);
+    assert_eq!(steps(&[annul("5"), annul("4"), reversale("VARIAZIONE", "1", "1.00", ONE)]), 3 * 4);
+    assert_eq!(steps(&[mandato("INSERIMENTO", "1", "1.01", ONE), mandato("SOSTITUZIONE", "1", "1.00", ONE)]), 0);
+    assert_eq!(steps(&[mandato("VARIAZIONE", "4", "1.00", &[("2", "1.00", "Rossi")])]), 0);
 }
 
 #[test]

@@ -10,7 +10,7 @@ use Rattle.casebook.proofs.bytes.Reads as bytes-reads
 use Rattle.casebook.proofs.find.Reads as find-reads
 use Rattle.casebook.proofs.number.Reads as number-reads
 use Rattle.cases_desk.proofs.run_call.Reads as run-call-reads
-use Rattle.cases_desk.proofs.run_open.Reads as run-open-reads
+use Rattle.deskbook.proofs.run_open.Reads as run-open-reads
 use Rattle.scan.proofs.same.Reads as same-reads
 
 find-requires : tie.Need-find-requires

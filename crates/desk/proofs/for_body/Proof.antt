@@ -20,7 +20,7 @@ enum-known-base c = search needs
 with-room-requires : tie.Need-with-room-requires
 with-room-requires c κs =
     let s = named-slots (c .before .before .before .before .before .before .before .before .before .before .before .before .before .args .t .now) _ (c .before .before .before .before .before .before .before .before .before .before .before .before .before .pre .0) (sym (c .before .before .before .before .before .body-named .ensures) ∙ c .before .before .before .base .given .1) in
-    (s .inside, c .before .before .before .before .before .before .before .before .before .before .before .before .before .pre .2, c .before .before .before .before .before .before .before .before .before .before .before .before .before .pre .3)
+    (s .inside, s .few, c .before .before .before .before .before .before .before .before .before .before .before .before .before .pre .2, c .before .before .before .before .before .before .before .before .before .before .before .before .before .pre .3)
 
 enum-told : tie.Need-enum-told
 enum-told c = search needs

@@ -55,31 +55,31 @@ enum-known-a-2 : tie.Need-enum-known-a-2
 enum-known-a-2 c = search needs
 
 returns : tie.Need-returns
-returns c = search needs
+returns c = rw (c .before .enum-told .given .1) (c .refusal .ensures)
 
 returns-2 : tie.Need-returns-2
-returns-2 c = search needs
+returns-2 c = rw (c .before .enum-told2 .given .1) (c .refusal2 .ensures)
 
 returns-3 : tie.Need-returns-3
-returns-3 c = search needs
+returns-3 c = rw (c .before .enum-told3 .given .1) (c .refusal3 .ensures)
 
 returns-4 : tie.Need-returns-4
-returns-4 c = search needs
+returns-4 c = rw (c .before .enum-told4 .given .1) (c .refusal4 .ensures)
 
 returns-5 : tie.Need-returns-5
-returns-5 c = rw (c .before .before .a .given .1) (refl, refl, refl, refl, c .cause-number .ensures)
+returns-5 c = rw (c .before .before .a .given .1) (refl, refl, refl, refl, c .cause-number .ensures, refl)
 
 returns-6 : tie.Need-returns-6
-returns-6 c = search needs
+returns-6 c = rw (c .before .enum-told5 .given .1) (c .refusal5 .ensures)
 
 returns-7 : tie.Need-returns-7
-returns-7 c = search needs
+returns-7 c = rw (c .before .enum-told6 .given .1) (c .refusal6 .ensures)
 
 returns-8 : tie.Need-returns-8
-returns-8 c = search needs
+returns-8 c = rw (c .before .enum-told7 .given .1) (c .refusal7 .ensures)
 
 returns-9 : tie.Need-returns-9
-returns-9 c = search needs
+returns-9 c = rw (c .before .a2 .given .1) (refl, refl, refl, refl, refl, refl)
 
 pub reply-of-spec : {M : Type 1} → statement M
 reply-of-spec =

@@ -1,38 +1,68 @@
+use mathlib.Core.Path.{refl, sym, ap}
 use Rattle.order.specs.Ordinativo.{ordinativo}
+use Rattle.rules.specs.Rules.{asksOf}
 use Rattle.service.proofs.Laws.{served-change, served-refused}
 use borrow.Author.Needs.{needs}
 use Rattle.service.proofs.serve_order.Statement.{statement}
 use Rattle.service.proofs.serve_order.Tie as tie
 
-asks-of-requires : tie.Need-asks-of-requires
-asks-of-requires c κs = search needs
-
-enum-known-c : tie.Need-enum-known-c
-enum-known-c c = search needs
+enum-told : tie.Need-enum-told
+enum-told c = search needs
 
 serve-change-requires : tie.Need-serve-change-requires
 serve-change-requires c κs = search needs
 
-enum-known-code : tie.Need-enum-known-code
-enum-known-code c = search needs
+enum-told-2 : tie.Need-enum-told-2
+enum-told-2 c = search needs
+
+serve-change-requires-2 : tie.Need-serve-change-requires-2
+serve-change-requires-2 c κs = search needs
+
+enum-told-3 : tie.Need-enum-told-3
+enum-told-3 c = search needs
+
+serve-change-requires-3 : tie.Need-serve-change-requires-3
+serve-change-requires-3 c κs = search needs
+
+enum-told-4 : tie.Need-enum-told-4
+enum-told-4 c = search needs
 
 same-length : tie.Need-same-length
 same-length c = search needs
 
 returns : tie.Need-returns
-returns c = served-change (c .before .before .before .before .before .before .before .before .before .args .t .now) (c .before .before .before .before .before .before .before .before .before .args .base) (c .before .before .before .before .before .before .before .before .before .args .n) (c .before .before .before .before .before .before .before .before .before .args .year) (ordinativo (c .before .before .before .before .before .before .before .before .before .args .o)) (c .before .before .before .before .before .before .before .asks-of .ensures) (c .before .before .before .before .before .c .given .1) (c .before .before .serve-change .ensures)
+returns c = served-change (c .before .before .before .before .before .before .before .args .t .now) (c .before .before .before .before .before .before .before .args .base) (c .before .before .before .before .before .before .before .args .n) (c .before .before .before .before .before .before .before .args .year) (ordinativo (c .before .before .before .before .before .before .before .args .o)) (sym (ap asksOf (c .before .before .before .before .enum-told .given .1))) _ refl (c .before .before .serve-change .ensures)
+
+same-length-2 : tie.Need-same-length-2
+same-length-2 c = search needs
 
 returns-2 : tie.Need-returns-2
-returns-2 c = served-refused (c .before .before .before .before .before .args .t .now) (c .before .before .before .before .before .args .base) (c .before .before .before .before .before .args .n) (c .before .before .before .before .before .args .year) (ordinativo (c .before .before .before .before .before .args .o)) (c .before .before .before .asks-of .ensures) (c .before .code .given .1)
+returns-2 c = served-change (c .before .before .before .before .before .before .before .args .t .now) (c .before .before .before .before .before .before .before .args .base) (c .before .before .before .before .before .before .before .args .n) (c .before .before .before .before .before .before .before .args .year) (ordinativo (c .before .before .before .before .before .before .before .args .o)) (sym (ap asksOf (c .before .before .before .before .enum-told2 .given .1))) _ refl (c .before .before .serve-change2 .ensures)
+
+same-length-3 : tie.Need-same-length-3
+same-length-3 c = search needs
+
+returns-3 : tie.Need-returns-3
+returns-3 c = served-change (c .before .before .before .before .before .before .before .args .t .now) (c .before .before .before .before .before .before .before .args .base) (c .before .before .before .before .before .before .before .args .n) (c .before .before .before .before .before .before .before .args .year) (ordinativo (c .before .before .before .before .before .before .before .args .o)) (sym (ap asksOf (c .before .before .before .before .enum-told3 .given .1))) _ refl (c .before .before .serve-change3 .ensures)
+
+returns-4 : tie.Need-returns-4
+returns-4 c = served-refused (c .before .before .before .args .t .now) (c .before .before .before .args .base) (c .before .before .before .args .n) (c .before .before .before .args .year) (ordinativo (c .before .before .before .args .o)) (sym (ap asksOf (c .enum-told4 .given .1))) refl
 
 pub serve-order-spec : {M : Type 1} → statement M
 serve-order-spec =
     tie.close
     (tie.spec
-    asks-of-requires
-    enum-known-c
+    enum-told
     serve-change-requires
-    enum-known-code
+    enum-told-2
+    serve-change-requires-2
+    enum-told-3
+    serve-change-requires-3
+    enum-told-4
     same-length
     returns
-    returns-2)
+    same-length-2
+    returns-2
+    same-length-3
+    returns-3
+    returns-4)

@@ -3,11 +3,11 @@ use mathlib.Core.Path.{sym}
 use native.Mathlib.Omega.{arith}
 use lib.Seq.{length-take-le}
 use borrow.Author.Needs.{needs}
-use Rattle.cases_desk.proofs.run_open.Statement.{statement}
-use Rattle.cases_desk.proofs.run_open.Tie as tie
-use Rattle.cases_desk.proofs.run_open.Reads as reads
-use Rattle.cases_desk.proofs.run_open.Lts as lts
-use Rattle.cases_desk.proofs.say_opened.Reads as say-opened-reads
+use Rattle.deskbook.proofs.run_open.Statement.{statement}
+use Rattle.deskbook.proofs.run_open.Tie as tie
+use Rattle.deskbook.proofs.run_open.Reads as reads
+use Rattle.deskbook.proofs.run_open.Lts as lts
+use Rattle.deskbook.proofs.say_opened.Reads as say-opened-reads
 use Rattle.opening.proofs.open_table.Reads as open-table-reads
 
 returns : tie.Need-returns
