@@ -130,7 +130,7 @@ module _ (m : Movement) (f : ℕ → Bool) where
     not-own : (l a : ℕ) → (m .line ≡ l → ⊥) → sameLine m (movementOf r l a) ≡ false
     not-own l a n = not-line m (movementOf r l a) (λ o. n (o .line))
 
-    past-from : (l : ℕ) (states amounts : List ℕ) → m .line < l → anyOf (asked m f) (executedFrom r l states amounts) ≡ false
+    pub past-from : (l : ℕ) (states amounts : List ℕ) → m .line < l → anyOf (asked m f) (executedFrom r l states amounts) ≡ false
     unfolding executedFrom anyOf
     past-from l [] amounts h = refl
     past-from l (s ∷ states) [] h = refl
@@ -161,7 +161,7 @@ module _ (m : Movement) (f : ℕ → Bool) where
         go false e = e
 
   -- all orders' lines
-  none-lines : (rs : List Record) (j : ℕ) → findIn rs j (namedKey m) ≡ Nothing → anyOf (asked m f) (executedLines rs) ≡ false
+  pub none-lines : (rs : List Record) (j : ℕ) → findIn rs j (namedKey m) ≡ Nothing → anyOf (asked m f) (executedLines rs) ≡ false
   unfolding executedLines anyOf
   none-lines [] j e = refl
   none-lines (r ∷ rs) j e = go (keyIs r (namedKey m)) refl (none-lines rs (j + 1))
