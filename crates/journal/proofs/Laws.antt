@@ -13,7 +13,7 @@ use Rattle.record.specs.declared.Record.{Record}
 use Rattle.address.specs.declared.Addressed.{Addressed}
 use Rattle.address.specs.Address.{addressed}
 use Rattle.journal.specs.declared.Movement.{Movement}
-use Rattle.journal.specs.Journal.{movementSize, maxMovements, movementAt, movementsAt, movementsIn, wholeMovements, executedLines, sameLine, anyOf, allOf, movementCode, missingCode, codeThen, journalCode, checked, journalBy, journalOf}
+use Rattle.journal.specs.Journal.{movementSize, maxMovements, movementAt, movementsAt, movementsIn, wholeMovements, executedLines, sameLine, sameMovement, anyOf, allOf, movementCode, missingCode, codeThen, journalCode, checked, journalBy, journalOf}
 use Rattle.journal.specs.Told.{OneLine}
 
 pub clash : {A : Type 0} → _≡_ {A = Bool} false true → A
@@ -134,3 +134,30 @@ module _ (rs : List Record) (s : List ℕ) where
 pub call-at : (t code s : List ℕ) {a : Addressed} → addressed t code ≡ a → journalBy t s a ≡ journalOf t code s
 unfolding journalOf
 call-at t code s e = ap (journalBy t s) (sym e)
+
+-- WHICH CODES THERE ARE: what holds of each of these holds of every journal's
+
+module _ (P : ℕ → Type 0) (p0 : P 0) (p30 : P 30) (p31 : P 31) (p32 : P 32) (p33 : P 33) where
+  missing-one : (b : Bool) → P (cond b 0 33)
+  missing-one true = p0
+  missing-one false = p33
+
+  movement-one : (x y z : Bool) (c : ℕ) → P c → P (codeThen (cond x (cond y (cond z 32 0) 31) 30) c)
+  movement-one true true true c h = p32
+  movement-one true true false c h = h
+  movement-one true false z c h = p31
+  movement-one false y z c h = p30
+
+  journal-one : (E before ms : List Movement) → P (journalCode E before ms)
+  unfolding journalCode movementCode missingCode
+  journal-one E before [] = missing-one (allOf (λ e. anyOf (sameLine e) before) E)
+  journal-one E before (m ∷ ms) =
+      movement-one (anyOf (sameLine m) E) (anyOf (sameMovement m) E) (anyOf (sameLine m) before) (journalCode E (before ++ m ∷ []) ms) (journal-one E (before ++ m ∷ []) ms)
+
+  pub checked-one : P 29 → (rs : List Record) (s : List ℕ) → P (checked rs s)
+  unfolding checked
+  checked-one p29 rs s = go (wholeMovements s) (journal-one (executedLines rs) [] (movementsIn s))
+    where
+      go : (b : Bool) → P (journalCode (executedLines rs) [] (movementsIn s)) → P (cond b (journalCode (executedLines rs) [] (movementsIn s)) 29)
+      go true h = h
+      go false h = p29

@@ -7,3 +7,4 @@ pub mod Condition2
 pub mod Condition3
 pub mod History
 pub mod Totals
+pub mod Journal
