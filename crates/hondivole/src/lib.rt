@@ -1,4 +1,4 @@
-// The C interface: nine thin functions over the desk, each with its promise. Every result is written on every path.
+// The C interface: ten thin functions over the desk, each with its promise. Every result is written on every path.
 use calendar::Date;
 use record::Key;
 ghost use mathlib.Core.Bool.{true, false};
@@ -8,6 +8,7 @@ ghost use Rattle.children.specs.Child.{FieldPromise};
 ghost use Rattle.opening.specs.Opening.{OpenReplies};
 ghost use Rattle.convert.specs.Convert.{ConvertReplies};
 ghost use Rattle.desk.specs.Desk.{FlowReplies};
+ghost use Rattle.journal.specs.Journal.{JournalPromise};
 ghost use Rattle.notices.specs.Notices.{keyed, NoticeReplies, totalled, TotalsPromise};
 
 // Opens a table.
@@ -112,6 +113,14 @@ pub extern "C" fn hondivole_reverse(
     let a = notices::reply_of(notices::reverse(table, body, key, line, date));
     *cents = a.cents;
     a.code
+}
+
+// Checks a cash journal's movements against a body's executed lines.
+#[no_mangle]
+pub extern "C" fn hondivole_journal(table: &[u8], body: &[u8], movements: &[u8]) -> u64
+    ensures { λ r. ⌜ JournalPromise (now (table .entry)) (now (body .entry)) (now (movements .entry)) r ⌝ }
+{
+    journal::check(table, body, movements)
 }
 
 // A body's totals.

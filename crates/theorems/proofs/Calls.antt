@@ -16,6 +16,8 @@ use Rattle.calendar.specs.declared.Date.{Date}
 use Rattle.target_days.specs.Target.{targetCode}
 use Rattle.record.specs.declared.Key.{Key}
 use Rattle.body.specs.Body.{centsOf}
+use Rattle.record.specs.declared.Record.{Record}
+use Rattle.slots.specs.Slots.{recordsAt}
 use Rattle.body.proofs.Same.{used-agree, records-agree}
 use Rattle.table.specs.Table.{bodies, tableOk, entryOf}
 use Rattle.address.specs.Address.{addressed}
@@ -25,8 +27,10 @@ use Rattle.service.proofs.Own.{all-own, notice-same, notice-own}
 use Rattle.notices.specs.Notices.{noticed, noticeBy, noticeTableBy, onDay, tableOnDay, bodyTotals, totalsOf}
 use Rattle.desk.specs.declared.FlowAnswer.the-variants.{NoRoom, Taken}
 use Rattle.desk.specs.Desk.{Reading, refused, served, flowReads, flowAnswer, flowTable, flowOutcomes}
-use Rattle.theorems.specs.Engine.{Call, flow, execute, reverse, totals, Answer, ofFlow, ofNotice, ofTotals, answerCode, namesOn, position, who}
-use Rattle.theorems.specs.Codes.{oneOf, strayCodes, noticeCodes, bodyCodes}
+use Rattle.journal.specs.Journal.{checked, journalOf}
+use Rattle.journal.proofs.Laws.{checked-one}
+use Rattle.theorems.specs.Engine.{Call, flow, execute, reverse, totals, journal, Answer, ofFlow, ofNotice, ofTotals, ofJournal, answerCode, namesOn, position, who}
+use Rattle.theorems.specs.Codes.{oneOf, strayCodes, noticeCodes, bodyCodes, journalCodes}
 use Rattle.theorems.proofs.Codes.{Or, date-codes, body-notice-codes}
 use Rattle.theorems.proofs.Steps.{answer, after}
 use Rattle.theorems.proofs.Good.{Good, base, size, Alike, Wrote, settled-wrote, kept-wrote, alike-left, ready, served as served-by}
@@ -120,6 +124,18 @@ module _ (t₀ : List ℕ) (r : tableOk t₀ ≡ true) where
       (λ s t g h a. (rw (n s g, n t h) (ap ofTotals (totals-same s t b a)), a .slots))
       (λ t g. rw (n t g))
 
+  -- A JOURNAL
+  journal-serves : (code m : List ℕ) {w : Option ℕ} → Names t₀ code w
+      → Serves t₀ (strayCodes (journal code m)) (bodyCodes (journal code m)) (answer (journal code m)) (after (journal code m)) w
+  unfolding journalOf
+  journal-serves code m (stray n) =
+      record { still = λ t g. refl; same = λ s t g h. rw (n s g, n t h); code = λ t g. rw (n t g) }
+  journal-serves code m (body b l n) =
+      in-slots (bodyCodes (journal code m)) b l (answer (journal code m)) (after (journal code m))
+      (λ t g. unchanged t (base t₀ b) (size t₀ b) (ready t₀ r t g b l .1))
+      (λ s t g h a. (rw (n s g, n t h) (ap (λ (rs : List Record). ofJournal (checked rs m)) (records-agree (size t₀ b) (a .slots))), a .slots))
+      (λ t g. rw (n t g) (checked-one (λ c. oneOf journalCodes c ≡ true) refl refl refl refl refl refl (recordsAt t (base t₀ b) (size t₀ b)) m))
+
   -- A FLOW
   module _ (f out : List ℕ) where
     answered : (t : List ℕ) (x : Reading) → flowReads t f (length out) ≡ x → answer (flow f out) t ≡ ofFlow (flowAnswer t x) (flowOutcomes t out x)
@@ -153,3 +169,4 @@ module _ (t₀ : List ℕ) (r : tableOk t₀ ≡ true) where
   every (execute code k line d) = dated-serves true code k line (targetCode d) (date-codes d)
   every (reverse code k line d) = dated-serves false code k line (targetCode d) (date-codes d)
   every (totals code) = totals-serves code (names t₀ r code)
+  every (journal code m) = journal-serves code m (names t₀ r code)

@@ -45,7 +45,9 @@ use Rattle.opening.specs.Opening.{openCode}
 use Rattle.desk.specs.declared.FlowAnswer.{FlowAnswer}
 use Rattle.desk.specs.declared.FlowAnswer.the-variants.{InvalidTable, TooLong, BrokenMarkup, BrokenStructure, BrokenField, OtherBank, UnknownBody, NoRoom, Taken}
 use Rattle.desk.specs.Desk.{flowReply, flowCode}
-use Rattle.theorems.specs.Engine.{Call, flow, execute, reverse, totals, Answer, answerCode, Step}
+use Rattle.journal.specs.Journal.{checked, journalBy, journalOf}
+use Rattle.journal.proofs.Laws.{checked-one}
+use Rattle.theorems.specs.Engine.{Call, flow, execute, reverse, totals, journal, Answer, answerCode, Step}
 use Rattle.theorems.specs.Codes.{oneOf, openCodes, noticeCodes, callCodes, causesWith, orderRefusals, orderCodes}
 
 -- 0, or one of these
@@ -265,8 +267,13 @@ totals-codes t code Invalid = refl
 totals-codes t code Unknown = refl
 totals-codes t code (Body e base n) = refl
 
+journal-codes : (t code s : List ℕ) (b : Addressed) → oneOf (callCodes (journal code s)) (journalBy t s b) ≡ true
+journal-codes t code s Invalid = refl
+journal-codes t code s Unknown = refl
+journal-codes t code s (Body e base n) = checked-one (λ c. oneOf (callCodes (journal code s)) c ≡ true) refl refl refl refl refl refl (recordsAt t base n) s
+
 pub call-codes : (c : Call) (t : List ℕ) (a : Answer) (t′ : List ℕ) → Step c t a t′ → oneOf (callCodes c) (answerCode a) ≡ true
-unfolding totalsOf
+unfolding totalsOf journalOf
 call-codes (flow f out) t a t′ s = ap (λ (x : Answer). oneOf (callCodes (flow f out)) (answerCode x)) (s .3) ∙ flow-codes f out (s .0)
 call-codes (execute code k line d) t a t′ s =
     ap (λ (x : Answer). oneOf (callCodes (execute code k line d)) (answerCode x)) (s .2)
@@ -280,3 +287,7 @@ call-codes (totals code) t a t′ s =
     ap (λ (x : Answer). oneOf (callCodes (totals code)) (answerCode x)) (s .2)
     ∙ ap (λ (x : TotalsAnswer). oneOf (callCodes (totals code)) (x .code)) (s .1)
     ∙ totals-codes t code (addressed t code)
+call-codes (journal code m) t a t′ s =
+    ap (λ (x : Answer). oneOf (callCodes (journal code m)) (answerCode x)) (s .2)
+    ∙ ap (oneOf (callCodes (journal code m))) (s .1)
+    ∙ journal-codes t code m (addressed t code)

@@ -47,7 +47,7 @@ module _ (t : List ℕ) (ok : tableOk t ≡ true) (code : List ℕ) (b : ℕ) (e
   abbrev size : ℕ
   size = slotsOf t (entryOf b)
 
-  is-body : addressed t code ≡ Body (entryOf b) base size
+  pub is-body : addressed t code ≡ Body (entryOf b) base size
   unfolding addressed
   is-body = rw (ok, e)
 
@@ -69,11 +69,11 @@ module _ (t : List ℕ) (ok : tableOk t ≡ true) (code : List ℕ) (b : ℕ) (e
 
 -- NO BODY
 module _ (t : List ℕ) (code : List ℕ) where
-  no-table : tableOk t ≡ false → addressed t code ≡ Invalid
+  pub no-table : tableOk t ≡ false → addressed t code ≡ Invalid
   unfolding addressed
   no-table e = rw e
 
-  no-body : tableOk t ≡ true → bodyOf t code ≡ Nothing → addressed t code ≡ Unknown
+  pub no-body : tableOk t ≡ true → bodyOf t code ≡ Nothing → addressed t code ≡ Unknown
   unfolding addressed
   no-body ok e = rw (ok, e)
 

@@ -25,7 +25,7 @@ use Rattle.isolation.specs.Machine.{Laws}
 use Rattle.isolation.proofs.OrderLaws.{mine-by-body, strays-by-body}
 use Rattle.isolation.proofs.Runs.{good-run}
 use Rattle.isolation.proofs.Isolated.{isolated}
-use Rattle.theorems.specs.Engine.{Call, flow, execute, reverse, totals, Answer, Engine, answerCode, namesIn, names, whichBody, position, who, machine, tableAfter}
+use Rattle.theorems.specs.Engine.{Call, flow, execute, reverse, totals, journal, Answer, Engine, answerCode, namesIn, names, whichBody, position, who, machine, tableAfter}
 use Rattle.theorems.specs.Condition3.{FromValid, FromOpening}
 use Rattle.theorems.specs.Codes.{oneOf, strayCodes, bodyCodes}
 use Rattle.theorems.proofs.Steps.{answer, after, one-step}
@@ -38,6 +38,7 @@ no-one (flow f out) = (refl, refl)
 no-one (execute code k line d) = (refl, refl)
 no-one (reverse code k line d) = (refl, refl)
 no-one (totals code) = (refl, refl)
+no-one (journal code s) = (refl, refl)
 
 module _ (E : Engine) (t₀ : List ℕ) (r : tableOk t₀ ≡ true) where
   by : (c : Call) (w : Option ℕ) → who t₀ c ≡ w → Serves t₀ (strayCodes c) (bodyCodes c) (E .answer c) (E .next c) w
@@ -105,6 +106,7 @@ module _ (E : Engine) (t₀ : List ℕ) (r : tableOk t₀ ≡ true) where
     named (execute code k line d) = refl
     named (reverse code k line d) = refl
     named (totals code) = refl
+    named (journal code s) = refl
 
     placed : (x : Option (List ℕ)) → position now x ≡ position t₀ x
     placed none = refl

@@ -33,7 +33,7 @@ use Rattle.opening.specs.Opening.{opened}
 use Rattle.opening.proofs.Valid.{opened-valid, opened-bodies, past}
 use Rattle.isolation.proofs.Runs.{good-run}
 use Rattle.isolation.proofs.History.{balance}
-use Rattle.theorems.specs.Engine.{Call, flow, execute, reverse, totals, Answer, Engine, who, machine, recordsOf, tableAfter, namesOn, position}
+use Rattle.theorems.specs.Engine.{Call, flow, execute, reverse, totals, journal, Answer, Engine, who, machine, recordsOf, tableAfter, namesOn, position}
 use Rattle.theorems.specs.History.{Weight, ofExecution, ofReversal, executions, reversals, weight, cash, perTime, logOf, History, HistoryValid, HistoryOpened}
 use Rattle.rules.specs.Worth.{Which, Value, worth, ofKind, itsCents, withKey, onLine}
 use Rattle.theorems.proofs.Steps.{answer, after, one-step}
@@ -105,6 +105,10 @@ module _ (t₀ : List ℕ) (r : tableOk t₀ ≡ true) (w : Weight) (h : List Re
     totals-moves code (stray n) = tt
     totals-moves code (body a l n) = refl
 
+    journal-moves : (code s : List ℕ) {o : Option ℕ} → Names t₀ code o → Moves (journal code s) t o
+    journal-moves code s (stray n) = tt
+    journal-moves code s (body a l n) = refl
+
     -- a call with a date that has the code n: on no TARGET day it is no body's
     on-date : (c : Call) (code : List ℕ) (d : Date) (n : ℕ) → targetCode d ≡ n → (targetCode d ≡ 0 → Moves c t (position t₀ (some code)))
         → Moves c t (position t₀ (namesOn n code))
@@ -116,6 +120,7 @@ module _ (t₀ : List ℕ) (r : tableOk t₀ ≡ true) (w : Weight) (h : List Re
     moves (execute code k line d) = on-date (execute code k line d) code d (targetCode d) refl (λ q. execute-moves code k line d q (names t₀ r code))
     moves (reverse code k line d) = on-date (reverse code k line d) code d (targetCode d) refl (λ q. reverse-moves code k line d q (names t₀ r code))
     moves (totals code) = totals-moves code (names t₀ r code)
+    moves (journal code s) = journal-moves code s (names t₀ r code)
 
   module _ (E : Engine) (b : ℕ) (l : b < bodies t₀) (cs : List Call) where
     -- the same of the engine's answer and table

@@ -14,3 +14,4 @@ pub mod Condition1
 pub mod Exactly
 pub mod Totals
 pub mod Searches
+pub mod Journal

@@ -33,6 +33,7 @@ no-second = record {
   flow = λ t f out a b u v x y m n. (one (m .0) (n .0), one (m .1) (n .1), one (m .2) (n .2));
   notice = λ t executing code k line d a b u v m n. (one (m .0) (n .0), one (m .1) (n .1));
   totals = λ t code a b m n. one m n;
+  journal = λ t code s a b m n. one m n;
   field = λ s place a b m n. one m n;
   name = λ s place a b m n. one m n;
   text = λ s place a b m n. one m n;

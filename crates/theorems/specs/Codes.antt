@@ -5,7 +5,7 @@ use mathlib.Core.List.{List, [], _∷_, _++_}
 use lib.Dec.{eqb}
 use lib.ListN.{getD, drop}
 use Rattle.service.specs.Service.{outcomeSize}
-use Rattle.theorems.specs.Engine.{Call, flow, execute, reverse, totals}
+use Rattle.theorems.specs.Engine.{Call, flow, execute, reverse, totals, journal}
 
 abbrev pub oneOf : List ℕ → ℕ → Bool
 oneOf [] c = false
@@ -24,17 +24,23 @@ abbrev pub convertCodes : List ℕ
 convertCodes = 0 ∷ 1 ∷ 10 ∷ []
 
 -- A CALL THAT NAMES NO BODY of a valid table. A flow: "2 the flow is longer than 32,768 bytes; 3 the markup breaks; 4 the structure breaks; 5 a field
--- breaks; 6 codice_ABI_BT isn't the table's; 7 no body has this code". A notice: 7, or "27 no date or outside the years, 28 closing day" (Req 08). Totals: 7
+-- breaks; 6 codice_ABI_BT isn't the table's; 7 no body has this code". A notice: 7, or "27 no date or outside the years, 28 closing day" (Req 08). Totals and a journal: 7
 abbrev pub strayCodes : Call → List ℕ
 strayCodes (flow f out) = 2 ∷ 3 ∷ 4 ∷ 5 ∷ 6 ∷ 7 ∷ []
 strayCodes (execute code k line d) = 7 ∷ 27 ∷ 28 ∷ []
 strayCodes (reverse code k line d) = 7 ∷ 27 ∷ 28 ∷ []
 strayCodes (totals code) = 7 ∷ []
+strayCodes (journal code s) = 7 ∷ []
 
 -- a notice for a body: "16 (no such order), 17, 20 (no such line), then for execution 21 (already executed), for reversal 22 (not executed)"
 abbrev pub noticeCodes : Bool → List ℕ
 noticeCodes true = 0 ∷ 16 ∷ 17 ∷ 20 ∷ 21 ∷ []
 noticeCodes false = 0 ∷ 16 ∷ 17 ∷ 20 ∷ 22 ∷ []
+
+-- a journal for a body: "29 over 4,096 or not whole movements; then one by one 30 no such executed line, 31 other cents, 32 listed before; then 33 an
+-- executed line is missing" (document 02, Req 10)
+abbrev pub journalCodes : List ℕ
+journalCodes = 0 ∷ 29 ∷ 30 ∷ 31 ∷ 32 ∷ 33 ∷ []
 
 -- A CALL THAT NAMES A BODY. A flow: "8 the outcome buffer has under 16 bytes per order .. Otherwise the code is 0"
 abbrev pub bodyCodes : Call → List ℕ
@@ -42,6 +48,7 @@ bodyCodes (flow f out) = 0 ∷ 8 ∷ []
 bodyCodes (execute code k line d) = noticeCodes true
 bodyCodes (reverse code k line d) = noticeCodes false
 bodyCodes (totals code) = 0 ∷ []
+bodyCodes (journal code s) = journalCodes
 
 -- ANY CALL: "1 the table isn't valid", or one of those
 abbrev pub callCodes : Call → List ℕ

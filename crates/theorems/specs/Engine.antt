@@ -1,4 +1,4 @@
--- THE DESK'S CALLS AS A MACHINE: its states are a table's bytes, its calls flows, notices and totals, and its answers any engine's that keeps the calls'
+-- THE DESK'S CALLS AS A MACHINE: its states are a table's bytes, its calls flows, notices, totals and journals, and its answers any engine's that keeps the calls'
 -- promises. Which body a call names and which bytes a body owns are read from t₀, the table that the calls start from.
 use Prim.Native.Nat.{ℕ, zero, suc, _+_, _*_}
 use mathlib.Core.Path.{_≡_}
@@ -24,6 +24,7 @@ use Rattle.flow.specs.Flow.{verdictOf, headerOf}
 use Rattle.notices.specs.declared.NoticeAnswer.{NoticeAnswer}
 use Rattle.notices.specs.declared.TotalsAnswer.{TotalsAnswer}
 use Rattle.notices.specs.Notices.{NoticePromise, noticeCodeOf, TotalsPromise}
+use Rattle.journal.specs.Journal.{JournalPromise}
 use Rattle.desk.specs.declared.FlowAnswer.{FlowAnswer}
 use Rattle.desk.specs.Desk.{maxFlow, FlowPromise, flowCode}
 use Rattle.isolation.specs.Machine.{Machine, stateAfter}
@@ -37,12 +38,15 @@ pub data Call : Type 0 where
   reverse : List ℕ → Key → ℕ → Date → Call
   -- body code
   totals : List ℕ → Call
+  -- body code; a journal's movements (document 02, Req 10)
+  journal : List ℕ → List ℕ → Call
 
 pub data Answer : Type 0 where
   -- with the outcome buffer's bytes afterwards
   ofFlow : FlowAnswer → List ℕ → Answer
   ofNotice : NoticeAnswer → Answer
   ofTotals : TotalsAnswer → Answer
+  ofJournal : ℕ → Answer
 
 -- what each call promises: on the table t, the answer a and the table t′ afterwards
 abbrev pub Step : Call → List ℕ → Answer → List ℕ → Type 0
@@ -50,6 +54,7 @@ Step (flow f out) t a t′ = (r : FlowAnswer) × (out′ : List ℕ) × FlowProm
 Step (execute code k line d) t a t′ = (r : NoticeAnswer) × NoticePromise t true code k line d r t′ × (a ≡ ofNotice r)
 Step (reverse code k line d) t a t′ = (r : NoticeAnswer) × NoticePromise t false code k line d r t′ × (a ≡ ofNotice r)
 Step (totals code) t a t′ = (r : TotalsAnswer) × TotalsPromise t code r × (a ≡ ofTotals r) × (t′ ≡ t)
+Step (journal code s) t a t′ = (r : ℕ) × JournalPromise t code s r × (a ≡ ofJournal r) × (t′ ≡ t)
 
 -- an engine that keeps the promises on every table
 pub record Engine : Type 0 where
@@ -67,6 +72,7 @@ abbrev pub answerCode : Answer → ℕ
 answerCode (ofFlow a out) = flowCode a
 answerCode (ofNotice a) = noticeCodeOf a
 answerCode (ofTotals a) = a .code
+answerCode (ofJournal c) = c
 
 -- WHICH BODY A CALL NAMES, read from the call and from t₀, the table that the calls start from: its ABI digits and its bodies' codes.
 
@@ -87,6 +93,7 @@ names t₀ (flow f out) = cond (leb (length f) maxFlow) (namesIn t₀ f (verdict
 names t₀ (execute code k line d) = namesOn (targetCode d) code
 names t₀ (reverse code k line d) = namesOn (targetCode d) code
 names t₀ (totals code) = some code
+names t₀ (journal code s) = some code
 
 abbrev pub whichBody : Found → Option ℕ
 whichBody (At b) = some b

@@ -18,7 +18,7 @@ use Rattle.rules.specs.Worth.{Which, Value, worth, ofKind, itsCents, withKey, o
 use Rattle.isolation.specs.Order.{mine}
 use Rattle.isolation.specs.Machine.{whose, log}
 use Rattle.isolation.specs.Tally.{tally}
-use Rattle.theorems.specs.Engine.{Call, flow, execute, reverse, totals, Answer, ofFlow, ofNotice, ofTotals, Engine, position, machine, recordsOf, tableAfter}
+use Rattle.theorems.specs.Engine.{Call, flow, execute, reverse, totals, journal, Answer, ofFlow, ofNotice, ofTotals, ofJournal, Engine, position, machine, recordsOf, tableAfter}
 
 -- what an answer to a notice for line n of the order with this key weighs
 abbrev pub Weight : Type 0
@@ -28,6 +28,7 @@ abbrev pub weighed : Weight → Key → ℕ → Answer → ℕ
 weighed w k n (ofNotice a) = w k n a
 weighed w k n (ofFlow a out) = 0
 weighed w k n (ofTotals a) = 0
+weighed w k n (ofJournal c) = 0
 
 -- of a line of the log: the weight of an execution, or of a reversal; other calls weigh nothing
 abbrev pub ofExecution : Weight → Call → Answer → ℕ
@@ -35,12 +36,14 @@ ofExecution w (execute code k n d) a = weighed w k n a
 ofExecution w (reverse code k n d) a = 0
 ofExecution w (flow f out) a = 0
 ofExecution w (totals code) a = 0
+ofExecution w (journal code s) a = 0
 
 abbrev pub ofReversal : Weight → Call → Answer → ℕ
 ofReversal w (reverse code k n d) a = weighed w k n a
 ofReversal w (execute code k n d) a = 0
 ofReversal w (flow f out) a = 0
 ofReversal w (totals code) a = 0
+ofReversal w (journal code s) a = 0
 
 -- of all lines
 abbrev pub executions : Weight → List (Call × Answer) → ℕ

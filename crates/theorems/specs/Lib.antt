@@ -8,3 +8,4 @@ pub mod Condition3
 pub mod History
 pub mod Totals
 pub mod Searches
+pub mod Journal

@@ -20,6 +20,7 @@ use Rattle.convert.specs.Convert.{ConvertPromise, ConvertReplies}
 use Rattle.notices.specs.declared.NoticeAnswer.{NoticeAnswer}
 use Rattle.notices.specs.declared.TotalsAnswer.{TotalsAnswer}
 use Rattle.notices.specs.Notices.{NoticePromise, NoticeReplies, TotalsPromise}
+use Rattle.journal.specs.Journal.{JournalPromise}
 use Rattle.desk.specs.declared.FlowAnswer.{FlowAnswer}
 use Rattle.desk.specs.declared.FlowReply.{FlowReply}
 use Rattle.desk.specs.Desk.{FlowPromise, FlowReplies}
@@ -33,6 +34,8 @@ pub record NoSecond : Type 0 where
       → NoticePromise t executing code k line d a u → NoticePromise t executing code k line d b v → (a ≡ b) × (u ≡ v)
   -- the exported function's promise too, of the record of the five numbers that it writes
   pub totals : (t code : List ℕ) (a b : TotalsAnswer) → TotalsPromise t code a → TotalsPromise t code b → a ≡ b
+  -- a journal (Req 10), the exported function's promise too
+  pub journal : (t code s : List ℕ) (a b : ℕ) → JournalPromise t code s a → JournalPromise t code s b → a ≡ b
   -- a field's own words: where they stand in the flow, and so which they are
   pub field : (s : List ℕ) (place : ℕ) (a b : FieldSpans) → FieldPromise s place a → FieldPromise s place b → a ≡ b
   pub name : (s : List ℕ) (place : ℕ) (a b : List ℕ) → NamePromise s place a → NamePromise s place b → a ≡ b

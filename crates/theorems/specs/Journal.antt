@@ -1,0 +1,32 @@
+-- A JOURNAL'S ANSWER (document 02, Req 10), of whatever keeps its call's promise. Proved: `journal-answers : JournalAnswers`.
+use Prim.Native.Nat.{ℕ}
+use mathlib.Core.Path.{_≡_}
+use mathlib.Core.Bool.{true, false}
+use mathlib.Core.List.{List, []}
+use Rattle.ranges.specs.declared.Found.the-variants.{At, Nothing}
+use Rattle.table.specs.Table.{tableOk, bodyOf}
+use Rattle.journal.specs.Journal.{movementsIn, wholeMovements, executedLines, journalCode, JournalPromise}
+use Rattle.journal.specs.Told.{Permutation, Told}
+use Rattle.theorems.specs.Engine.{recordsOf}
+use Rattle.theorems.specs.Condition2.{Exactly}
+
+-- "accept exactly when every executed line of that body is listed once, with its cents, and nothing else is listed": the table is valid, a body has the code,
+-- the bytes are whole movements and not too many, and these are the body's executed lines with their cents, in any order
+pub record Accepts (t code s : List ℕ) : Type 0 where
+  pub valid : tableOk t ≡ true
+  pub body : ℕ
+  pub named : bodyOf t code ≡ At body
+  pub whole : wholeMovements s ≡ true
+  pub same : Permutation (movementsIn s) (executedLines (recordsOf body t))
+
+pub record JournalAnswers : Type 0 where
+  pub accepted : (t code s : List ℕ) (c : ℕ) → JournalPromise t code s c → Exactly (c ≡ 0) (Accepts t code s)
+  -- "Refusals after 1 and 7: 29 over 4,096 or not whole movements"
+  pub refused : (t code s : List ℕ) (c : ℕ) → JournalPromise t code s c
+      → (tableOk t ≡ false → c ≡ 1)
+      × (tableOk t ≡ true → bodyOf t code ≡ Nothing → c ≡ 7)
+      × ((b : ℕ) → tableOk t ≡ true → bodyOf t code ≡ At b → wholeMovements s ≡ false → c ≡ 29)
+  -- "then one by one 30 no such executed line, 31 other cents, 32 listed before; then 33 an executed line is missing": each exactly when (`Told`,
+  -- crates/journal/specs/Told)
+  pub told : (t code s : List ℕ) (c : ℕ) → JournalPromise t code s c → (b : ℕ) → tableOk t ≡ true → bodyOf t code ≡ At b → wholeMovements s ≡ true
+      → (c ≡ journalCode (executedLines (recordsOf b t)) [] (movementsIn s)) × Told (recordsOf b t) (movementsIn s)
