@@ -12,7 +12,7 @@ use Rattle.pen.specs.Pen.{Wrote, Room}
 use Rattle.pen.specs.Decimal.{fixed, decimal, amount, dated}
 use Rattle.message.specs.Message.{Entry, Message, isAccepted, wordOf, numberName, dateName}
 use Rattle.message.specs.Written.{_and_, errorsOut, entryOut, istatOut, headOut}
-use Rattle.message_pen.specs.declared.Said.{Said}
+use Rattle.message_pen.specs.declared.Saying.{Saying}
 
 -- room for elements, and elements written from `at` on, up to r: as the pen's Room and Wrote, of their bytes
 pub record RoomFor (at : ℕ) (ts : Trees) : Type 0 where
@@ -44,8 +44,8 @@ abbrev pub entryName : ℕ → String
 entryName kind = byKind kind "esito_mandati" "esito_reversali"
 
 -- the entry that the struct and two texts are
-abbrev pub entryOf : Said → List ℕ → List ℕ → Entry
-entryOf v flow time = record {
+abbrev pub entryWith : Saying → List ℕ → List ℕ → Entry
+entryWith v flow time = record {
   operation = v .operation;
   code = v .code;
   flow = flow;
@@ -60,14 +60,14 @@ entryOf v flow time = record {
 abbrev pub namedOut : List ℕ → ℕ → Trees
 namedOut flow year = leaf "identificativo_flusso" flow and leaf "esercizio" (fixed 4 year) and none
 
-abbrev pub orderOut : Said → Trees
+abbrev pub orderOut : Saying → Trees
 orderOut v =
     leaf (numberName (wordsFor (v .kind))) (decimal (v .number))
     and leaf (dateName (wordsFor (v .kind))) (dated (v .date))
     and leaf "importo" (amount (v .total))
     and none
 
-abbrev pub outcomeOut : Said → List ℕ → Trees
+abbrev pub outcomeOut : Saying → List ℕ → Trees
 outcomeOut v time =
     leaf "esito_operazione" (bytes (wordOf (isAccepted (v .code)) (v .operation)))
     and leaf "data_ora_esito_operazione" time

@@ -9,10 +9,10 @@ ghost use Rattle.pen.specs.Pen.{Wrote, Room, tagged};
 ghost use Rattle.pen.specs.Decimal.{decimal, dated};
 ghost use Rattle.message.specs.Message.{acceptedAs, refusedAs, numberName, dateName, elementName};
 ghost use Rattle.message.specs.Written.{errorOut, entryOut, istatOut};
-ghost use Rattle.message_pen.specs.Parts.{RoomFor, WroteAll, RoomOf, WroteTree, byKind, wordsFor, entryName, entryOf, namedOut, orderOut, outcomeOut, headFirst, headLast, headTree};
+ghost use Rattle.message_pen.specs.Parts.{RoomFor, WroteAll, RoomOf, WroteTree, byKind, wordsFor, entryName, entryWith, namedOut, orderOut, outcomeOut, headFirst, headLast, headTree};
 
 // What an entry says but for its texts. Kind: 1 mandato, 2 reversale. Code: 0, or that of the refusal.
-pub struct Said {
+pub struct Saying {
     pub kind: u8,
     pub operation: Operation,
     pub code: u64,
@@ -124,7 +124,7 @@ fn named(m: &mut [u8], at: usize, flow: &[u8], year: u64) -> usize
 }
 
 // Its order's number, date and amount.
-fn order(m: &mut [u8], at: usize, v: Said) -> usize
+fn order(m: &mut [u8], at: usize, v: Saying) -> usize
     requires { ⌜ RoomFor at (orderOut v) ⌝ }
     ensures { λ r. ⌜ WroteAll (now (m .entry)) (now (m .exit)) at (orderOut v) r ⌝ }
 {
@@ -135,7 +135,7 @@ fn order(m: &mut [u8], at: usize, v: Said) -> usize
 }
 
 // Its outcome: the word, the time, and where it was refused the error.
-fn outcome(m: &mut [u8], at: usize, v: Said, time: &[u8]) -> usize
+fn outcome(m: &mut [u8], at: usize, v: Saying, time: &[u8]) -> usize
     requires { ⌜ RoomFor at (outcomeOut v (now time)) ⌝ }
     ensures { λ r. ⌜ WroteAll (now (m .entry)) (now (m .exit)) at (outcomeOut v (now (time .entry))) r ⌝ }
 {
@@ -149,10 +149,10 @@ fn outcome(m: &mut [u8], at: usize, v: Said, time: &[u8]) -> usize
     error(m, c, v.kind, v.code)
 }
 
-fn entry_named(m: &mut [u8], at: usize, name: &[u8], v: Said, flow: &[u8], time: &[u8]) -> usize
-    requires { ⌜ RoomOf at (tree 0 (now name) (holds (entryOut (wordsFor (v .kind)) (entryOf v (now flow) (now time))))) ⌝ }
+fn entry_named(m: &mut [u8], at: usize, name: &[u8], v: Saying, flow: &[u8], time: &[u8]) -> usize
+    requires { ⌜ RoomOf at (tree 0 (now name) (holds (entryOut (wordsFor (v .kind)) (entryWith v (now flow) (now time))))) ⌝ }
     ensures { λ r. ⌜ WroteTree (now (m .entry)) (now (m .exit)) at
-        (tree 0 (now (name .entry)) (holds (entryOut (wordsFor (v .kind)) (entryOf v (now (flow .entry)) (now (time .entry)))))) r ⌝ }
+        (tree 0 (now (name .entry)) (holds (entryOut (wordsFor (v .kind)) (entryWith v (now (flow .entry)) (now (time .entry)))))) r ⌝ }
 {
     let a = pen::open_tag(m, at, name);
     let b = named(m, a, flow, v.esercizio);
@@ -162,10 +162,10 @@ fn entry_named(m: &mut [u8], at: usize, name: &[u8], v: Said, flow: &[u8], time:
 }
 
 // An entry.
-pub fn entry(m: &mut [u8], at: usize, v: Said, flow: &[u8], time: &[u8]) -> usize
-    requires { ⌜ RoomOf at (node (entryName (v .kind)) (entryOut (wordsFor (v .kind)) (entryOf v (now flow) (now time)))) ⌝ }
+pub fn entry(m: &mut [u8], at: usize, v: Saying, flow: &[u8], time: &[u8]) -> usize
+    requires { ⌜ RoomOf at (node (entryName (v .kind)) (entryOut (wordsFor (v .kind)) (entryWith v (now flow) (now time)))) ⌝ }
     ensures { λ r. ⌜ WroteTree (now (m .entry)) (now (m .exit)) at
-        (node (entryName (v .kind)) (entryOut (wordsFor (v .kind)) (entryOf v (now (flow .entry)) (now (time .entry))))) r ⌝ }
+        (node (entryName (v .kind)) (entryOut (wordsFor (v .kind)) (entryWith v (now (flow .entry)) (now (time .entry))))) r ⌝ }
 {
     if v.kind == 2 {
         return entry_named(m, at, b"esito_reversali", v, flow, time);
