@@ -1,5 +1,6 @@
 //! Two engines on one case: every answer, every outcome byte, every table byte, and every byte around the buffers.
 
+use reference::message::{GIVEN, Given, ReadAnswer, WriteAnswer};
 use reference::{FlowAnswer, NoticeAnswer, Totals};
 
 use crate::case::{Answer, Call, Case};
@@ -31,6 +32,8 @@ pub struct Yard {
     table: Pen,
     input: Pen,
     outcomes: Pen,
+    values: [Pen; 9],
+    written: Pen,
     results: [Pen; 4],
 }
 
@@ -50,22 +53,33 @@ pub struct Served {
     pub answer: Answer,
     /// The outcome buffer after a flow; empty for other calls.
     pub outcomes: Vec<u8>,
+    /// The lent buffer after a call on a message: the message or the values; empty for other calls.
+    pub written: Vec<u8>,
 }
 
 fn input_of(call: &Call) -> &[u8] {
     match call {
         Call::Open { request, .. } => request,
         Call::Convert { old, .. } => old,
-        Call::Flow { flow, .. } => flow,
+        Call::Flow { flow, .. } | Call::Write { flow, .. } => flow,
         Call::Execute { body, .. } | Call::Reverse { body, .. } | Call::Totals { body } => body,
+        Call::Read { message, .. } | Call::Rewrite { message, .. } => message,
     }
 }
 
 impl Yard {
     /// A yard that lends in this way.
     pub fn new(lend: Lend) -> Yard {
-        let results = std::array::from_fn(|_| Pen::new(8));
-        Yard { lend, calls: 0, table: Pen::new(65_792), input: Pen::new(32_769), outcomes: Pen::new(1_024), results }
+        Yard {
+            lend,
+            calls: 0,
+            table: Pen::new(65_792),
+            input: Pen::new(65_537),
+            outcomes: Pen::new(1_024),
+            values: std::array::from_fn(|_| Pen::new(141)),
+            written: Pen::new(40_000),
+            results: std::array::from_fn(|_| Pen::new(8)),
+        }
     }
 
     /// Makes one call on an engine with guards around each buffer and result. `Err` says which byte outside them was written.
@@ -84,7 +98,17 @@ impl Yard {
         if self.input.bytes() != input_of(call) {
             return Err("the input was written".into());
         }
-        Ok(Served { answer, outcomes: self.outcomes.bytes().to_vec() })
+        let mut outcomes = self.outcomes.bytes().to_vec();
+        if let Call::Write { outcomes: given, values, .. } = call {
+            if outcomes != *given {
+                return Err("the outcome bytes were written".into());
+            }
+            if let Some(place) = self.values.iter().zip(values).position(|(pen, value)| pen.bytes() != value) {
+                return Err(format!("the caller's {} was written", GIVEN[place]));
+            }
+            outcomes.clear();
+        }
+        Ok(Served { answer, outcomes, written: self.written.bytes().to_vec() })
     }
 
     /// Puts what a call is lent into the pens.
@@ -97,8 +121,17 @@ impl Yard {
         self.calls += 1;
         self.table.put(table, place);
         self.input.put(input_of(call), place);
-        let room = if let Call::Flow { room, .. } = call { *room } else { 0 };
-        self.outcomes.put(&noise(room), place);
+        let (outcomes, written) = match call {
+            Call::Flow { room, .. } => (noise(*room), 0),
+            Call::Write { outcomes, room, .. } => (outcomes.clone(), *room),
+            Call::Read { room, .. } | Call::Rewrite { room, .. } => (Vec::new(), *room),
+            _ => (Vec::new(), 0),
+        };
+        self.outcomes.put(&outcomes, place);
+        self.written.put(&noise(written), place);
+        if let Call::Write { values, .. } = call {
+            self.values.iter_mut().zip(values).for_each(|(pen, value)| pen.put(value, place));
+        }
         self.results.iter_mut().for_each(|result| result.put_number(CANARY, place));
     }
 
@@ -131,6 +164,22 @@ impl Yard {
                 let (used, paid, collected) = (first.number(), second.number(), third.number());
                 Answer::Totals(Totals { code, used, paid, collected, balance: fourth.number() as i64 })
             }
+            Call::Write { .. } => {
+                let values: Given = std::array::from_fn(|place| self.values[place].bytes());
+                let (outcomes, written) = (self.outcomes.bytes(), self.written.bytes_mut());
+                let code = engine.message_write(given, outcomes, &values, written, first.number_mut());
+                Answer::Write(WriteAnswer { code, length: first.number() })
+            }
+            Call::Read { .. } => {
+                let (entries, place, cause) = (first.number_mut(), second.number_mut(), third.number_mut());
+                let code = engine.message_read(given, self.written.bytes_mut(), entries, place, cause);
+                let (entries, place, cause) = (first.number(), second.number(), third.number());
+                Answer::Read(ReadAnswer { code, entries, place, cause })
+            }
+            Call::Rewrite { .. } => {
+                let code = engine.message_rewrite(given, self.written.bytes_mut(), first.number_mut());
+                Answer::Write(WriteAnswer { code, length: first.number() })
+            }
         }
     }
 
@@ -141,12 +190,14 @@ impl Yard {
             ("table", &self.table),
             ("input", &self.input),
             ("outcome buffer", &self.outcomes),
+            ("written buffer", &self.written),
             ("first result", first),
             ("second result", second),
             ("third result", third),
             ("fourth result", fourth),
         ];
-        pens.into_iter().find_map(|(buffer, pen)| Some((buffer, pen.stray()?)))
+        let values = GIVEN.into_iter().zip(&self.values);
+        pens.into_iter().chain(values).find_map(|(buffer, pen)| Some((buffer, pen.stray()?)))
     }
 
     /// Makes the case's calls on both engines; the first difference. A call on bytes that are no table, or that answers anything at all,
@@ -174,6 +225,9 @@ impl Yard {
                 ));
             }
             if let Some(what) = different_byte("outcome", &wanted.outcomes, &got.outcomes, expected, tried) {
+                return difference(what);
+            }
+            if let Some(what) = different_byte("written", &wanted.written, &got.written, expected, tried) {
                 return difference(what);
             }
             if let Some(what) = different_byte("table", &right, &left, expected, tried) {
