@@ -1,7 +1,7 @@
 /* SPDX-License-Identifier: EUPL-1.2 */
 
 /*
- * The outcome message of a flow: takes examples/run.xml, prints its message, which is that of examples/message.xml, and what it says of each
+ * The outcome message of a flow: takes examples/run.xml, prints its message, which is that of examples/messages/run.xml, and what it says of each
  * order; then what refused calls answer.
  *
  * At the top of the repository, after `./library`:

@@ -1,4 +1,4 @@
-//! The outcome message of document 01's run: takes the flow and prints the message, which is that of examples/message.xml.
+//! The outcome message of document 01's run: takes the flow and prints the message, which is that of examples/messages/run.xml.
 //!
 //! In bindings/rust, after `./library`: `cargo run --example message`
 
