@@ -181,13 +181,13 @@ fn is_time(text: &[u8]) -> Option<()> {
         4 | 6 | 9 | 11 => 30,
         _ => 31,
     };
-    (part(11, 23)?, part(14, 59)?, part(17, 59)?);
+    let in_the_day = part(11, 23).and(part(14, 59)).and(part(17, 59)).is_some();
     let zone = match text.get(19..)? {
         b"Z" => true,
         [b'+' | b'-', hours @ .., b':', m1, m2] => two_digits(hours, 23).is_some() && two_digits(&[*m1, *m2], 59).is_some(),
         _ => false,
     };
-    (month > 0 && (1..=last).contains(&day) && zone).then_some(())
+    (month > 0 && (1..=last).contains(&day) && in_the_day && zone).then_some(())
 }
 
 /// Writes the outcome message of a flow and its outcome bytes into the lent buffer; [`MOST_WRITTEN_BYTES`] are enough for any. The answer is

@@ -96,15 +96,15 @@ fn refused_flows_and_buffers() {
 
 #[test]
 fn outcomes_that_are_not_this_flows() {
-    let refused = Err(Refusal::ValuesWrong { given: Some(Given::Outcomes) });
+    let refusal = Refusal::ValuesWrong { given: Some(Given::Outcomes) };
     let mut buffer = [0; MOST_WRITTEN_BYTES];
-    assert_eq!(write_message(RUN, &outcomes()[..31], &VALUES, &mut buffer), refused);
+    assert_eq!(write_message(RUN, &outcomes()[..31], &VALUES, &mut buffer), Err(refusal));
     for at in 0..32 {
         let mut other = outcomes();
         other[at] ^= 0x40;
-        assert_eq!(write_message(RUN, &other, &VALUES, &mut buffer), refused, "byte {at}");
+        assert_eq!(write_message(RUN, &other, &VALUES, &mut buffer), Err(refusal), "byte {at}");
     }
-    assert_eq!(refused.unwrap_err().to_string(), "the outcome bytes aren't this flow's");
+    assert_eq!(refusal.to_string(), "the outcome bytes aren't this flow's");
 }
 
 type Change = for<'v> fn(MessageValues<'v>, &'v str) -> MessageValues<'v>;
