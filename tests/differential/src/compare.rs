@@ -32,6 +32,7 @@ pub struct Yard {
     table: Pen,
     input: Pen,
     outcomes: Pen,
+    message: Pen,
     values: [Pen; 9],
     written: Pen,
     results: [Pen; 4],
@@ -67,6 +68,10 @@ fn input_of(call: &Call) -> &[u8] {
     }
 }
 
+fn is_read(call: &Call) -> bool {
+    matches!(call, Call::Read { .. } | Call::Rewrite { .. })
+}
+
 impl Yard {
     /// A yard that lends in this way.
     pub fn new(lend: Lend) -> Yard {
@@ -74,8 +79,9 @@ impl Yard {
             lend,
             calls: 0,
             table: Pen::new(65_792),
-            input: Pen::new(65_537),
+            input: Pen::new(32_769),
             outcomes: Pen::new(1_024),
+            message: Pen::new(65_537),
             values: std::array::from_fn(|_| Pen::new(141)),
             written: Pen::new(40_000),
             results: std::array::from_fn(|_| Pen::new(8)),
@@ -90,12 +96,12 @@ impl Yard {
         self.put(table, call);
         let answer = self.call(engine, call);
         table.copy_from_slice(self.table.bytes());
-        if let Some((buffer, place)) = self.stray() {
+        if let Some((buffer, place)) = self.stray(call) {
             let what = format!("a byte at place {place} of the {buffer} was written, outside it");
             *self = Yard::new(self.lend);
             return Err(what);
         }
-        if self.input.bytes() != input_of(call) {
+        if self.input(call).bytes() != input_of(call) {
             return Err("the input was written".into());
         }
         let mut outcomes = self.outcomes.bytes().to_vec();
@@ -111,6 +117,11 @@ impl Yard {
         Ok(Served { answer, outcomes, written: self.written.bytes().to_vec() })
     }
 
+    /// Where the call's input lies: messages are longer than what other calls take, and have a pen of their own.
+    fn input(&self, call: &Call) -> &Pen {
+        if is_read(call) { &self.message } else { &self.input }
+    }
+
     /// Puts what a call is lent into the pens.
     fn put(&mut self, table: &[u8], call: &Call) {
         let place = match self.lend {
@@ -120,7 +131,11 @@ impl Yard {
         };
         self.calls += 1;
         self.table.put(table, place);
-        self.input.put(input_of(call), place);
+        if is_read(call) {
+            self.message.put(input_of(call), place);
+        } else {
+            self.input.put(input_of(call), place);
+        }
         let (outcomes, written) = match call {
             Call::Flow { room, .. } => (noise(*room), 0),
             Call::Write { outcomes, room, .. } => (outcomes.clone(), *room),
@@ -139,7 +154,7 @@ impl Yard {
     fn call(&mut self, engine: &dyn Engine, call: &Call) -> Answer {
         let [first, second, third, fourth] = &mut self.results;
         let lent = self.table.bytes_mut();
-        let given = self.input.bytes();
+        let given = if is_read(call) { self.message.bytes() } else { self.input.bytes() };
         match call {
             Call::Open { .. } => Answer::Open(engine.open(given, lent)),
             Call::Convert { .. } => Answer::Convert(engine.convert(given, lent)),
@@ -184,19 +199,24 @@ impl Yard {
     }
 
     /// The first byte that was written outside what was lent: beside which buffer, and how far from its beginning.
-    fn stray(&self) -> Option<(&'static str, isize)> {
+    fn stray(&self, call: &Call) -> Option<(&'static str, isize)> {
         let [first, second, third, fourth] = &self.results;
+        // Only a call on messages has a buffer to write, and none of these has a table.
+        let written = if is_read(call) || matches!(call, Call::Write { .. }) {
+            ("written buffer", &self.written)
+        } else {
+            ("table", &self.table)
+        };
         let pens = [
-            ("table", &self.table),
-            ("input", &self.input),
+            written,
+            ("input", self.input(call)),
             ("outcome buffer", &self.outcomes),
-            ("written buffer", &self.written),
             ("first result", first),
             ("second result", second),
             ("third result", third),
             ("fourth result", fourth),
         ];
-        let values = GIVEN.into_iter().zip(&self.values);
+        let values = GIVEN.into_iter().zip(&self.values).filter(|_| matches!(call, Call::Write { .. }));
         pens.into_iter().chain(values).find_map(|(buffer, pen)| Some((buffer, pen.stray()?)))
     }
 
