@@ -49,6 +49,18 @@ Of one call, by callgrind, after a first call to warm up.
 
 $(part counts)
 
+## Messages
+
+An outcome message of a flow, half of whose orders are refused where there are more than one; microseconds, and instructions by callgrind. Both write
+the same bytes, which is seen at every call.
+
+- **hondivole**: \`hondivole_message_write\`, \`hondivole_message_read\` and \`hondivole_message_rewrite\`. Writing begins with the flow's bytes: it reads and checks the
+  whole flow, and holds the outcome bytes to it.
+- **libxml2**: \`xmlTextWriter\` into memory, from a struct that is at hand, so without the flow; \`xmlTextReader\` into such a struct, with numbers converted
+  and little checked; and the one after the other. One reader and one buffer serve all calls.
+
+$(cat "$to/messages.md")
+
 ## How it was measured
 
 - The three take turns: a round makes five calls of each in a row and keeps the quickest; the figure is the median of $rounds rounds. Tables are

@@ -4,10 +4,11 @@
  * Hondivole: the order tables of a treasury house's order desk.
  *
  * Six functions open an order table, convert one of the old form, take a body's flow of payment and collection orders, take the bank's
- * notices of execution and reversal, and report a body's totals. Two answer questions about dates. Each answers with a code: 0, or the
- * number of a refusal in the list below. A ninth shows the field that a flow was refused for. Each checks its own inputs: tables, flows,
- * requests, codes and numbers may be any bytes and any values. Each writes all its results on every path. What stands below them, written
- * in C and not proved, says codes in words and lays out a request.
+ * notices of execution and reversal, and report a body's totals. Two answer questions about dates. Three write the outcome message of a
+ * flow for the school, read one, and write again what was read. Each answers with a code: 0, or the number of a refusal in the list below.
+ * A twelfth shows the field that a flow was refused for. Each checks its own inputs: tables, flows, messages, requests, codes and numbers
+ * may be any bytes and any values. Each writes all its results on every path. What stands below them, written in C and not proved, says
+ * codes in words and lays out a request.
  * None reads or writes anything but the buffers and results it is lent, and none keeps anything from one call to the next, so that
  * calls on different tables may be made at the same time.
  *
@@ -38,7 +39,7 @@
 extern "C" {
 #endif
 
-/* The codes: of calls (1 to 10, 16, 17, 20 to 22, 27, 28) and of orders (11 to 19). */
+/* The codes: of calls (1 to 10, 16, 17, 20 to 22, 27, 28, 40, 41) and of orders (11 to 19). */
 enum hondivole_code {
     HONDIVOLE_DONE = 0,                 /* nothing is refused */
     HONDIVOLE_TABLE_NOT_VALID = 1,      /* the table isn't valid */
@@ -64,7 +65,9 @@ enum hondivole_code {
     HONDIVOLE_ALREADY_EXECUTED = 21,    /* execution: the line is already executed */
     HONDIVOLE_NOT_EXECUTED = 22,        /* reversal: the line isn't executed */
     HONDIVOLE_NO_DATE_SERVED = 27,      /* no date, or outside the years 2002 to 2099 */
-    HONDIVOLE_CLOSING_DAY = 28          /* the date is no TARGET day */
+    HONDIVOLE_CLOSING_DAY = 28,         /* the date is no TARGET day */
+    HONDIVOLE_BUFFER_TOO_SHORT = 40,    /* the buffer is shorter than the message or its values */
+    HONDIVOLE_VALUES_WRONG = 41         /* the outcome bytes aren't this flow's, or a caller's value has a wrong form */
 };
 
 /* What is wrong with the field of code 5: the first of these that applies. */
@@ -99,6 +102,14 @@ enum {
 /* The outcome bytes that are enough for any flow: 64 orders of 16 bytes. */
 #define HONDIVOLE_MOST_OUTCOME_BYTES 1024u
 
+/* A message that is written is at most so long; one that is read may have more. */
+#define HONDIVOLE_MOST_WRITTEN_BYTES 35122u
+#define HONDIVOLE_MOST_MESSAGE_BYTES 65536u
+
+/* The bytes of the values of a message of so many entries, and those that are enough for any message. */
+#define HONDIVOLE_VALUES_BYTES(entries) (80u + 48u * (entries))
+#define HONDIVOLE_MOST_VALUES_BYTES 3152u
+
 /*
  * How many bytes of stack a call takes on x86-64, its arguments among them, whatever it is lent: the thread that makes it needs so many
  * beside its own. tests/stack makes each call on a stack of exactly so many bytes.
@@ -109,6 +120,9 @@ enum {
 #define HONDIVOLE_NOTICE_STACK 8192u
 #define HONDIVOLE_TOTALS_STACK 8192u
 #define HONDIVOLE_FIELD_AT_STACK 8192u
+#define HONDIVOLE_MESSAGE_WRITE_STACK 65536u
+#define HONDIVOLE_MESSAGE_READ_STACK 65536u
+#define HONDIVOLE_MESSAGE_REWRITE_STACK 65536u
 
 /*
  * Opens a table. The request is five ABI digits and then 20 bytes per body: the code's length, the code in 16 bytes with zeros after it,
@@ -192,6 +206,44 @@ uint64_t hondivole_totals(const uint8_t *table, size_t table_len, const uint8_t 
 void hondivole_field_at(const uint8_t *flow, size_t flow_len, uint64_t place, uint64_t *name, uint64_t *name_len, uint64_t *text,
                         uint64_t *text_len);
 
+/*
+ * Writes the outcome message ("messaggio di esito applicativo") of a flow and its outcome bytes. The caller gives the time of the message's
+ * creation and the time of outcome, each as YYYY-MM-DDThh:mm:ss and then Z or a sign and hh:mm to 23:59, and seven texts of 1 to 140 bytes,
+ * which are written as given: a text's bytes are UTF-8, with & only as one of the five references. An empty ISTAT code is left out. All
+ * reversali stand before all mandati. It answers 0, *length being the message's, at most HONDIVOLE_MOST_WRITTEN_BYTES; bytes of the buffer
+ * past it stay. Or it answers the first that applies of 2 to 5 for the flow, as hondivole_flow does; 41, when there are under 16 outcome
+ * bytes per order, their kinds, operations, numbers, line counts or totals aren't this flow's, a code is none that an order can get, or a
+ * caller's value has a wrong form; and 40, when the buffer is shorter than the message. *length is then 0, and no byte is changed.
+ */
+uint64_t hondivole_message_write(const uint8_t *flow, size_t flow_len, const uint8_t *outcomes, size_t outcomes_len, const uint8_t *created,
+                                 size_t created_len, const uint8_t *outcome, size_t outcome_len, const uint8_t *codice_ente,
+                                 size_t codice_ente_len, const uint8_t *descrizione_ente, size_t descrizione_ente_len,
+                                 const uint8_t *codice_istat_ente, size_t codice_istat_ente_len, const uint8_t *codice_fiscale_ente,
+                                 size_t codice_fiscale_ente_len, const uint8_t *codice_tramite_ente, size_t codice_tramite_ente_len,
+                                 const uint8_t *codice_tramite_BT, size_t codice_tramite_BT_len, const uint8_t *identificativo_flusso_BT,
+                                 size_t identificativo_flusso_BT_len, uint8_t *message, size_t message_len, uint64_t *length);
+
+/*
+ * Reads an outcome message of at most 65,536 bytes. It answers 0, *entries being how many orders it speaks of (1 to 64), and fills 80 bytes
+ * of values and 48 for each entry; bytes past them stay. Numbers have the highest byte first. The 80 are ten pairs of place and length, four
+ * bytes each, of texts that stand in the message: codice_ABI_BT, the message's time, codice_ente, descrizione_ente, codice_istat_ente (both
+ * 0 where there is none), codice_fiscale_ente, codice_tramite_ente, codice_tramite_BT, codice_ente_BT, identificativo_flusso_BT. Of each 48,
+ * byte 0 is the kind, 1 the operation, 2 the code (0 when accepted), 4-5 esercizio, 8-11 number, 12-15 date (year in two, month, day),
+ * 16-23 total in cents, 24-31 place and length of identificativo_flusso, 32-39 those of the time of outcome, the rest zero. Or it answers
+ * the first that applies of 2 (above 65,536 bytes), 3, 4, 5, as hondivole_flow does, with *place and *cause for 5; and 40, when there is no
+ * room for the values. *entries is then 0, *place and *cause are 0 but for 5, and no byte is changed.
+ */
+uint64_t hondivole_message_read(const uint8_t *message, size_t message_len, uint8_t *values, size_t values_len, uint64_t *entries,
+                                uint64_t *place, uint64_t *cause);
+
+/*
+ * Reads an outcome message and writes its values anew, as hondivole_message_write would: without white space, mark, declaration or elements
+ * that were passed over. Reading what it wrote gives the same values, and what the writer wrote comes out byte for byte. It answers 0,
+ * *length being the new message's; or the first that applies of 2 to 5, as hondivole_message_read does, and 40, when the buffer is shorter
+ * than the new message. *length is then 0, and no byte is changed.
+ */
+uint64_t hondivole_message_rewrite(const uint8_t *message, size_t message_len, uint8_t *again, size_t again_len, uint64_t *length);
+
 /* The version and the kit in one line. */
 static inline const char *hondivole_version(void)
 {
@@ -227,6 +279,8 @@ static inline const char *hondivole_code_text(uint64_t code)
     case HONDIVOLE_NOT_EXECUTED: return "the line isn't executed";
     case HONDIVOLE_NO_DATE_SERVED: return "no date of the years 2002 to 2099";
     case HONDIVOLE_CLOSING_DAY: return "the date is no TARGET day";
+    case HONDIVOLE_BUFFER_TOO_SHORT: return "the buffer is shorter than the message or its values";
+    case HONDIVOLE_VALUES_WRONG: return "the outcome bytes aren't this flow's, or a caller's value has a wrong form";
     default: return "no code of the order desk";
     }
 }

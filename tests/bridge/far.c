@@ -84,13 +84,13 @@ static void exchange(const char *name, size_t out, size_t back)
     }
 }
 
-/* Makes a call over there. `written` is the table where the call may write it; otherwise its length is 0. */
-static struct answer forward(const struct call *call, const uint8_t *table, const uint8_t *input, uint8_t *written, size_t written_len,
-                             uint8_t *outcomes)
+/* Makes a call over there. `written` is the table, `outcomes` are the outcomes, where the call may write them. */
+static struct answer carry(const struct call *call, const uint8_t *const lent[BUFFERS], uint8_t *written, uint8_t *outcomes)
 {
-    const uint8_t *lent[BUFFERS] = {table, input, outcomes};
     const char *name = function_names[call->function];
-    size_t outcomes_len = call->lengths[OUTCOMES], out = sizeof *call;
+    size_t written_len = writes_table(call->function) ? call->lengths[TABLE] : 0;
+    size_t outcomes_len = writes_outcomes(call->function) ? call->lengths[OUTCOMES] : 0;
+    size_t out = sizeof *call;
     struct answer answer;
 
     pthread_mutex_lock(&lock);
@@ -100,7 +100,8 @@ static struct answer forward(const struct call *call, const uint8_t *table, cons
     for (int i = 0; i < BUFFERS; i++) {
         if (call->lengths[i] > LENT_MOST)
             stop(name, "is lent a buffer of more bytes than the bridge carries, LENT_MOST in wire.h");
-        memcpy(message + out, lent[i], call->lengths[i]);
+        if (call->lengths[i] > 0)
+            memcpy(message + out, lent[i], call->lengths[i]);
         out += call->lengths[i];
     }
     exchange(name, out, sizeof answer + written_len + outcomes_len);
@@ -111,23 +112,30 @@ static struct answer forward(const struct call *call, const uint8_t *table, cons
     return answer;
 }
 
+/* Makes a call that has a table, an input and outcomes at most. */
+static struct answer forward(const struct call *call, uint8_t *table, const uint8_t *input, uint8_t *outcomes)
+{
+    const uint8_t *lent[BUFFERS] = {table, input, outcomes};
+    return carry(call, lent, table, outcomes);
+}
+
 uint64_t hondivole_open(const uint8_t *request, size_t request_len, uint8_t *table, size_t table_len)
 {
     struct call call = {.function = OPEN, .lengths = {table_len, request_len, 0}};
-    return forward(&call, table, request, table, table_len, none).code;
+    return forward(&call, table, request, none).code;
 }
 
 uint64_t hondivole_convert(const uint8_t *old, size_t old_len, uint8_t *table, size_t table_len)
 {
     struct call call = {.function = CONVERT, .lengths = {table_len, old_len, 0}};
-    return forward(&call, table, old, table, table_len, none).code;
+    return forward(&call, table, old, none).code;
 }
 
 uint64_t hondivole_flow(uint8_t *table, size_t table_len, const uint8_t *flow, size_t flow_len, uint8_t *outcomes, size_t outcomes_len,
                         uint64_t *place, uint64_t *orders, uint64_t *accepted, uint64_t *cause, uint64_t *steps)
 {
     struct call call = {.function = FLOW, .lengths = {table_len, flow_len, outcomes_len}};
-    struct answer answer = forward(&call, table, flow, table, table_len, outcomes);
+    struct answer answer = forward(&call, table, flow, outcomes);
     *place = answer.results[0];
     *orders = answer.results[1];
     *accepted = answer.results[2];
@@ -142,7 +150,7 @@ uint64_t hondivole_execute(uint8_t *table, size_t table_len, const uint8_t *body
     struct call call = {.function = EXECUTE,
                         .lengths = {table_len, body_len, 0},
                         .numbers = {kind, esercizio, number, line, year, month, day}};
-    struct answer answer = forward(&call, table, body, table, table_len, none);
+    struct answer answer = forward(&call, table, body, none);
     *cents = answer.results[0];
     return answer.code;
 }
@@ -153,7 +161,7 @@ uint64_t hondivole_reverse(uint8_t *table, size_t table_len, const uint8_t *body
     struct call call = {.function = REVERSE,
                         .lengths = {table_len, body_len, 0},
                         .numbers = {kind, esercizio, number, line, year, month, day}};
-    struct answer answer = forward(&call, table, body, table, table_len, none);
+    struct answer answer = forward(&call, table, body, none);
     *cents = answer.results[0];
     return answer.code;
 }
@@ -162,7 +170,8 @@ uint64_t hondivole_totals(const uint8_t *table, size_t table_len, const uint8_t 
                           uint64_t *collected, int64_t *balance)
 {
     struct call call = {.function = TOTALS, .lengths = {table_len, body_len, 0}};
-    struct answer answer = forward(&call, table, body, none, 0, none);
+    const uint8_t *lent[BUFFERS] = {table, body, none};
+    struct answer answer = carry(&call, lent, none, none);
     *used = answer.results[0];
     *paid = answer.results[1];
     *collected = answer.results[2];
@@ -174,7 +183,7 @@ void hondivole_field_at(const uint8_t *flow, size_t flow_len, uint64_t place, ui
                         uint64_t *text_len)
 {
     struct call call = {.function = FIELD_AT, .lengths = {0, flow_len, 0}, .numbers = {place}};
-    struct answer answer = forward(&call, none, flow, none, 0, none);
+    struct answer answer = forward(&call, none, flow, none);
     *name = answer.results[0];
     *name_len = answer.results[1];
     *text = answer.results[2];
@@ -185,7 +194,7 @@ uint64_t hondivole_first_target_day(uint64_t year, uint64_t month, uint64_t day,
                                     uint64_t *first_day)
 {
     struct call call = {.function = FIRST_TARGET_DAY, .numbers = {year, month, day}};
-    struct answer answer = forward(&call, none, none, none, 0, none);
+    struct answer answer = forward(&call, none, none, none);
     *first_year = answer.results[0];
     *first_month = answer.results[1];
     *first_day = answer.results[2];
@@ -196,7 +205,45 @@ uint64_t hondivole_days_between(uint64_t year, uint64_t month, uint64_t day, uin
                                 int64_t *days)
 {
     struct call call = {.function = DAYS_BETWEEN, .numbers = {year, month, day, to_year, to_month, to_day}};
-    struct answer answer = forward(&call, none, none, none, 0, none);
+    struct answer answer = forward(&call, none, none, none);
     *days = (int64_t)answer.results[0];
+    return answer.code;
+}
+
+uint64_t hondivole_message_write(const uint8_t *flow, size_t flow_len, const uint8_t *outcomes, size_t outcomes_len, const uint8_t *created,
+                                 size_t created_len, const uint8_t *outcome, size_t outcome_len, const uint8_t *codice_ente,
+                                 size_t codice_ente_len, const uint8_t *descrizione_ente, size_t descrizione_ente_len,
+                                 const uint8_t *codice_istat_ente, size_t codice_istat_ente_len, const uint8_t *codice_fiscale_ente,
+                                 size_t codice_fiscale_ente_len, const uint8_t *codice_tramite_ente, size_t codice_tramite_ente_len,
+                                 const uint8_t *codice_tramite_BT, size_t codice_tramite_BT_len, const uint8_t *identificativo_flusso_BT,
+                                 size_t identificativo_flusso_BT_len, uint8_t *written, size_t written_len, uint64_t *length)
+{
+    struct call call = {.function = MESSAGE_WRITE,
+                        .lengths = {written_len, flow_len, outcomes_len, created_len, outcome_len, codice_ente_len, descrizione_ente_len,
+                                    codice_istat_ente_len, codice_fiscale_ente_len, codice_tramite_ente_len, codice_tramite_BT_len,
+                                    identificativo_flusso_BT_len}};
+    const uint8_t *lent[BUFFERS] = {written, flow, outcomes, created, outcome, codice_ente, descrizione_ente, codice_istat_ente,
+                                    codice_fiscale_ente, codice_tramite_ente, codice_tramite_BT, identificativo_flusso_BT};
+    struct answer answer = carry(&call, lent, written, none);
+    *length = answer.results[0];
+    return answer.code;
+}
+
+uint64_t hondivole_message_read(const uint8_t *read, size_t read_len, uint8_t *values, size_t values_len, uint64_t *entries, uint64_t *place,
+                                uint64_t *cause)
+{
+    struct call call = {.function = MESSAGE_READ, .lengths = {values_len, read_len, 0}};
+    struct answer answer = forward(&call, values, read, none);
+    *entries = answer.results[0];
+    *place = answer.results[1];
+    *cause = answer.results[2];
+    return answer.code;
+}
+
+uint64_t hondivole_message_rewrite(const uint8_t *read, size_t read_len, uint8_t *again, size_t again_len, uint64_t *length)
+{
+    struct call call = {.function = MESSAGE_REWRITE, .lengths = {again_len, read_len, 0}};
+    struct answer answer = forward(&call, again, read, none);
+    *length = answer.results[0];
     return answer.code;
 }

@@ -46,8 +46,11 @@ struct pen {
 
 static struct pen pens[PENS];
 static uint8_t guards[GUARD_BYTES];
-static const char *const pen_names[PENS] = {"table", "input", "outcomes", "first result", "second result", "third result", "fourth result",
-                                            "fifth result"};
+static const char *const pen_names[PENS] = {
+    "table or message", "input", "outcomes", "first value", "second value", "third value", "fourth value", "fifth value",
+    "sixth value", "seventh value", "eighth value", "ninth value", "first result", "second result", "third result", "fourth result",
+    "fifth result",
+};
 
 static void say(const char *text)
 {
@@ -132,10 +135,21 @@ static void look_over(const struct call *call)
         const struct pen *pen = &pens[i];
         if (memcmp(pen->guards, guards, GUARD_BYTES) != 0)
             stop(name, " wrote beside the ", pen_names[i]);
-        int is_const = i == INPUT || (i == TABLE && call->function == TOTALS);
+        int is_const = i == INPUT || (i == TABLE && !writes_table(call->function)) || (i == OUTCOMES && !writes_outcomes(call->function)) ||
+                       (i >= FIRST_VALUE && i < BUFFERS);
         if (is_const && memcmp(pen->lent, pen->kept, pen->length) != 0)
             stop(name, " wrote the const ", pen_names[i]);
     }
+}
+
+/* Writes a message from what the pens hold. */
+static uint64_t write_message(uint64_t *length)
+{
+    const struct pen *p = pens, *v = pens + FIRST_VALUE;
+    return hondivole_message_write(p[INPUT].lent, p[INPUT].length, p[OUTCOMES].lent, p[OUTCOMES].length, v[0].lent, v[0].length, v[1].lent,
+                                   v[1].length, v[2].lent, v[2].length, v[3].lent, v[3].length, v[4].lent, v[4].length, v[5].lent,
+                                   v[5].length, v[6].lent, v[6].length, v[7].lent, v[7].length, v[8].lent, v[8].length, p[TABLE].lent,
+                                   p[TABLE].length, length);
 }
 
 static uint64_t make(const struct call *call)
@@ -170,6 +184,12 @@ static uint64_t make(const struct call *call)
         return hondivole_first_target_day(n[0], n[1], n[2], results[0], results[1], results[2]);
     case DAYS_BETWEEN:
         return hondivole_days_between(n[0], n[1], n[2], n[3], n[4], n[5], (int64_t *)results[0]);
+    case MESSAGE_WRITE:
+        return write_message(results[0]);
+    case MESSAGE_READ:
+        return hondivole_message_read(input, input_len, table, table_len, results[0], results[1], results[2]);
+    case MESSAGE_REWRITE:
+        return hondivole_message_rewrite(input, input_len, table, table_len, results[0]);
     default:
         stop("a call came of no known function", "", "");
     }
@@ -187,9 +207,10 @@ static void serve(const struct call *call, int at_end)
     for (int i = 0; i < 5; i++)
         answer.results[i] = *(uint64_t *)pens[FIRST_RESULT + i].lent;
     give(&answer, sizeof answer);
-    if (call->function != TOTALS)
+    if (writes_table(call->function))
         give(pens[TABLE].lent, pens[TABLE].length);
-    give(pens[OUTCOMES].lent, pens[OUTCOMES].length);
+    if (writes_outcomes(call->function))
+        give(pens[OUTCOMES].lent, pens[OUTCOMES].length);
 }
 
 int main(void)

@@ -26,7 +26,8 @@ static uint8_t *stack; /* its lowest byte; below it lie pages that may not be to
 static uint8_t table[HONDIVOLE_MOST_TABLE_BYTES], old[HONDIVOLE_MOST_TABLE_BYTES], outcomes[HONDIVOLE_MOST_OUTCOME_BYTES];
 static uint8_t flow[HONDIVOLE_MOST_FLOW_BYTES + 1];
 static size_t flow_len;
-static uint64_t code, results[5];
+static uint8_t message[HONDIVOLE_MOST_MESSAGE_BYTES], again[HONDIVOLE_MOST_MESSAGE_BYTES], values[HONDIVOLE_MOST_VALUES_BYTES];
+static uint64_t code, results[5], message_len;
 static int64_t balance;
 static uint8_t request[HONDIVOLE_REQUEST_BYTES(16)];
 static size_t request_len, table_len, old_len;
@@ -149,6 +150,43 @@ static void call_field_at(void)
     code = results[1] == 0;
 }
 
+
+/* The caller's texts are as long as they may be, and the message has all its entries refused. */
+static void call_message_write(void)
+{
+    static const uint8_t time[] = "2021-03-01T09:30:30+01:00";
+    static uint8_t text[140];
+    size_t time_len = sizeof time - 1, text_len = sizeof text;
+    memset(text, 'x', sizeof text);
+    code = hondivole_message_write(flow, flow_len, outcomes, sizeof outcomes, time, time_len, time, time_len, text, text_len, text, text_len,
+                                   text, text_len, text, text_len, text, text_len, text, text_len, text, text_len, message, sizeof message,
+                                   &message_len);
+}
+static void call_message_read(void)
+{
+    code = hondivole_message_read(message, message_len, values, sizeof values, &results[0], &results[1], &results[2]);
+}
+static void call_message_rewrite(void)
+{
+    code = hondivole_message_rewrite(message, message_len, again, sizeof again, &results[0]);
+}
+
+/* The message brought to the greatest length, and in it elements that are passed over down to the greatest depth. */
+static void long_message(void)
+{
+    static const char root[] = "<messaggi_esito_applicativo>";
+    size_t at = sizeof root - 1, deep_len;
+    flow_len = 0;
+    deep();
+    deep_len = flow_len;
+    for (size_t i = message_len; i > at; i--)
+        message[i - 1 + deep_len] = message[i - 1];
+    memcpy(message + at, flow, deep_len);
+    message_len += deep_len;
+    while (message_len < HONDIVOLE_MOST_MESSAGE_BYTES)
+        message[message_len++] = ' ';
+}
+
 /* The table of two bodies as a table 1: entries of 32 bytes, the places that go with them, and the number 1. */
 static void make_old(void)
 {
@@ -229,6 +267,14 @@ int main(void)
     hold("flow, 64 orders", call_flow, 0, HONDIVOLE_FLOW_STACK);
     hold("flow, the same again", call_flow, 0, HONDIVOLE_FLOW_STACK);
     hold("field_at", call_field_at, 0, HONDIVOLE_FIELD_AT_STACK);
+    hold("message_write, 64 entries", call_message_write, 0, HONDIVOLE_MESSAGE_WRITE_STACK);
+    hold("message_read, 64 entries", call_message_read, 0, HONDIVOLE_MESSAGE_READ_STACK);
+    hold("message_rewrite, 64 entries", call_message_rewrite, 0, HONDIVOLE_MESSAGE_REWRITE_STACK);
+    long_message();
+    hold("message_read, 65,536 bytes", call_message_read, 0, HONDIVOLE_MESSAGE_READ_STACK);
+    hold("message_rewrite, 65,536 bytes", call_message_rewrite, 0, HONDIVOLE_MESSAGE_REWRITE_STACK);
+    message[message_len - 1] = '<';
+    hold("message_read, its last byte breaks", call_message_read, 3, HONDIVOLE_MESSAGE_READ_STACK);
     hold("execute", call_execute, 0, HONDIVOLE_NOTICE_STACK);
     hold("reverse", call_reverse, 0, HONDIVOLE_NOTICE_STACK);
     hold("totals", call_totals, 0, HONDIVOLE_TOTALS_STACK);

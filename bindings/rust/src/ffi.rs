@@ -1,4 +1,4 @@
-//! The nine C functions as `include/hondivole.h` declares them.
+//! The twelve C functions as `include/hondivole.h` declares them.
 //!
 //! All but [`hondivole_field_at`] answer with a code (0, or the number of a [`Refusal`](crate::Refusal)); each writes all its results on every path.
 //!
@@ -142,4 +142,67 @@ unsafe extern "C" {
     /// `days` is good for one number, which can be written.
     pub fn hondivole_days_between(year: u64, month: u64, day: u64, to_year: u64, to_month: u64, to_day: u64, days: *mut i64)
     -> u64;
+
+    /// Writes the outcome message of a flow: see [`write_message`](crate::write_message).
+    ///
+    /// # Safety
+    ///
+    /// Each pointer is good for the length that follows it, the last for one number; `message` and `length` can be written, and neither
+    /// overlaps with anything else.
+    pub fn hondivole_message_write(
+        flow: *const u8,
+        flow_len: usize,
+        outcomes: *const u8,
+        outcomes_len: usize,
+        created: *const u8,
+        created_len: usize,
+        outcome: *const u8,
+        outcome_len: usize,
+        codice_ente: *const u8,
+        codice_ente_len: usize,
+        descrizione_ente: *const u8,
+        descrizione_ente_len: usize,
+        codice_istat_ente: *const u8,
+        codice_istat_ente_len: usize,
+        codice_fiscale_ente: *const u8,
+        codice_fiscale_ente_len: usize,
+        codice_tramite_ente: *const u8,
+        codice_tramite_ente_len: usize,
+        codice_tramite_bt: *const u8,
+        codice_tramite_bt_len: usize,
+        identificativo_flusso_bt: *const u8,
+        identificativo_flusso_bt_len: usize,
+        message: *mut u8,
+        message_len: usize,
+        length: *mut u64,
+    ) -> u64;
+
+    /// Reads an outcome message: see [`read_message`](crate::read_message).
+    ///
+    /// # Safety
+    ///
+    /// Each pointer is good for its length, the last three for one number each; `values` and the numbers can be written, and no two of all
+    /// these overlap.
+    pub fn hondivole_message_read(
+        message: *const u8,
+        message_len: usize,
+        values: *mut u8,
+        values_len: usize,
+        entries: *mut u64,
+        place: *mut u64,
+        cause: *mut u64,
+    ) -> u64;
+
+    /// Reads an outcome message and writes it again: see [`rewrite_message`](crate::rewrite_message).
+    ///
+    /// # Safety
+    ///
+    /// Each pointer is good for its length, the last for one number; `again` and `length` can be written, and no two of them overlap.
+    pub fn hondivole_message_rewrite(
+        message: *const u8,
+        message_len: usize,
+        again: *mut u8,
+        again_len: usize,
+        length: *mut u64,
+    ) -> u64;
 }

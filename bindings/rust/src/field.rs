@@ -80,15 +80,32 @@ impl Refusal {
     /// # Ok::<(), Refusal>(())
     /// ```
     pub fn of_flow<'f>(&self, flow: &'f [u8]) -> InWords<'f> {
-        InWords { refusal: *self, field: self.field(flow) }
+        InWords { refusal: *self, field: self.field(flow), message: false }
+    }
+
+    /// The refusal of a message that was to be read or written again, in words.
+    ///
+    /// ```
+    /// use hondivole::{Refusal, read_message};
+    ///
+    /// let message = include_str!("message.xml").replace(">13<", ">20<");
+    /// let refusal = read_message(message.as_bytes(), &mut []).unwrap_err();
+    /// let place = message.find("<codice_errore>").unwrap();
+    /// let words = refusal.of_message(message.as_bytes()).to_string();
+    /// assert_eq!(words, format!("codice_errore \"20\" at byte {place} breaks: right form but a value outside its range"));
+    /// assert_eq!(Refusal::FlowTooLong.of_message(b"").to_string(), "the message is longer than 65,536 bytes");
+    /// ```
+    pub fn of_message<'f>(&self, message: &'f [u8]) -> InWords<'f> {
+        InWords { refusal: *self, field: self.field(message), message: true }
     }
 }
 
-/// A flow's refusal, told with the field that it names: see [`Refusal::of_flow`].
+/// A refusal of a flow or a message, told with the field that it names: see [`Refusal::of_flow`] and [`Refusal::of_message`].
 #[derive(Clone, Copy, Debug, PartialEq, Eq)]
 pub struct InWords<'f> {
     refusal: Refusal,
     field: Option<Field<'f>>,
+    message: bool,
 }
 
 impl fmt::Display for InWords<'_> {
@@ -97,6 +114,9 @@ impl fmt::Display for InWords<'_> {
             (Refusal::FieldBreaks { place, cause }, Some(Field { name, text })) => {
                 write!(to, "{name} {text:?} at byte {place} breaks: {cause}")
             }
+            (Refusal::FlowTooLong, _) if self.message => to.write_str("the message is longer than 65,536 bytes"),
+            (Refusal::MarkupBreaks, _) if self.message => to.write_str("the message's markup breaks"),
+            (Refusal::StructureBreaks, _) if self.message => to.write_str("the message's structure breaks"),
             (refusal, _) => refusal.fmt(to),
         }
     }

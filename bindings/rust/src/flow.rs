@@ -18,6 +18,13 @@ pub enum Kind {
     Reversale = 2,
 }
 
+impl Kind {
+    /// The kind that has this number; `None` where none has it.
+    pub(crate) fn of_number(number: u8) -> Option<Kind> {
+        [Kind::Mandato, Kind::Reversale].into_iter().find(|kind| *kind as u8 == number)
+    }
+}
+
 /// What an order asks for.
 ///
 /// ```
@@ -36,6 +43,14 @@ pub enum Operation {
     Annullo = 3,
     /// An order put in place of another; always refused.
     Sostituzione = 4,
+}
+
+impl Operation {
+    /// The operation that has this number; `None` where none has it.
+    pub(crate) fn of_number(number: u8) -> Option<Operation> {
+        let all = [Operation::Inserimento, Operation::Variazione, Operation::Annullo, Operation::Sostituzione];
+        all.into_iter().find(|operation| *operation as u8 == number)
+    }
 }
 
 /// What became of one order of a flow: its 16 outcome bytes, read.
@@ -73,18 +88,8 @@ impl OrderOutcome {
 
     /// Reads an outcome from its bytes; `None` when no order could have got them.
     pub fn from_bytes(bytes: &[u8; 16]) -> Option<OrderOutcome> {
-        let kind = match bytes[0] {
-            1 => Kind::Mandato,
-            2 => Kind::Reversale,
-            _ => return None,
-        };
-        let operation = match bytes[1] {
-            1 => Operation::Inserimento,
-            2 => Operation::Variazione,
-            3 => Operation::Annullo,
-            4 => Operation::Sostituzione,
-            _ => return None,
-        };
+        let kind = Kind::of_number(bytes[0])?;
+        let operation = Operation::of_number(bytes[1])?;
         if !matches!(bytes[2], 0 | 11..=19) || !matches!(bytes[3], 1..=8) {
             return None;
         }

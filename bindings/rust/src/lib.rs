@@ -3,7 +3,7 @@
 //! A bank's order desk keeps one [`Table`] for the bodies it serves. A body sends flows of payment and collection orders
 //! ([`Table::flow`]); each order is accepted or refused. The bank notifies executions and reversals of lines ([`Table::execute`],
 //! [`Table::reverse`]), and a body's [`Totals`] can be asked for at any time ([`Table::totals`]). Whatever is refused comes back as a
-//! [`Refusal`].
+//! [`Refusal`]. What became of a flow's orders is told to the body in an outcome message ([`write_message`], [`read_message`]).
 //!
 //! ```
 //! use hondivole::{Date, Kind, Notice, Refusal, Table};
@@ -39,12 +39,16 @@ mod date;
 pub mod ffi;
 mod field;
 mod flow;
+mod message;
 mod refusal;
 mod table;
 
 pub use date::Date;
 pub use field::{Field, InWords, field_at};
 pub use flow::{FlowAnswer, Kind, Operation, OrderOutcome};
+pub use message::{
+    Entry, Given, MOST_VALUES_BYTES, MOST_WRITTEN_BYTES, Message, MessageValues, read_message, rewrite_message, write_message,
+};
 pub use refusal::{Cause, Refusal};
 pub use table::{Notice, Table, Totals, request};
 

@@ -3,6 +3,8 @@
 use std::error::Error;
 use std::fmt;
 
+use crate::Given;
+
 /// What is wrong with a field that breaks: the first of these that applies.
 ///
 /// ```
@@ -128,6 +130,14 @@ pub enum Refusal {
     NoDateServed,
     /// 28: the date is no TARGET day.
     ClosingDay,
+    /// 40: the buffer is shorter than the message or its values.
+    BufferTooShort,
+    /// 41: a message can't be written from what the caller gives.
+    ValuesWrong {
+        /// What is wrong, where the one who made the call knows: the library answers the code alone, and
+        /// [`write_message`](crate::write_message) looks for it.
+        given: Option<Given>,
+    },
 }
 
 impl Refusal {
@@ -165,6 +175,8 @@ impl Refusal {
             Refusal::NotExecuted => 22,
             Refusal::NoDateServed => 27,
             Refusal::ClosingDay => 28,
+            Refusal::BufferTooShort => 40,
+            Refusal::ValuesWrong { .. } => 41,
         }
     }
 
@@ -211,6 +223,8 @@ impl Refusal {
             22 => Refusal::NotExecuted,
             27 => Refusal::NoDateServed,
             28 => Refusal::ClosingDay,
+            40 => Refusal::BufferTooShort,
+            41 => Refusal::ValuesWrong { given: None },
             _ => return None,
         };
         Some(Err(refusal))
@@ -251,6 +265,9 @@ impl fmt::Display for Refusal {
             Refusal::NotExecuted => "the line isn't executed",
             Refusal::NoDateServed => "no date of the years 2002 to 2099",
             Refusal::ClosingDay => "the date is no TARGET day",
+            Refusal::BufferTooShort => "the buffer is shorter than the message or its values",
+            Refusal::ValuesWrong { given: None } => "the outcome bytes aren't this flow's, or a caller's value has a wrong form",
+            Refusal::ValuesWrong { given: Some(given) } => return given.fmt(to),
         })
     }
 }
@@ -267,7 +284,7 @@ mod tests {
         assert_eq!(Refusal::of_code(23, 0, 0), None);
         assert_eq!(Refusal::of_code(5, 7, 5), None);
         let mut sentences = std::collections::HashSet::new();
-        for code in (1..=22).chain(27..=28) {
+        for code in (1..=22).chain(27..=28).chain(40..=41) {
             let refusal = Refusal::of_code(code, 7, 1).unwrap().unwrap_err();
             assert_eq!(u64::from(refusal.code()), code);
             assert!(sentences.insert(refusal.to_string()));
@@ -277,7 +294,7 @@ mod tests {
     #[test]
     fn the_header_says_the_same() {
         let header = include_str!("../../../include/hondivole.h");
-        for code in (1..=22).chain(27..=28).filter(|code| *code != 5) {
+        for code in (1..=22).chain(27..=28).chain(40..=41).filter(|code| *code != 5) {
             let sentence = Refusal::from_code(code, 0, 0).unwrap().to_string();
             assert!(header.contains(&format!("return \"{sentence}\";")), "{sentence}");
         }

@@ -2,6 +2,7 @@
 
 use std::fmt::{self, Write};
 
+use reference::message::{GIVEN, ReadAnswer, WriteAnswer};
 use reference::table::{HEAD, SLOT, number_at};
 use reference::{FlowAnswer, Form, Notice, NoticeAnswer, Totals};
 
@@ -13,6 +14,9 @@ pub struct Case {
     /// The calls.
     pub calls: Vec<Call>,
 }
+
+/// The caller's nine values for a message, in the order of the C function.
+pub type Values = [Vec<u8>; 9];
 
 /// One call.
 #[derive(Clone, PartialEq, Eq)]
@@ -57,6 +61,31 @@ pub enum Call {
         /// The body's code.
         body: Vec<u8>,
     },
+    /// Writes a message into a buffer of `room` bytes.
+    Write {
+        /// The flow.
+        flow: Vec<u8>,
+        /// Its outcome bytes.
+        outcomes: Vec<u8>,
+        /// What the caller gives.
+        values: Values,
+        /// The length of the buffer.
+        room: usize,
+    },
+    /// Reads a message into values of `room` bytes.
+    Read {
+        /// The message.
+        message: Vec<u8>,
+        /// The length of the values.
+        room: usize,
+    },
+    /// Reads a message and writes it again into a buffer of `room` bytes.
+    Rewrite {
+        /// The message.
+        message: Vec<u8>,
+        /// The length of the buffer.
+        room: usize,
+    },
 }
 
 /// What a call answers.
@@ -72,6 +101,10 @@ pub enum Answer {
     Notice(NoticeAnswer),
     /// The answer to a totals call.
     Totals(Totals),
+    /// The answer to writing a message, or to writing it again.
+    Write(WriteAnswer),
+    /// The answer to reading a message.
+    Read(ReadAnswer),
 }
 
 impl Answer {
@@ -82,6 +115,8 @@ impl Answer {
             Answer::Flow(answer) => answer.code,
             Answer::Notice(answer) => answer.code,
             Answer::Totals(answer) => answer.code,
+            Answer::Write(answer) => answer.code,
+            Answer::Read(answer) => answer.code,
         }
     }
 }
@@ -99,6 +134,10 @@ impl Case {
                 16 + body.len() + numbers.map(digits).iter().sum::<usize>()
             }
             Call::Totals { body } => 16 + body.len(),
+            Call::Write { flow, outcomes, values, room } => {
+                16 + flow.len() + outcomes.len() + values.iter().map(Vec::len).sum::<usize>() + digits(*room as u64)
+            }
+            Call::Read { message, room } | Call::Rewrite { message, room } => 16 + message.len() + digits(*room as u64),
         });
         self.table.len() + calls.sum::<usize>()
     }
@@ -158,6 +197,13 @@ impl fmt::Debug for Call {
             Call::Execute { body, notice } => write!(to, "Call::Execute {{ body: {}, notice: {notice:?} }}", literal(body)),
             Call::Reverse { body, notice } => write!(to, "Call::Reverse {{ body: {}, notice: {notice:?} }}", literal(body)),
             Call::Totals { body } => write!(to, "Call::Totals {{ body: {} }}", literal(body)),
+            Call::Write { flow, outcomes, values, room } => {
+                let values = values.iter().map(|value| literal(value)).collect::<Vec<_>>().join(", ");
+                let (flow, outcomes) = (literal(flow), literal(outcomes));
+                write!(to, "Call::Write {{ flow: {flow}, outcomes: {outcomes}, values: [{values}], room: {room} }}")
+            }
+            Call::Read { message, room } => write!(to, "Call::Read {{ message: {}, room: {room} }}", literal(message)),
+            Call::Rewrite { message, room } => write!(to, "Call::Rewrite {{ message: {}, room: {room} }}", literal(message)),
         }
     }
 }
@@ -189,6 +235,19 @@ impl fmt::Display for Call {
             Call::Execute { body, notice: named } => notice(to, "execute", body, named),
             Call::Reverse { body, notice: named } => notice(to, "reverse", body, named),
             Call::Totals { body } => write!(to, "totals body {}", quoted(body)),
+            Call::Write { flow, outcomes, values, room } => {
+                write!(to, "write a message into {room} bytes, outcomes {outcomes:?}")?;
+                for (name, value) in GIVEN.iter().zip(values) {
+                    write!(to, ", {name} {}", quoted(value))?;
+                }
+                write!(to, ", flow of {} bytes:\n{}", flow.len(), text(flow))
+            }
+            Call::Read { message, room } => {
+                write!(to, "read a message of {} bytes, room {room}:\n{}", message.len(), text(message))
+            }
+            Call::Rewrite { message, room } => {
+                write!(to, "write again a message of {} bytes, room {room}:\n{}", message.len(), text(message))
+            }
         }
     }
 }

@@ -5,7 +5,7 @@ use reference::{Form, Kind, Notice, Table};
 use crate::case::{Call, Case};
 use crate::flows::{self, Size};
 use crate::random::Random;
-use crate::tables;
+use crate::{messages, tables};
 
 /// What a case is about.
 #[derive(Clone, Copy, Debug, PartialEq, Eq)]
@@ -24,12 +24,14 @@ pub enum Theme {
     Conversion,
     /// A fresh table and a long row of calls for all its bodies.
     Sequence,
+    /// Messages written, read and written again.
+    Messages,
     /// Everything changed in many places, or random bytes.
     Fuzz,
 }
 
 /// The themes of an ordinary run, each with its share.
-const SHARES: [(Theme, usize); 7] = [
+const SHARES: [(Theme, usize); 8] = [
     (Theme::WholeFlow, 16),
     (Theme::DamagedFlow, 42),
     (Theme::DamagedTable, 20),
@@ -37,6 +39,7 @@ const SHARES: [(Theme, usize); 7] = [
     (Theme::Opening, 12),
     (Theme::Conversion, 6),
     (Theme::Sequence, 4),
+    (Theme::Messages, 24),
 ];
 
 /// The theme of an ordinary case.
@@ -89,6 +92,7 @@ pub fn case(random: &mut Random, theme: Theme) -> Case {
             Case { table: Vec::new(), calls }
         }
         Theme::Sequence => sequence(random),
+        Theme::Messages => messages::case(random),
         Theme::Fuzz => fuzz(random),
     }
 }
@@ -117,7 +121,7 @@ pub fn sequence(random: &mut Random) -> Case {
             Call::Reverse { body, notice } => {
                 reference::reverse(&mut table, body, notice);
             }
-            Call::Open { .. } | Call::Convert { .. } | Call::Totals { .. } => {}
+            _ => {}
         }
         calls.push(call);
     }
@@ -243,6 +247,8 @@ fn fuzz(random: &mut Random) -> Case {
             Call::Totals { body },
             Call::Open { request, room: table.len() },
             Call::Convert { old: table.clone(), room: table.len() + 16 },
+            Call::Read { message: table.clone(), room: 3_152 },
+            Call::Rewrite { message: table.clone(), room: 100 },
         ];
         return Case { table, calls };
     }
@@ -265,6 +271,12 @@ fn fuzz(random: &mut Random) -> Case {
             Call::Open { request, .. } => (request, 4),
             Call::Convert { old, .. } => (old, 4),
             Call::Execute { body, .. } | Call::Reverse { body, .. } | Call::Totals { body } => (body, 2),
+            Call::Write { flow, outcomes, values, .. } => match random.below(4) {
+                0 | 1 => (flow, 6),
+                2 => (outcomes, 4),
+                _ => (random.pick_mut(values), 4),
+            },
+            Call::Read { message, .. } | Call::Rewrite { message, .. } => (message, 16),
         };
         if random.percent(70) {
             for _ in 0..1 + random.below(most) {

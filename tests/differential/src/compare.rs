@@ -1,5 +1,6 @@
 //! Two engines on one case: every answer, every outcome byte, every table byte, and every byte around the buffers.
 
+use reference::message::{GIVEN, Given, ReadAnswer, WriteAnswer};
 use reference::{FlowAnswer, NoticeAnswer, Totals};
 
 use crate::case::{Answer, Call, Case};
@@ -31,6 +32,9 @@ pub struct Yard {
     table: Pen,
     input: Pen,
     outcomes: Pen,
+    message: Pen,
+    values: [Pen; 9],
+    written: Pen,
     results: [Pen; 5],
 }
 
@@ -50,22 +54,38 @@ pub struct Served {
     pub answer: Answer,
     /// The outcome buffer after a flow; empty for other calls.
     pub outcomes: Vec<u8>,
+    /// The lent buffer after a call on a message: the message or the values; empty for other calls.
+    pub written: Vec<u8>,
 }
 
 fn input_of(call: &Call) -> &[u8] {
     match call {
         Call::Open { request, .. } => request,
         Call::Convert { old, .. } => old,
-        Call::Flow { flow, .. } => flow,
+        Call::Flow { flow, .. } | Call::Write { flow, .. } => flow,
         Call::Execute { body, .. } | Call::Reverse { body, .. } | Call::Totals { body } => body,
+        Call::Read { message, .. } | Call::Rewrite { message, .. } => message,
     }
+}
+
+fn is_read(call: &Call) -> bool {
+    matches!(call, Call::Read { .. } | Call::Rewrite { .. })
 }
 
 impl Yard {
     /// A yard that lends in this way.
     pub fn new(lend: Lend) -> Yard {
-        let results = std::array::from_fn(|_| Pen::new(8));
-        Yard { lend, calls: 0, table: Pen::new(65_792), input: Pen::new(32_769), outcomes: Pen::new(1_024), results }
+        Yard {
+            lend,
+            calls: 0,
+            table: Pen::new(65_792),
+            input: Pen::new(32_769),
+            outcomes: Pen::new(1_024),
+            message: Pen::new(65_537),
+            values: std::array::from_fn(|_| Pen::new(141)),
+            written: Pen::new(40_000),
+            results: std::array::from_fn(|_| Pen::new(8)),
+        }
     }
 
     /// Makes one call on an engine with guards around each buffer and result. `Err` says which byte outside them was written.
@@ -76,15 +96,30 @@ impl Yard {
         self.put(table, call);
         let answer = self.call(engine, call);
         table.copy_from_slice(self.table.bytes());
-        if let Some((buffer, place)) = self.stray() {
+        if let Some((buffer, place)) = self.stray(call) {
             let what = format!("a byte at place {place} of the {buffer} was written, outside it");
             *self = Yard::new(self.lend);
             return Err(what);
         }
-        if self.input.bytes() != input_of(call) {
+        if self.input(call).bytes() != input_of(call) {
             return Err("the input was written".into());
         }
-        Ok(Served { answer, outcomes: self.outcomes.bytes().to_vec() })
+        let mut outcomes = self.outcomes.bytes().to_vec();
+        if let Call::Write { outcomes: given, values, .. } = call {
+            if outcomes != *given {
+                return Err("the outcome bytes were written".into());
+            }
+            if let Some(place) = self.values.iter().zip(values).position(|(pen, value)| pen.bytes() != value) {
+                return Err(format!("the caller's {} was written", GIVEN[place]));
+            }
+            outcomes.clear();
+        }
+        Ok(Served { answer, outcomes, written: self.written.bytes().to_vec() })
+    }
+
+    /// Where the call's input lies: messages are longer than what other calls take, and have a pen of their own.
+    fn input(&self, call: &Call) -> &Pen {
+        if is_read(call) { &self.message } else { &self.input }
     }
 
     /// Puts what a call is lent into the pens.
@@ -96,9 +131,22 @@ impl Yard {
         };
         self.calls += 1;
         self.table.put(table, place);
-        self.input.put(input_of(call), place);
-        let room = if let Call::Flow { room, .. } = call { *room } else { 0 };
-        self.outcomes.put(&noise(room), place);
+        if is_read(call) {
+            self.message.put(input_of(call), place);
+        } else {
+            self.input.put(input_of(call), place);
+        }
+        let (outcomes, written) = match call {
+            Call::Flow { room, .. } => (noise(*room), 0),
+            Call::Write { outcomes, room, .. } => (outcomes.clone(), *room),
+            Call::Read { room, .. } | Call::Rewrite { room, .. } => (Vec::new(), *room),
+            _ => (Vec::new(), 0),
+        };
+        self.outcomes.put(&outcomes, place);
+        self.written.put(&noise(written), place);
+        if let Call::Write { values, .. } = call {
+            self.values.iter_mut().zip(values).for_each(|(pen, value)| pen.put(value, place));
+        }
         self.results.iter_mut().for_each(|result| result.put_number(CANARY, place));
     }
 
@@ -106,7 +154,7 @@ impl Yard {
     fn call(&mut self, engine: &dyn Engine, call: &Call) -> Answer {
         let [first, second, third, fourth, fifth] = &mut self.results;
         let lent = self.table.bytes_mut();
-        let given = self.input.bytes();
+        let given = if is_read(call) { self.message.bytes() } else { self.input.bytes() };
         match call {
             Call::Open { .. } => Answer::Open(engine.open(given, lent)),
             Call::Convert { .. } => Answer::Convert(engine.convert(given, lent)),
@@ -132,15 +180,37 @@ impl Yard {
                 let (used, paid, collected) = (first.number(), second.number(), third.number());
                 Answer::Totals(Totals { code, used, paid, collected, balance: fourth.number() as i64 })
             }
+            Call::Write { .. } => {
+                let values: Given = std::array::from_fn(|place| self.values[place].bytes());
+                let (outcomes, written) = (self.outcomes.bytes(), self.written.bytes_mut());
+                let code = engine.message_write(given, outcomes, &values, written, first.number_mut());
+                Answer::Write(WriteAnswer { code, length: first.number() })
+            }
+            Call::Read { .. } => {
+                let (entries, place, cause) = (first.number_mut(), second.number_mut(), third.number_mut());
+                let code = engine.message_read(given, self.written.bytes_mut(), entries, place, cause);
+                let (entries, place, cause) = (first.number(), second.number(), third.number());
+                Answer::Read(ReadAnswer { code, entries, place, cause })
+            }
+            Call::Rewrite { .. } => {
+                let code = engine.message_rewrite(given, self.written.bytes_mut(), first.number_mut());
+                Answer::Write(WriteAnswer { code, length: first.number() })
+            }
         }
     }
 
     /// The first byte that was written outside what was lent: beside which buffer, and how far from its beginning.
-    fn stray(&self) -> Option<(&'static str, isize)> {
+    fn stray(&self, call: &Call) -> Option<(&'static str, isize)> {
         let [first, second, third, fourth, fifth] = &self.results;
+        // Only a call on messages has a buffer to write, and none of these has a table.
+        let written = if is_read(call) || matches!(call, Call::Write { .. }) {
+            ("written buffer", &self.written)
+        } else {
+            ("table", &self.table)
+        };
         let pens = [
-            ("table", &self.table),
-            ("input", &self.input),
+            written,
+            ("input", self.input(call)),
             ("outcome buffer", &self.outcomes),
             ("first result", first),
             ("second result", second),
@@ -148,7 +218,8 @@ impl Yard {
             ("fourth result", fourth),
             ("fifth result", fifth),
         ];
-        pens.into_iter().find_map(|(buffer, pen)| Some((buffer, pen.stray()?)))
+        let values = GIVEN.into_iter().zip(&self.values).filter(|_| matches!(call, Call::Write { .. }));
+        pens.into_iter().chain(values).find_map(|(buffer, pen)| Some((buffer, pen.stray()?)))
     }
 
     /// Makes the case's calls on both engines; the first difference. A call on bytes that are no table, or that answers anything at all,
@@ -176,6 +247,9 @@ impl Yard {
                 ));
             }
             if let Some(what) = different_byte("outcome", &wanted.outcomes, &got.outcomes, expected, tried) {
+                return difference(what);
+            }
+            if let Some(what) = different_byte("written", &wanted.written, &got.written, expected, tried) {
                 return difference(what);
             }
             if let Some(what) = different_byte("table", &right, &left, expected, tried) {

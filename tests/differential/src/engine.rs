@@ -1,8 +1,9 @@
-//! What is compared: the six functions, as the C header has them.
+//! What is compared: the functions on tables and messages, as the C header has them.
 
-use reference::Notice;
+use reference::message::Given;
+use reference::{Notice, message};
 
-/// The six functions of `include/hondivole.h`, with slices for pointers and lengths. Each answers with document 01's code and writes
+/// Functions of `include/hondivole.h`, with slices for pointers and lengths. Each answers with document 01's code and writes
 /// all its results on every path.
 pub trait Engine {
     /// What the engine is, in a few words.
@@ -35,6 +36,27 @@ pub trait Engine {
 
     /// Reports a body's totals.
     fn totals(&self, table: &[u8], body: &[u8], used: &mut u64, paid: &mut u64, collected: &mut u64, balance: &mut i64) -> u64;
+
+    /// Writes a message. An engine that has no messages of its own answers as the reference does, here and in the two below.
+    fn message_write(&self, flow: &[u8], outcomes: &[u8], given: &Given, message: &mut [u8], length: &mut u64) -> u64 {
+        let answer = message::write(flow, outcomes, given, message);
+        *length = answer.length;
+        answer.code
+    }
+
+    /// Reads a message.
+    fn message_read(&self, message: &[u8], values: &mut [u8], entries: &mut u64, place: &mut u64, cause: &mut u64) -> u64 {
+        let answer = message::read(message, values);
+        (*entries, *place, *cause) = (answer.entries, answer.place, answer.cause);
+        answer.code
+    }
+
+    /// Reads a message and writes it again.
+    fn message_rewrite(&self, message: &[u8], again: &mut [u8], length: &mut u64) -> u64 {
+        let answer = message::rewrite(message, again);
+        *length = answer.length;
+        answer.code
+    }
 }
 
 /// The reference as an engine.
@@ -182,6 +204,62 @@ impl Engine for Library {
         // SAFETY: the pointers and lengths are those of slices and numbers that don't overlap.
         unsafe {
             hondivole::ffi::hondivole_totals(table.as_ptr(), table.len(), body.as_ptr(), body.len(), used, paid, collected, balance)
+        }
+    }
+
+    fn message_write(&self, flow: &[u8], outcomes: &[u8], given: &Given, message: &mut [u8], length: &mut u64) -> u64 {
+        let [created, outcome, ente, descrizione, istat, fiscale, tramite_ente, tramite_bt, flusso_bt] = *given;
+        // SAFETY: the pointers and lengths are those of slices and of a number that don't overlap.
+        unsafe {
+            hondivole::ffi::hondivole_message_write(
+                flow.as_ptr(),
+                flow.len(),
+                outcomes.as_ptr(),
+                outcomes.len(),
+                created.as_ptr(),
+                created.len(),
+                outcome.as_ptr(),
+                outcome.len(),
+                ente.as_ptr(),
+                ente.len(),
+                descrizione.as_ptr(),
+                descrizione.len(),
+                istat.as_ptr(),
+                istat.len(),
+                fiscale.as_ptr(),
+                fiscale.len(),
+                tramite_ente.as_ptr(),
+                tramite_ente.len(),
+                tramite_bt.as_ptr(),
+                tramite_bt.len(),
+                flusso_bt.as_ptr(),
+                flusso_bt.len(),
+                message.as_mut_ptr(),
+                message.len(),
+                length,
+            )
+        }
+    }
+
+    fn message_read(&self, message: &[u8], values: &mut [u8], entries: &mut u64, place: &mut u64, cause: &mut u64) -> u64 {
+        // SAFETY: the pointers and lengths are those of slices and numbers that don't overlap.
+        unsafe {
+            hondivole::ffi::hondivole_message_read(
+                message.as_ptr(),
+                message.len(),
+                values.as_mut_ptr(),
+                values.len(),
+                entries,
+                place,
+                cause,
+            )
+        }
+    }
+
+    fn message_rewrite(&self, message: &[u8], again: &mut [u8], length: &mut u64) -> u64 {
+        // SAFETY: the pointers and lengths are those of slices and of a number that don't overlap.
+        unsafe {
+            hondivole::ffi::hondivole_message_rewrite(message.as_ptr(), message.len(), again.as_mut_ptr(), again.len(), length)
         }
     }
 }

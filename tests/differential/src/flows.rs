@@ -7,12 +7,12 @@ use crate::random::Random;
 /// An element that is going to be written.
 #[derive(Clone, Debug)]
 pub struct Node {
-    name: Vec<u8>,
-    inside: Inside,
+    pub(crate) name: Vec<u8>,
+    pub(crate) inside: Inside,
 }
 
 #[derive(Clone, Debug)]
-enum Inside {
+pub(crate) enum Inside {
     Text(Vec<u8>),
     Nodes(Vec<Node>),
 }
@@ -44,7 +44,7 @@ const TOO_LONG: &str = "identificativo_flusso_di_un_nome_di_49_byte_esatt";
 
 /// Bytes at the edges of UTF-8 and of the characters that XML 1.0 allows, for text.
 #[rustfmt::skip]
-const TEXT_EDGES: [&[u8]; 64] = [
+pub(crate) const TEXT_EDGES: [&[u8]; 64] = [
     b"\x00", b"\x01", b"\x08", b"\x09", b"\x0A", b"\x0B", b"\x0C", b"\x0D", b"\x0E", b"\x1F", b"\x20", b"\x7E", b"\x7F", b"\x80",
     b"\xBF", b"\xC0\x80", b"\xC1\xBF", b"\xC2", b"\xC2\x80", b"\xC2\x7F", b"\xC2\xC0", b"\xC2\x85", b"\xDF\xBF", b"\xE0\x9F\xBF",
     b"\xE0\xA0\x80", b"\xE0\xA0", b"\xE1\x80\x80", b"\xE1\x80\x7F", b"\xE1\xC0\x80", b"\xEC\xBF\xBF", b"\xED\x9F\xBF",
@@ -55,8 +55,11 @@ const TEXT_EDGES: [&[u8]; 64] = [
     b"&amp;&gt;", b"&apos;&quot;&lt;",
 ];
 
+/// Names that a rule lists.
+pub(crate) type Names = &'static [&'static str];
+
 /// The children that a parent names; `None` for an element that is no parent.
-fn named(parent: &[u8]) -> Option<&'static [&'static str]> {
+fn named(parent: &[u8]) -> Option<Names> {
     match parent {
         b"flusso_ordinativi" => Some(&NAMES[1..8]),
         b"mandato" => Some(&NAMES[8..13]),
@@ -72,22 +75,22 @@ fn named(parent: &[u8]) -> Option<&'static [&'static str]> {
 }
 
 impl Node {
-    fn text(name: impl Into<Vec<u8>>, text: impl Into<Vec<u8>>) -> Node {
+    pub(crate) fn text(name: impl Into<Vec<u8>>, text: impl Into<Vec<u8>>) -> Node {
         Node { name: name.into(), inside: Inside::Text(text.into()) }
     }
 
-    fn nodes(name: impl Into<Vec<u8>>, nodes: Vec<Node>) -> Node {
+    pub(crate) fn nodes(name: impl Into<Vec<u8>>, nodes: Vec<Node>) -> Node {
         Node { name: name.into(), inside: Inside::Nodes(nodes) }
     }
 
-    fn children(&self) -> &[Node] {
+    pub(crate) fn children(&self) -> &[Node] {
         match &self.inside {
             Inside::Nodes(nodes) => nodes,
             Inside::Text(_) => &[],
         }
     }
 
-    fn children_mut(&mut self) -> Option<&mut Vec<Node>> {
+    pub(crate) fn children_mut(&mut self) -> Option<&mut Vec<Node>> {
         match &mut self.inside {
             Inside::Nodes(nodes) => Some(nodes),
             Inside::Text(_) => None,
@@ -95,7 +98,7 @@ impl Node {
     }
 
     /// The ways to all elements below this one, each a list of places.
-    fn ways(&self) -> Vec<Vec<usize>> {
+    pub(crate) fn ways(&self) -> Vec<Vec<usize>> {
         let mut ways = Vec::new();
         for (place, child) in self.children().iter().enumerate() {
             ways.push(vec![place]);
@@ -104,7 +107,7 @@ impl Node {
         ways
     }
 
-    fn at(&mut self, way: &[usize]) -> &mut Node {
+    pub(crate) fn at(&mut self, way: &[usize]) -> &mut Node {
         let mut node = self;
         for &place in way {
             node = &mut node.children_mut().expect("a way leads through elements")[place];
@@ -220,12 +223,12 @@ pub fn near_code(random: &mut Random, code: &[u8], form: bool) -> Vec<u8> {
     near
 }
 
-fn identifier(random: &mut Random) -> Vec<u8> {
+pub(crate) fn identifier(random: &mut Random) -> Vec<u8> {
     let length = *random.pick(&[1, 2, 8, 35]);
     (0..length).map(|_| *random.pick(b"ABCXYZabcxyz0123456789-_.")).collect()
 }
 
-fn date(random: &mut Random) -> Date {
+pub(crate) fn date(random: &mut Random) -> Date {
     let year = random.between(2000, 2099) as u16;
     match random.below(4) {
         0 => Date { year: 2021, month: 3, day: 1 },
@@ -249,7 +252,7 @@ fn date_text(date: Date) -> String {
     format!("{:04}-{:02}-{:02}", date.year, date.month, date.day)
 }
 
-fn date_and_time(random: &mut Random) -> String {
+pub(crate) fn date_and_time(random: &mut Random) -> String {
     let date = date_text(date(random));
     let (hours, minutes, seconds) = (random.below(24), random.below(60), random.below(60));
     format!("{date}T{hours:02}:{minutes:02}:{seconds:02}")
@@ -411,7 +414,7 @@ fn party_name(random: &mut Random, lean: bool) -> Vec<u8> {
 }
 
 /// Text that counts for exactly this many characters, each reference as one, without `]]>`.
-fn counted_text(random: &mut Random, length: usize) -> Vec<u8> {
+pub(crate) fn counted_text(random: &mut Random, length: usize) -> Vec<u8> {
     // Now and then one piece alone: so a name reaches 560 bytes of letters and 840 of references.
     if random.percent(15) {
         let single: Vec<_> = PIECES.iter().filter(|(_, count)| *count == 1).collect();
@@ -456,12 +459,12 @@ fn inner_stray(random: &mut Random, name: &str, depth: usize) -> Node {
     Node::text(name, counted_text(random, length))
 }
 
-/// Strews elements to pass over into the parents.
-fn strew(random: &mut Random, node: &mut Node, depth: usize, chance: usize) {
-    let Some(named) = named(&node.name) else { return };
+/// Strews elements to pass over into the parents, whose children `names` lists.
+pub(crate) fn strew(random: &mut Random, node: &mut Node, depth: usize, chance: usize, names: fn(&[u8]) -> Option<Names>) {
+    let Some(named) = names(&node.name) else { return };
     let Some(children) = node.children_mut() else { return };
     for child in children.iter_mut() {
-        strew(random, child, depth + 1, chance);
+        strew(random, child, depth + 1, chance, names);
     }
     if random.percent(chance) {
         for _ in 0..1 + random.below(3) {
@@ -482,6 +485,11 @@ fn chain(random: &mut Random, depth: usize) -> Node {
 
 /// Writes a flow: prologue, elements, white space, now and then brought to the greatest length or just over it.
 pub fn write(random: &mut Random, root: &Node) -> Vec<u8> {
+    write_up_to(random, root, LONGEST_FLOW)
+}
+
+/// Writes a document whose greatest length is this.
+pub(crate) fn write_up_to(random: &mut Random, root: &Node, longest: usize) -> Vec<u8> {
     let mut white = match random.weighted(&[60, 20, 20]) {
         0 => White::None,
         1 => White::Lines,
@@ -498,8 +506,8 @@ pub fn write(random: &mut Random, root: &Node) -> Vec<u8> {
     let front = flow.len();
     root.write(&mut white, &mut flow);
     white.write(&mut flow);
-    if random.percent(4) && flow.len() < LONGEST_FLOW {
-        let target = LONGEST_FLOW - 2 + random.below(5);
+    if random.percent(4) && flow.len() < longest {
+        let target = longest - 2 + random.below(5);
         let missing = target - flow.len().min(target);
         let (place, filler) = match random.below(3) {
             0 => (front, b" ".repeat(missing)),
@@ -521,8 +529,8 @@ pub fn whole(random: &mut Random, table: &Table, size: Size) -> Vec<u8> {
     let mut root = tree(random, table, size);
     match random.weighted(&[60, 25, 10, 5]) {
         0 => {}
-        1 => strew(random, &mut root, 1, 20),
-        2 => strew(random, &mut root, 1, 80),
+        1 => strew(random, &mut root, 1, 20, named),
+        2 => strew(random, &mut root, 1, 80, named),
         _ => {
             let depth = *random.pick(&[3, 11, 12, 12, 12, 13]);
             let chain = chain(random, depth - 1);
@@ -537,15 +545,15 @@ pub fn whole(random: &mut Random, table: &Table, size: Size) -> Vec<u8> {
 pub fn damaged(random: &mut Random, table: &Table, size: Size) -> Vec<u8> {
     let mut root = tree(random, table, size);
     if random.percent(25) {
-        strew(random, &mut root, 1, 30);
+        strew(random, &mut root, 1, 30, named);
     }
     match random.weighted(&[28, 42, 24, 6]) {
         0 => {
-            damage_elements(random, &mut root);
+            damage_elements(random, &mut root, &NAMES);
             write(random, &root)
         }
         1 => {
-            damage_field(random, &mut root);
+            damage_field(random, &mut root, edges);
             write(random, &root)
         }
         2 => {
@@ -563,7 +571,7 @@ pub fn damaged(random: &mut Random, table: &Table, size: Size) -> Vec<u8> {
     }
 }
 
-fn damage_elements(random: &mut Random, root: &mut Node) {
+pub(crate) fn damage_elements(random: &mut Random, root: &mut Node, names: &[&str]) {
     let ways = root.ways();
     let way = random.pick(&ways);
     let (&place, above) = way.split_last().expect("a way has a step");
@@ -589,7 +597,7 @@ fn damage_elements(random: &mut Random, root: &mut Node) {
             let parent = root.at(&parents[random.below(parents.len())]).children_mut().expect("only parents are kept");
             parent.insert(random.below(parent.len() + 1), node);
         }
-        5 => siblings[place].name = random.pick(&NAMES).as_bytes().to_vec(),
+        5 => siblings[place].name = random.pick(names).as_bytes().to_vec(),
         6 => {
             let name = if random.percent(30) { TOO_LONG } else { random.pick(&OTHER_NAMES) };
             siblings[place].name = name.as_bytes().to_vec();
@@ -619,7 +627,7 @@ fn damage_elements(random: &mut Random, root: &mut Node) {
 
 /// Texts at the edges of each field's form, inside and outside.
 #[rustfmt::skip]
-fn edges(name: &[u8]) -> &'static [&'static str] {
+pub(crate) fn edges(name: &[u8]) -> Names {
     match name {
         b"codice_ABI_BT" => &[
             "", "0123", "012345", "0123a", " 1234", "1234 ", "00000", "99999", "٠١٢٣٤", "-1234", "+1234", "0123/", ":1234",
@@ -672,7 +680,7 @@ fn edges(name: &[u8]) -> &'static [&'static str] {
     }
 }
 
-fn damage_field(random: &mut Random, root: &mut Node) {
+pub(crate) fn damage_field(random: &mut Random, root: &mut Node, edges: fn(&[u8]) -> Names) {
     let ways = root.ways();
     let mut leaves: Vec<_> = ways.into_iter().filter(|way| root.at(way).children_mut().is_none()).collect();
     // Often two fields at once, so that it matters which is first.

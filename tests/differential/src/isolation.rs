@@ -11,7 +11,7 @@ use crate::engine::Engine;
 pub fn owner(table: &Table, call: &Call) -> Option<usize> {
     let place = |code: &[u8]| table.bodies.iter().position(|body| body.code == code);
     match call {
-        Call::Open { .. } | Call::Convert { .. } => None,
+        Call::Open { .. } | Call::Convert { .. } | Call::Write { .. } | Call::Read { .. } | Call::Rewrite { .. } => None,
         Call::Execute { body, notice } | Call::Reverse { body, notice } => {
             if target::day(notice.date) == target::Day::Open {
                 place(body)

@@ -10,6 +10,7 @@ pub mod compare;
 pub mod engine;
 pub mod flows;
 pub mod isolation;
+pub mod messages;
 pub mod pen;
 pub mod random;
 pub mod shrink;
@@ -18,7 +19,7 @@ pub mod sweep;
 pub mod tables;
 pub mod wrong;
 
-pub use case::{Answer, Call, Case};
+pub use case::{Answer, Call, Case, Values};
 pub use cases::Theme;
 pub use compare::{Difference, Lend, Yard};
 pub use engine::{Engine, Reference};

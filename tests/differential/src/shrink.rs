@@ -6,7 +6,7 @@
 use std::time::{Duration, Instant};
 
 use reference::table::{ENTRY, HEAD, SLOT, number_at};
-use reference::{Form, Table};
+use reference::{Form, Table, fields, markup, structure};
 
 use crate::case::{Call, Case};
 use crate::compare::Yard;
@@ -49,6 +49,10 @@ fn weight(case: &Case) -> (usize, usize, u128) {
             (plain(body), numbers.map(u128::from).iter().sum())
         }
         Call::Totals { body } => (plain(body), 0),
+        Call::Write { flow, outcomes, values, room } => {
+            (plain(flow) + plain(outcomes) + values.iter().map(|value| plain(value)).sum::<usize>(), *room as u128)
+        }
+        Call::Read { message, room } | Call::Rewrite { message, room } => (plain(message), *room as u128),
     });
     let (untidy, numbers) = calls.fold((plain(&case.table), 0), |sum, call| (sum.0 + call.0, sum.1 + call.1));
     (case.cost(), untidy, numbers)
@@ -185,12 +189,21 @@ impl<F: FnMut(&Case) -> bool> Search<F> {
                 Call::Execute { .. } | Call::Reverse { .. } => self.shorten_notice(index),
                 Call::Convert { .. } => self.shorten_conversion(index),
                 Call::Totals { .. } => {}
+                Call::Write { .. } => {
+                    self.shorten_room(index);
+                    self.shorten_writing(index);
+                }
+                Call::Read { .. } | Call::Rewrite { .. } => {
+                    self.shorten_room(index);
+                    self.shorten_markup(index);
+                }
             }
             self.drop_bytes(|case| match &mut case.calls[index] {
                 Call::Open { request, .. } => request,
                 Call::Convert { old, .. } => old,
-                Call::Flow { flow, .. } => flow,
+                Call::Flow { flow, .. } | Call::Write { flow, .. } => flow,
                 Call::Execute { body, .. } | Call::Reverse { body, .. } | Call::Totals { body } => body,
+                Call::Read { message, .. } | Call::Rewrite { message, .. } => message,
             });
         }
     }
@@ -274,56 +287,115 @@ impl<F: FnMut(&Case) -> bool> Search<F> {
     }
 
     fn shorten_flow(&mut self, index: usize) {
-        let flow_of = |case: &Case| match &case.calls[index] {
-            Call::Flow { flow, .. } => flow.clone(),
-            _ => Vec::new(),
-        };
-        let with = |case: &mut Case, new: Vec<u8>| {
-            if let Call::Flow { flow, .. } = &mut case.calls[index] {
-                *flow = new;
-            }
-        };
-        for part in [MARK, DECLARATION] {
-            if let Some(rest) = flow_of(&self.best).strip_prefix(part) {
-                self.change(|case| with(case, rest.to_vec()));
-            }
-        }
-        // Texts made plain, all of one name together, so that sums stay sums.
-        for (name, plain) in [
-            ("importo_", "0.00"),
-            ("anagrafica_", "R"),
-            ("numero_", "1"),
-            ("identificativo_", "R"),
-            ("data_mandato", "2000-01-01"),
-            ("data_reversale", "2000-01-01"),
-            ("data_ora", "2000-01-01T00:00:00"),
-            ("esercizio", "2000"),
-        ] {
-            let flow = with_texts(&flow_of(&self.best), name.as_bytes(), plain.as_bytes());
-            self.change(|case| with(case, flow));
-        }
-        // Elements left out, the longest first.
-        let mut rank = 0;
-        loop {
-            let flow = flow_of(&self.best);
-            let mut elements = elements(&flow);
-            elements.sort_by_key(|element| std::cmp::Reverse(element.len()));
-            let Some(element) = elements.get(rank).cloned() else { break };
-            if self.is_over() {
-                return;
-            }
-            let without = [&flow[..element.start], &flow[element.end..]].concat();
-            if !self.change(|case| with(case, without)) {
-                rank += 1;
-            }
-        }
-        let orders = 16 * crate::flows::orders_in(&flow_of(&self.best));
+        self.shorten_markup(index);
+        let Call::Flow { flow, .. } = &self.best.calls[index] else { return };
+        let orders = 16 * crate::flows::orders_in(flow);
         for smaller in [0, 1, orders, orders + 1, orders + 16] {
             self.change(|case| {
                 if let Call::Flow { room, .. } = &mut case.calls[index] {
                     *room = smaller;
                 }
             });
+        }
+    }
+
+    /// The buffer that a call on a message writes.
+    fn shorten_room(&mut self, index: usize) {
+        for smaller in [0, 1, 16, 176, 2_000] {
+            self.change(|case| {
+                if let Call::Write { room, .. } | Call::Read { room, .. } | Call::Rewrite { room, .. } = &mut case.calls[index] {
+                    *room = smaller;
+                }
+            });
+        }
+    }
+
+    /// What a message is written from: orders left out with their outcomes, then values and flow made plain.
+    fn shorten_writing(&mut self, index: usize) {
+        let mut order = 0;
+        loop {
+            let Call::Write { flow, outcomes, .. } = &self.best.calls[index] else { return };
+            let mut orders = elements(flow);
+            orders.retain(|element| [&b"<mandato>"[..], b"<reversale>"].iter().any(|tag| flow[element.clone()].starts_with(tag)));
+            let Some(element) = orders.get(order).cloned() else { break };
+            let outcome = (16 * order).min(outcomes.len())..(16 * order + 16).min(outcomes.len());
+            let dropped = self.change(|case| {
+                if let Call::Write { flow, outcomes, .. } = &mut case.calls[index] {
+                    flow.drain(element);
+                    outcomes.drain(outcome);
+                }
+            });
+            if !dropped {
+                order += 1;
+            }
+        }
+        for place in 0..9 {
+            for plain in [&b""[..], b"x", b"2000-01-01T00:00:00Z"] {
+                self.change(|case| {
+                    if let Call::Write { values, .. } = &mut case.calls[index] {
+                        values[place] = plain.to_vec();
+                    }
+                });
+            }
+        }
+        self.shorten_markup(index);
+    }
+
+    /// The markup of a flow or a message made plain and shorter.
+    fn shorten_markup(&mut self, index: usize) {
+        let markup_of = |case: &Case| match &case.calls[index] {
+            Call::Flow { flow, .. } | Call::Write { flow, .. } => flow.clone(),
+            Call::Read { message, .. } | Call::Rewrite { message, .. } => message.clone(),
+            _ => Vec::new(),
+        };
+        let with = |case: &mut Case, new: Vec<u8>| match &mut case.calls[index] {
+            Call::Flow { flow, .. } => *flow = new,
+            Call::Write { flow, outcomes, .. } => {
+                // Outcome bytes that are this flow's stay so.
+                if refitted(flow, outcomes).as_ref() == Some(outcomes) {
+                    *outcomes = refitted(&new, outcomes).unwrap_or_default();
+                }
+                *flow = new;
+            }
+            Call::Read { message, .. } | Call::Rewrite { message, .. } => *message = new,
+            _ => {}
+        };
+        for part in [MARK, DECLARATION] {
+            if let Some(rest) = markup_of(&self.best).strip_prefix(part) {
+                self.change(|case| with(case, rest.to_vec()));
+            }
+        }
+        // Texts made plain, all of one name together, so that sums stay sums.
+        for (name, plain) in [
+            ("importo", "0.00"),
+            ("anagrafica_", "R"),
+            ("numero_", "1"),
+            ("identificativo_", "R"),
+            ("data_mandato", "2000-01-01"),
+            ("data_reversale", "2000-01-01"),
+            ("data_ora", "2000-01-01T00:00:00"),
+            ("data_ora", "2000-01-01T00:00:00Z"),
+            ("esercizio", "2000"),
+            ("codice_", "R"),
+            ("descrizione_", "R"),
+        ] {
+            let markup = with_texts(&markup_of(&self.best), name.as_bytes(), plain.as_bytes());
+            self.change(|case| with(case, markup));
+        }
+        // Elements left out, the longest first.
+        let mut rank = 0;
+        loop {
+            let markup = markup_of(&self.best);
+            let mut elements = elements(&markup);
+            elements.sort_by_key(|element| std::cmp::Reverse(element.len()));
+            let Some(element) = elements.get(rank).cloned() else { break };
+            if self.is_over() {
+                return;
+            }
+            let without = [&markup[..element.start], &markup[element.end..]].concat();
+            if !self.change(|case| with(case, without)) {
+                rank += 1;
+            }
         }
     }
 
@@ -398,6 +470,18 @@ fn without_slot(table: &[u8], body: usize, slot: usize) -> Option<Vec<u8>> {
     }
     shorter.drain(from..from + SLOT);
     Some(shorter)
+}
+
+/// The outcome bytes of a flow's orders with the codes that these have; `None` where the flow can't be read.
+fn refitted(flow: &[u8], outcomes: &[u8]) -> Option<Vec<u8>> {
+    let root = markup::read(flow)?;
+    let read = fields::read(&structure::read(&root)?).ok()?;
+    let codes = outcomes.chunks(16).map(|outcome| outcome.get(2).copied().unwrap_or_default());
+    let refitted = read.orders.iter().zip(codes).flat_map(|(order, code)| {
+        let first = [order.kind as u8, order.operation as u8, code, order.lines.len() as u8];
+        [&first[..], &order.number.to_be_bytes(), &order.total.to_be_bytes()].concat()
+    });
+    Some(refitted.collect())
 }
 
 /// The elements of a flow, as far as its tags agree.

@@ -5,7 +5,7 @@ use reference::markup::is_character;
 use reference::{Body, Date, Form, Kind, Line, Notice, Order, State, Table};
 
 use crate::case::{Call, Case};
-use crate::tables;
+use crate::{messages, tables};
 
 /// A table with an order in each state, for the bodies 000471 and 471.
 fn table() -> Table {
@@ -56,9 +56,9 @@ const DATE: &str = "2021-12-31";
 pub fn cases() -> impl Iterator<Item = Case> {
     let bytes = table().encode();
     let with_flow = move |flow| Case { table: bytes.clone(), calls: vec![Call::Flow { flow, room: 16 }] };
-    bytes_of_a_table().chain(bytes_of_a_request()).chain(bytes_of_an_old_table()).chain(
-        dates().chain(times()).chain(numbers()).chain(characters()).chain(sequences()).chain(bytes_of_a_flow()).map(with_flow),
-    )
+    let flows =
+        dates().chain(times()).chain(numbers()).chain(characters()).chain(sequences()).chain(bytes_of_a_flow()).map(with_flow);
+    bytes_of_a_table().chain(bytes_of_a_request()).chain(bytes_of_an_old_table()).chain(flows).chain(messages::sweep())
 }
 
 /// Every byte with every value in its place.

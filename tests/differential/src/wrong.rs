@@ -2,6 +2,7 @@
 //!
 //! The first five are document 01's "Errors we have seen made".
 
+use reference::message::{self, Given};
 use reference::table::{ENTRY, HEAD, SLOT, number_at};
 use reference::{Form, Notice, State, Table, markup};
 
@@ -42,10 +43,20 @@ pub enum Fault {
     KeptIgnored,
     /// A converted entry keeps zeros.
     ConvertedWithoutTotals,
+    /// A message has its entries in the flow's order of kinds, mandati first.
+    MandatiFirst,
+    /// 40 is answered before 41.
+    RoomBeforeValues,
+    /// A message is begun before it is seen not to fit.
+    WrittenBeforeRoom,
+    /// A line's number in a message is passed over, so that a line's outcome is read as an order's.
+    LinesPassedOver,
+    /// What is written again is what was read.
+    RewrittenAsRead,
 }
 
 /// All of them.
-pub const FAULTS: [Fault; 16] = [
+pub const FAULTS: [Fault; 21] = [
     Fault::CodesAsIntegers,
     Fault::StaleAmounts,
     Fault::AnnulloByNumber,
@@ -62,6 +73,11 @@ pub const FAULTS: [Fault; 16] = [
     Fault::KeptNotTakenBack,
     Fault::KeptIgnored,
     Fault::ConvertedWithoutTotals,
+    Fault::MandatiFirst,
+    Fault::RoomBeforeValues,
+    Fault::WrittenBeforeRoom,
+    Fault::LinesPassedOver,
+    Fault::RewrittenAsRead,
 ];
 
 /// The reference with one fault.
@@ -263,6 +279,43 @@ impl Engine for Wrong {
             && let Some(body) = table.body(body)
         {
             *used = body.orders.iter().filter(|order| order.state == State::Acquired).count() as u64;
+        }
+        code
+    }
+
+    fn message_write(&self, flow: &[u8], outcomes: &[u8], given: &Given, message: &mut [u8], length: &mut u64) -> u64 {
+        let code = Reference.message_write(flow, outcomes, given, message, length);
+        match (self.0, message::message_of(flow, outcomes, given)) {
+            (Fault::MandatiFirst, Ok(mut values)) if code == 0 => {
+                values.entries.sort_by_key(|entry| entry.kind as u8);
+                message[..*length as usize].copy_from_slice(&message::bytes(&values));
+            }
+            (Fault::WrittenBeforeRoom, Ok(values)) if code == 40 => {
+                message.copy_from_slice(&message::bytes(&values)[..message.len()]);
+            }
+            (Fault::RoomBeforeValues, _) if code == 41 && message.len() < 1_000 => return 40,
+            _ => {}
+        }
+        code
+    }
+
+    fn message_read(&self, bytes: &[u8], values: &mut [u8], entries: &mut u64, place: &mut u64, cause: &mut u64) -> u64 {
+        let code = Reference.message_read(bytes, values, entries, place, cause);
+        if self.0 == Fault::LinesPassedOver && code == 4 {
+            let mut text = String::from_utf8_lossy(bytes).into_owned();
+            for party in ["versante", "beneficiario"] {
+                text = text.replace(&format!("<progressivo_{party}>"), "<y>").replace(&format!("</progressivo_{party}>"), "</y>");
+            }
+            return Reference.message_read(text.as_bytes(), values, entries, place, cause);
+        }
+        code
+    }
+
+    fn message_rewrite(&self, bytes: &[u8], again: &mut [u8], length: &mut u64) -> u64 {
+        let code = Reference.message_rewrite(bytes, again, length);
+        if self.0 == Fault::RewrittenAsRead && code == 0 && again.len() >= bytes.len() {
+            again[..bytes.len()].copy_from_slice(bytes);
+            *length = bytes.len() as u64;
         }
         code
     }

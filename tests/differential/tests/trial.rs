@@ -8,7 +8,7 @@ use differential::random::Random;
 use differential::wrong::{FAULTS, Fault, Wrong};
 use differential::{Call, Case, Engine, Reference, Yard, shrink, sweep};
 
-const THEMES: [Theme; 8] = [
+const THEMES: [Theme; 9] = [
     Theme::WholeFlow,
     Theme::DamagedFlow,
     Theme::DamagedTable,
@@ -16,6 +16,7 @@ const THEMES: [Theme; 8] = [
     Theme::Opening,
     Theme::Conversion,
     Theme::Sequence,
+    Theme::Messages,
     Theme::Fuzz,
 ];
 
@@ -60,14 +61,17 @@ fn the_same_seed_makes_the_same_case() {
 #[test]
 fn every_code_is_reached() {
     let mut yard = Yard::default();
-    let mut reached = [0; 29];
-    let mut causes = [0; 5];
+    let mut reached = [0; 42];
+    let (mut causes, mut read_causes) = ([0; 5], [0; 5]);
     for theme in THEMES {
         for case in cases_of(theme, 300) {
             let mut table = case.table.clone();
             for call in &case.calls {
                 let served = yard.serve(&Reference, &mut table, call).unwrap();
                 reached[served.answer.code() as usize] += 1;
+                if let differential::Answer::Read(answer) = served.answer {
+                    read_causes[answer.cause as usize] += 1;
+                }
                 if let differential::Answer::Flow(answer) = served.answer {
                     causes[answer.cause as usize] += 1;
                     let codes = served.outcomes.chunks(16).take(answer.orders as usize).map(|outcome| outcome[2]);
@@ -76,10 +80,12 @@ fn every_code_is_reached() {
             }
         }
     }
-    // No call answers 23 to 26.
-    let given = |code: &usize| !(23..27).contains(code);
-    assert!((0..29).filter(given).all(|code| reached[code] > 0), "times each code was answered: {reached:?}");
-    assert!(causes.iter().all(|&times| times > 0), "times each cause was answered: {causes:?}");
+    // No call answers 23 to 26, or 29 to 39.
+    let given = |code: &usize| !(23..27).contains(code) && !(29..40).contains(code);
+    assert!((0..42).filter(given).all(|code| reached[code] > 0), "times each code was answered: {reached:?}");
+    for causes in [causes, read_causes] {
+        assert!(causes.iter().all(|&times| times > 0), "times each cause was answered: {causes:?}");
+    }
 }
 
 #[test]

@@ -71,12 +71,12 @@ pub struct Broken {
 
 /// The shapes of a number, a date and a time, `0` standing for any digit: a text of such a shape that breaks has a value outside its range.
 const YEAR: &[&[u8]] = &[b"0000"];
-const NUMBER: &[&[u8]] = &[b"0", b"00", b"000", b"0000", b"00000", b"000000", b"0000000"];
+pub(crate) const NUMBER: &[&[u8]] = &[b"0", b"00", b"000", b"0000", b"00000", b"000000", b"0000000"];
 const DATE: &[&[u8]] = &[b"0000-00-00"];
 const DATE_AND_TIME: &[&[u8]] = &[b"0000-00-00T00:00:00"];
 
 /// The cause of a text that breaks.
-fn cause(text: &[u8], longest: usize, shapes: &[&[u8]]) -> Cause {
+pub(crate) fn cause(text: &[u8], longest: usize, shapes: &[&[u8]]) -> Cause {
     let shaped: Vec<u8> = text.iter().map(|byte| if byte.is_ascii_digit() { b'0' } else { *byte }).collect();
     if text.is_empty() {
         Cause::Empty

@@ -17,6 +17,7 @@
 pub mod desk;
 pub mod fields;
 pub mod markup;
+pub mod message;
 pub mod structure;
 pub mod table;
 pub mod target;
