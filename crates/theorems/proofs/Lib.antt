@@ -13,3 +13,4 @@ pub mod NoSecond
 pub mod Condition1
 pub mod Exactly
 pub mod Totals
+pub mod Converted
