@@ -26,7 +26,7 @@ use Rattle.desk.specs.declared.FlowAnswer.{FlowAnswer}
 use Rattle.desk.specs.Desk.{FlowPromise, flowCode}
 use Rattle.convert.specs.declared.Converted.{Converted}
 use Rattle.convert.specs.declared.Converted.the-variants.{Converts, InvalidTable, WrongLength}
-use Rattle.convert.specs.Convert.{longer, centsAt, converted, convertOf, convertCode, convertTable}
+use Rattle.convert.specs.Convert.{grownLength, centsAt, converted, convertOf, convertCode, convertTable}
 use Rattle.convert.specs.Same.{Same}
 use Rattle.convert.proofs.Valid.{converts}
 use Rattle.one_table.specs.One.{areBytes, Matching}
@@ -47,7 +47,7 @@ record Filled (o t₀ : List ℕ) : Type 0 where
 
 answered-0 : (o t t₀ : List ℕ) (a : Converted) → a ≡ convertOf o (length t) → t₀ ≡ convertTable a o t → convertCode a ≡ 0 → Filled o t₀
 unfolding convertOf
-answered-0 o t t₀ Converts e f z = record { right = go (validAs table1 o) (eqb (length t) (longer o)) refl e; filled = f }
+answered-0 o t t₀ Converts e f z = record { right = go (validAs table1 o) (eqb (length t) (grownLength o)) refl e; filled = f }
   where
     go : (x y : Bool) → validAs table1 o ≡ x → Converts ≡ cond x (cond y Converts WrongLength) InvalidTable → validAs table1 o ≡ true
     go true y q h = q
@@ -83,10 +83,10 @@ module _ (o : List ℕ) (b : areBytes o ≡ true) where
   converted-bytes : areBytes (converted o) ≡ true
   unfolding converted
   converted-bytes =
-      let hs : List ℕ = headBytes (bodies o) (longer o) (abiOf o) in
+      let hs : List ℕ = headBytes (bodies o) (grownLength o) (abiOf o) in
       let es : List ℕ = entriesBytes (table1 .entry) (centsAt o) o headSize (bodies o) (headSize + entrySize * bodies o) in
       bytes-append (hs ++ es) (part o (headSize + table1 .entry * bodies o) (length o))
-      (bytes-append hs es (head-bytes (bodies o) (longer o)) (entries-bytes (table1 .entry) (centsAt o) headSize (bodies o) (headSize + entrySize * bodies o)))
+      (bytes-append hs es (head-bytes (bodies o) (grownLength o)) (entries-bytes (table1 .entry) (centsAt o) headSize (bodies o) (headSize + entrySize * bodies o)))
       (bytes-part o b (headSize + table1 .entry * bodies o) (length o))
 
 -- two tables 2 of one table 1

@@ -30,7 +30,7 @@ use Rattle.service.proofs.Worth.{order-cash, cents-worth}
 use Rattle.notices.specs.declared.NoticeAnswer.{NoticeAnswer}
 use Rattle.notices.specs.declared.NoticeAnswer.the-variants.{Done}
 use Rattle.notices.specs.Notices.{noticed, NoticePromise}
-use Rattle.theorems.specs.Engine.{recordsOf, tableAfter}
+use Rattle.theorems.specs.Engine.{bodyRecords, tableAfter}
 use Rattle.theorems.specs.History.{weight}
 use Rattle.theorems.specs.Totals.{KeptTrue, contentsOf, OnScreen, CashMoved}
 use Rattle.theorems.proofs.Condition2.{condition2}
@@ -42,7 +42,7 @@ kept-true E t₀ r cs b l =
     let t = tableAfter E t₀ cs in
     let g = good E t₀ r cs in
     let w = body-at t (g .ok) b (omega (arith, count-is t₀ r t g)) in
-    agrees-is t (entryOf b) (recordsOf b t) (w .holds .kept refl)
+    agrees-is t (entryOf b) (bodyRecords b t) (w .holds .kept refl)
 
 -- THE CONTENTS ALONE
 module _ (t : List ℕ) (ok : tableOk t ≡ true) where
@@ -83,9 +83,9 @@ module _ (t : List ℕ) (ok : tableOk t ≡ true) where
     same-kept kind f = same8 (piece (entryOf b + keptPlace kind) 8 (omega arith)) (omega arith)
 
     -- what is kept there is what the records come to
-    screen : (kept 1 (contentsOf t) (entryOf b) ≡ centsOf 1 (recordsOf b t)) × (kept 2 (contentsOf t) (entryOf b) ≡ centsOf 2 (recordsOf b t))
+    screen : (kept 1 (contentsOf t) (entryOf b) ≡ centsOf 1 (bodyRecords b t)) × (kept 2 (contentsOf t) (entryOf b) ≡ centsOf 2 (bodyRecords b t))
     screen =
-        let w = agrees-is t (entryOf b) (recordsOf b t) (body-at t ok b h .holds .kept refl) in
+        let w = agrees-is t (entryOf b) (bodyRecords b t) (body-at t ok b h .holds .kept refl) in
         (same-kept 1 (omega arith) ∙ w .0, same-kept 2 (omega arith) ∙ w .1)
 
 pub on-screen : OnScreen
@@ -104,7 +104,7 @@ on-screen t ok code a p = (
 module _ (t : List ℕ) (ok : tableOk t ≡ true) (code : List ℕ) (b : ℕ) (e : bodyOf t code ≡ At b) (x : Bool) (k : Key) (line : ℕ) (d : Date) (z : targetCode d ≡ 0)
     (a : NoticeAnswer) (t′ : List ℕ) (p : NoticePromise t x code k line d a t′) where
   abbrev rs : List Record
-  rs = recordsOf b t
+  rs = bodyRecords b t
 
   body-ok : bodyOk t (placeOf t (entryOf b)) (slotsOf t (entryOf b)) ≡ true
   body-ok = body-at t ok b (found-body t ok code b e) .holds .body
@@ -124,13 +124,13 @@ module _ (t : List ℕ) (ok : tableOk t ≡ true) (code : List ℕ) (b : ℕ) (e
 pub cash-moved : CashMoved
 unfolding orderComes
 cash-moved = record {
-  order-cash = λ t ok b l year o kind. order-cash (slotsOf t (entryOf b)) year o (recordsOf b t) _ refl kind;
+  order-cash = λ t ok b l year o kind. order-cash (slotsOf t (entryOf b)) year o (bodyRecords b t) _ refl kind;
   execute-cash = λ t ok code b e x k line d z a t′ p q cents f kind.
-      let m = judgeNotice true k line (recordsOf b t) in
+      let m = judgeNotice true k line (bodyRecords b t) in
       let w = worth-weighs (ofKind kind) itsCents .executes t (placeOf t (entryOf b)) (slotsOf t (entryOf b)) (body-ok t ok code b e x k line d z a t′ p) k line m refl in
-      omega (arith, left t ok code b e x k line d z a t′ p true q kind, weighed t ok code b e x k line d z a t′ p true q cents f kind, cents-worth kind (recordsOf b t));
+      omega (arith, left t ok code b e x k line d z a t′ p true q kind, weighed t ok code b e x k line d z a t′ p true q cents f kind, cents-worth kind (bodyRecords b t));
   reverse-cash = λ t ok code b e x k line d z a t′ p q cents f kind.
-      let m = judgeNotice false k line (recordsOf b t) in
+      let m = judgeNotice false k line (bodyRecords b t) in
       let w = worth-weighs (ofKind kind) itsCents .reverses t (placeOf t (entryOf b)) (slotsOf t (entryOf b)) (body-ok t ok code b e x k line d z a t′ p) k line m refl in
-      omega (arith, left t ok code b e x k line d z a t′ p false q kind, weighed t ok code b e x k line d z a t′ p false q cents f kind, cents-worth kind (recordsOf b t));
+      omega (arith, left t ok code b e x k line d z a t′ p false q kind, weighed t ok code b e x k line d z a t′ p false q cents f kind, cents-worth kind (bodyRecords b t));
 }

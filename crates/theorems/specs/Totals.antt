@@ -34,7 +34,7 @@ use Rattle.convert.specs.Convert.{ConvertReplies}
 use Rattle.convert.specs.Same.{oldEntry, Same}
 use Rattle.one_table.specs.One.{areBytes}
 use Rattle.isolation.specs.Machine.{log}
-use Rattle.theorems.specs.Engine.{Call, Engine, machine, recordsOf, tableAfter}
+use Rattle.theorems.specs.Engine.{Call, Engine, machine, bodyRecords, tableAfter}
 use Rattle.theorems.specs.Condition2.{codesInTurn, comesTo, EachOrder, EachNotice}
 use Rattle.theorems.specs.Condition3.{Condition3}
 use Rattle.theorems.specs.Codes.{outcomeCodes}
@@ -43,8 +43,8 @@ use Rattle.theorems.specs.History.{executions, reversals, cash, logOf}
 -- "Every call that moves a line keeps them true": after any calls, what a body's entry keeps are the cents of its records
 abbrev pub KeptTrue : Type 0
 KeptTrue = (E : Engine) (t₀ : List ℕ) → tableOk t₀ ≡ true → (cs : List Call) (b : ℕ) → b < bodies t₀
-    → (kept mandatoKind (tableAfter E t₀ cs) (entryOf b) ≡ centsOf mandatoKind (recordsOf b (tableAfter E t₀ cs)))
-    × (kept reversaleKind (tableAfter E t₀ cs) (entryOf b) ≡ centsOf reversaleKind (recordsOf b (tableAfter E t₀ cs)))
+    → (kept mandatoKind (tableAfter E t₀ cs) (entryOf b) ≡ centsOf mandatoKind (bodyRecords b (tableAfter E t₀ cs)))
+    × (kept reversaleKind (tableAfter E t₀ cs) (entryOf b) ≡ centsOf reversaleKind (bodyRecords b (tableAfter E t₀ cs)))
 
 -- "The counter screen is handed only a table's contents": head and entries, no slot
 abbrev pub contentsOf : List ℕ → List ℕ
@@ -61,12 +61,12 @@ OnScreen = (t : List ℕ) → tableOk t ≡ true → (code : List ℕ) (a : Tota
 -- WHAT MOVES CASH, of a body of a valid table
 pub record CashMoved : Type 0 where
   -- no order does
-  pub order-cash : EachOrder (λ t b year o. (kind : ℕ) → centsOf kind (recordsBy year o (recordsOf b t) (comesTo t b year o)) ≡ centsOf kind (recordsOf b t))
+  pub order-cash : EachOrder (λ t b year o. (kind : ℕ) → centsOf kind (recordsBy year o (bodyRecords b t) (comesTo t b year o)) ≡ centsOf kind (bodyRecords b t))
   -- an accepted execution adds its cents to those of its order's kind; an accepted reversal takes them back
   pub execute-cash : EachNotice (λ t b executing k line a t′. executing ≡ true → (cents : ℕ) → a ≡ Done cents → (kind : ℕ)
-      → centsOf kind (recordsAt t′ (placeOf t (entryOf b)) (slotsOf t (entryOf b))) ≡ centsOf kind (recordsOf b t) + cond (eqb (k .kind) kind) cents 0)
+      → centsOf kind (recordsAt t′ (placeOf t (entryOf b)) (slotsOf t (entryOf b))) ≡ centsOf kind (bodyRecords b t) + cond (eqb (k .kind) kind) cents 0)
   pub reverse-cash : EachNotice (λ t b executing k line a t′. executing ≡ false → (cents : ℕ) → a ≡ Done cents → (kind : ℕ)
-      → centsOf kind (recordsAt t′ (placeOf t (entryOf b)) (slotsOf t (entryOf b))) + cond (eqb (k .kind) kind) cents 0 ≡ centsOf kind (recordsOf b t))
+      → centsOf kind (recordsAt t′ (placeOf t (entryOf b)) (slotsOf t (entryOf b))) + cond (eqb (k .kind) kind) cents 0 ≡ centsOf kind (bodyRecords b t))
 
 -- A TABLE 1: which of its bodies has a code, how many slots body b has, and its records
 abbrev pub oldBody : List ℕ → List ℕ → Found
@@ -113,7 +113,7 @@ pub record Conversion (E : Engine) (o t₀ : List ℕ) : Type 0 where
   pub isolated : Condition3 E t₀
   -- and cash by history, from the cents of the table 1's records on
   pub history : (b : ℕ) → b < bodies o → (cs : List Call) (kind : ℕ)
-      → centsOf kind (recordsOf b (tableAfter E t₀ cs)) + reversals (cash kind) (logOf E t₀ b cs)
+      → centsOf kind (bodyRecords b (tableAfter E t₀ cs)) + reversals (cash kind) (logOf E t₀ b cs)
       ≡ centsOf kind (oldRecords o b) + executions (cash kind) (logOf E t₀ b cs)
 
 -- from any buffer that conversion answered 0 for
