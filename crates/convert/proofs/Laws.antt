@@ -27,7 +27,7 @@ use Rattle.table.proofs.Bodies.{body-of}
 use Rattle.contents.specs.Contents.{headBytes, entryBytes, entriesBytes}
 use Rattle.contents.proofs.Laws.{length-part, length-head, length-entries}
 use Rattle.convert.specs.declared.Converted.the-variants.{Converts, InvalidTable, WrongLength}
-use Rattle.convert.specs.Convert.{longer, centsAt, converted, convertOf}
+use Rattle.convert.specs.Convert.{grownLength, centsAt, converted, convertOf}
 
 -- THE TOTALS of a valid body, as its judge tells them
 module _ (o : List ℕ) (at : ℕ) {p n : ℕ} (e : p ≡ placeOf o at) (f : n ≡ slotsOf o at) (ok : bodyOk o (placeOf o at) (slotsOf o at) ≡ true) where
@@ -66,8 +66,8 @@ module _ (o : List ℕ) (ok : validAs table1 o ≡ true) where
   pub five : length (abiOf o) ≡ abiLength
   five = length-part o 8 5 (omega (arith, room))
 
-  pub long-head : length (headBytes n (longer o) (abiOf o)) ≡ headSize
-  long-head = length-head n (longer o) (abiOf o) five
+  pub long-head : length (headBytes n (grownLength o) (abiOf o)) ≡ headSize
+  long-head = length-head n (grownLength o) (abiOf o) five
 
   pub long-entries : length (entriesBytes (table1 .entry) (centsAt o) o headSize n (headSize + entrySize * n)) ≡ entrySize * n
   long-entries = length-entries (table1 .entry) (centsAt o) o (omega arith) headSize n (headSize + entrySize * n) room
@@ -75,23 +75,33 @@ module _ (o : List ℕ) (ok : validAs table1 o ≡ true) where
   pub long-slots : length (part o (headSize + table1 .entry * n) (length o)) ≡ length o - (headSize + table1 .entry * n)
   long-slots = length-take-le (length o - (headSize + table1 .entry * n)) (drop (headSize + table1 .entry * n) o) (omega (arith, length-drop (headSize + table1 .entry * n) o))
 
+  -- how many bodies there are, m as it was read, and how long both tables are, len that of the new one
+  pub record Sizes (m len : ℕ) : Type 0 where
+    pub number : m ≡ bodies o
+    pub few-bodies : bodies o ≤ maxBodies
+    pub old-room : headSize + table1 .entry * bodies o ≤ length o
+    pub new-length : len ≡ grownLength o
+
+  pub sizes : {m len : ℕ} → m ≡ bodies o → len ≡ grownLength o → Sizes m len
+  sizes e l = record { number = e; few-bodies = few; old-room = room; new-length = l }
+
   -- and they fit where they are put
-  pub slots-fit : {m : ℕ} → m ≡ bodies o → headSize + entrySize * m + length (part o (headSize + table1 .entry * m) (length o)) ≡ longer o
+  pub slots-fit : {m : ℕ} → m ≡ bodies o → headSize + entrySize * m + length (part o (headSize + table1 .entry * m) (length o)) ≡ grownLength o
   slots-fit e =
       ap (λ (x : ℕ). headSize + entrySize * x + length (part o (headSize + table1 .entry * x) (length o))) e ∙ omega (arith, long-slots, room)
 
-  pub converted-long : length (converted o) ≡ longer o
+  pub converted-long : length (converted o) ≡ grownLength o
   unfolding converted
   converted-long =
       simp length-append (omega (arith, long-head, long-entries, long-slots, room))
 
   -- head, entries and slots, written one after the other
-  pub filled : {m : ℕ} (t t₁ t₂ t₃ : List ℕ) → m ≡ bodies o → length t ≡ longer o → t₁ ≡ put t 0 (headBytes m (length t) (abiOf o))
+  pub filled : {m : ℕ} (t t₁ t₂ t₃ : List ℕ) → m ≡ bodies o → length t ≡ grownLength o → t₁ ≡ put t 0 (headBytes m (length t) (abiOf o))
       → t₂ ≡ put t₁ headSize (entriesBytes (table1 .entry) (centsAt o) o headSize m (headSize + entrySize * m))
       → t₃ ≡ put t₂ (headSize + entrySize * m) (part o (headSize + table1 .entry * m) (length o)) → t₃ ≡ converted o
   unfolding converted
   filled {m} t t₁ t₂ t₃ e l e₁ e₂ e₃ =
-      let hs : List ℕ = headBytes n (longer o) (abiOf o) in
+      let hs : List ℕ = headBytes n (grownLength o) (abiOf o) in
       let es : List ℕ = entriesBytes (table1 .entry) (centsAt o) o headSize n (headSize + entrySize * n) in
       let ss : List ℕ = part o (headSize + table1 .entry * n) (length o) in
       let f₁ : t₁ ≡ put t 0 hs = e₁ ∙ (λ i. put t 0 (headBytes (e i) (l i) (abiOf o))) in

@@ -22,7 +22,7 @@ use Rattle.table.proofs.Laws.{known-1, known-2, entry, lay-split, head, table}
 use Rattle.table.proofs.Bodies.{Body, body-of, bodies-each}
 use Rattle.contents.specs.Contents.{headBytes, entriesBytes}
 use Rattle.contents.proofs.Written.{getD-second, agree-left, agree-right, head-bodies, head-abi, head-valid, Written, written-place, written-rest, written-rows, written-layout, written-kept}
-use Rattle.convert.specs.Convert.{longer, centsAt, converted}
+use Rattle.convert.specs.Convert.{grownLength, centsAt, converted}
 use Rattle.convert.specs.Same.{oldEntry, Same}
 use Rattle.convert.proofs.Laws.{room, few, five, long-head, long-entries, long-slots, converted-long, lay-sum}
 use borrow.Author.Tests.{eq-eqb}
@@ -54,7 +54,7 @@ module _ (o : List ℕ) (ok : validAs table1 o ≡ true) where
   new = converted o
 
   abbrev hs : List ℕ
-  hs = headBytes n (longer o) (abiOf o)
+  hs = headBytes n (grownLength o) (abiOf o)
 
   abbrev es : List ℕ
   es = entriesBytes (table1 .entry) (centsAt o) o headSize n (headSize + entrySize * n)
@@ -90,19 +90,19 @@ module _ (o : List ℕ) (ok : validAs table1 o ≡ true) where
         fits = omega (arith, room o ok);
       }
 
-  pub fits : longer o ≤ maxLength
+  pub fits : grownLength o ≤ maxLength
   fits = omega (arith, head table1 o (table table1 o ok .head-ok) .fits, few o ok)
 
   number : bodies new ≡ n
-  number = head-bodies new n (longer o) (abiOf o) (five o ok) first-16 (few o ok)
+  number = head-bodies new n (grownLength o) (abiOf o) (five o ok) first-16 (few o ok)
 
   bank : abiOf new ≡ abiOf o
-  bank = head-abi new n (longer o) (abiOf o) (five o ok) first-16 (omega (arith, converted-long o ok, room o ok))
+  bank = head-abi new n (grownLength o) (abiOf o) (five o ok) first-16 (omega (arith, converted-long o ok, room o ok))
 
   new-head : headOk table2 new ≡ true
   new-head =
       let h = head table1 o (table table1 o ok .head-ok) in
-      head-valid new n (longer o) (abiOf o) (five o ok) first-16 (h .some) (h .few) (converted-long o ok) fits (h .digits) (omega (arith, h .room))
+      head-valid new n (grownLength o) (abiOf o) (five o ok) first-16 (h .some) (h .few) (converted-long o ok) fits (h .digits) (omega (arith, h .room))
 
   rows : Rows new o entrySize (table1 .entry) headSize headSize n
   rows = written-rows (omega arith) headSize headSize n (headSize + entrySize * n) written

@@ -15,8 +15,8 @@ use Rattle.convert.specs.declared.Converted.{Converted}
 use Rattle.convert.specs.declared.Converted.the-variants.{Converts, InvalidTable, WrongLength}
 
 -- "Entries grow to 48 bytes": how long the table 2 of a table 1 is
-abbrev pub longer : List ℕ → ℕ
-longer o = length o + (entrySize - table1 .entry) * bodies o
+abbrev pub grownLength : List ℕ → ℕ
+grownLength o = length o + (entrySize - table1 .entry) * bodies o
 
 -- the cents of a kind, of the records of the body whose entry is at `at` in the table 1
 abbrev pub centsAt : List ℕ → ℕ → ℕ → ℕ
@@ -26,13 +26,13 @@ centsAt o kind at = centsOf kind (recordsOf o at)
 -- have it, and the cents of their records; the slots' bytes as they are
 unfoldable pub converted : List ℕ → List ℕ
 converted o =
-    headBytes (bodies o) (longer o) (abiOf o)
+    headBytes (bodies o) (grownLength o) (abiOf o)
     ++ entriesBytes (table1 .entry) (centsAt o) o headSize (bodies o) (headSize + entrySize * bodies o)
     ++ part o (headSize + table1 .entry * bodies o) (length o)
 
 -- what conversion answers for a table 1 and a buffer of n bytes
 unfoldable pub convertOf : List ℕ → ℕ → Converted
-convertOf o n = cond (validAs table1 o) (cond (eqb n (longer o)) Converts WrongLength) InvalidTable
+convertOf o n = cond (validAs table1 o) (cond (eqb n (grownLength o)) Converts WrongLength) InvalidTable
 
 -- document 01's code
 abbrev pub convertCode : Converted → ℕ

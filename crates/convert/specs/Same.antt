@@ -8,7 +8,7 @@ use Rattle.bounds.specs.Bounds.{maxLength}
 use Rattle.body.specs.Body.{centsOf}
 use Rattle.entries.specs.Entry.{kept, slotsOf, codesFrom}
 use Rattle.table.specs.Table.{table1, headSize, bodies, abiOf, codesOf, recordsOf, tableOk, entryOf}
-use Rattle.convert.specs.Convert.{longer}
+use Rattle.convert.specs.Convert.{grownLength}
 
 -- where body b's entry begins in a table 1
 abbrev pub oldEntry : ℕ → ℕ
@@ -18,8 +18,8 @@ oldEntry b = headSize + table1 .entry * b
 pub record Same (o t : List ℕ) : Type 0 where
   -- it is valid, and no longer than a table may be
   pub valid : tableOk t ≡ true
-  pub long : length t ≡ longer o
-  pub fits : longer o ≤ maxLength
+  pub long : length t ≡ grownLength o
+  pub fits : grownLength o ≤ maxLength
   -- the same bank and the same bodies, in the same order, with as many slots
   pub bank : abiOf t ≡ abiOf o
   pub number : bodies t ≡ bodies o

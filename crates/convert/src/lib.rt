@@ -11,12 +11,10 @@ ghost use Rattle.body.specs.Body.{bodyOk};
 ghost use Rattle.entries.specs.Entry.{entrySize, entryFixed, slotsOf, placeOf};
 ghost use Rattle.table.specs.Table.{table1, headSize, bodies, validAs};
 ghost use Rattle.contents.specs.Contents.{entriesBytes};
-ghost use Rattle.convert.specs.Convert.{centsAt, longer, converted, convertCode, ConvertPromise};
+ghost use Rattle.convert.specs.Convert.{centsAt, grownLength, converted, convertCode, ConvertPromise};
 
-// An entry of table 1, and how much longer one of table 2 is.
-const OLD: usize = 32;
-
-const MORE: usize = 16;
+// How much longer an entry of table 2 is than one of table 1.
+const MORE: usize = entries::ENTRY - table::OLD_ENTRY;
 
 // What conversion answers.
 pub enum Converted {
@@ -64,20 +62,20 @@ fn put_entries(t: &mut [u8], o: &[u8], n: usize)
         contents::put_entry(t, to, &o[at..e], p, sums.paid, sums.collected);
         p += record::SLOT * entries::slots_of(o, at);
         to += entries::ENTRY;
-        at += OLD;
+        at += table::OLD_ENTRY;
         left -= 1;
     }
 }
 
 // Every byte of the table 2 that a valid table 1 becomes.
 fn fill(t: &mut [u8], o: &[u8], n: usize)
-    requires { ⌜ (validAs table1 (now o) ≡ true) × (n ≡ bodies (now o)) × (length (now t) ≡ longer (now o)) ⌝ }
+    requires { ⌜ (validAs table1 (now o) ≡ true) × (n ≡ bodies (now o)) × (length (now t) ≡ grownLength (now o)) ⌝ }
     ensures { λ _. ⌜ now (t .exit) ≡ converted (now (o .entry)) ⌝ }
 {
     let len = t.len();
     contents::put_head(t, n, len, &o[table::ABI..table::REST]);
     put_entries(t, o, n);
-    let from = table::HEAD + OLD * n;
+    let from = table::HEAD + table::OLD_ENTRY * n;
     let end = o.len();
     words::copy_in(t, table::HEAD + entries::ENTRY * n, &o[from..end]);
 }

@@ -11,16 +11,16 @@ use Rattle.calendar.specs.declared.Date.{Date}
 use Rattle.calendar.specs.Calendar.{isDate}
 use Rattle.calendar.proofs.Laws.{date-ranges}
 use Rattle.days.specs.declared.Between.{Between}
-use Rattle.days.specs.Days.{monthOf, numberOf, dateOf, nextDay, served, daysBetween}
+use Rattle.days.specs.Days.{monthOf, dayNumber, dateBy, nextDay, served, daysBetween}
 use Rattle.days.specs.Counting.{daysOn, Takes, on, back, Counting, CountedDays}
 use Rattle.days.proofs.Laws.{start-mono, start-1200, number-least, number-most, one-date, next-number, next-real, served-date, both-served}
 
 -- PAST THE TABLE there is no way back
 late-next : (d : Date) → 2100 ≤ d .year → 2100 ≤ nextDay d .year
 unfolding nextDay
-late-next d h = go (isDate (dateOf (d .year) (d .month) (d .day + 1))) (isDate (dateOf (d .year) (d .month + 1) 1))
+late-next d h = go (isDate (dateBy (d .year) (d .month) (d .day + 1))) (isDate (dateBy (d .year) (d .month + 1) 1))
   where
-    go : (x y : Bool) → 2100 ≤ cond x (dateOf (d .year) (d .month) (d .day + 1)) (cond y (dateOf (d .year) (d .month + 1) 1) (dateOf (d .year + 1) 1 1)) .year
+    go : (x y : Bool) → 2100 ≤ cond x (dateBy (d .year) (d .month) (d .day + 1)) (cond y (dateBy (d .year) (d .month + 1) 1) (dateBy (d .year + 1) 1 1)) .year
     go true y = h
     go false true = h
     go false false = omega arith
@@ -34,27 +34,27 @@ not-late : (d : Date) → isDate d ≡ true → 2100 ≤ d .year → ⊥
 not-late d r h = let y = date-ranges d r .year .1 in omega arith
 
 -- N DAYS ON are n numbers on, where a date is reached
-pub on-number : (n : ℕ) (a : Date) → isDate a ≡ true → isDate (daysOn n a) ≡ true → numberOf (daysOn n a) ≡ numberOf a + n
+pub on-number : (n : ℕ) (a : Date) → isDate a ≡ true → isDate (daysOn n a) ≡ true → dayNumber (daysOn n a) ≡ dayNumber a + n
 unfolding daysOn
 on-number zero a r s = omega arith
 on-number (suc n) a r s = go (next-real a r) (λ k. on-number n (nextDay a) k s)
   where
-    go : (isDate (nextDay a) ≡ true) ⊎ (2100 ≤ nextDay a .year) → (isDate (nextDay a) ≡ true → numberOf (daysOn n (nextDay a)) ≡ numberOf (nextDay a) + n)
-        → numberOf (daysOn n (nextDay a)) ≡ numberOf a + suc n
+    go : (isDate (nextDay a) ≡ true) ⊎ (2100 ≤ nextDay a .year) → (isDate (nextDay a) ≡ true → dayNumber (daysOn n (nextDay a)) ≡ dayNumber (nextDay a) + n)
+        → dayNumber (daysOn n (nextDay a)) ≡ dayNumber a + suc n
     go (inl k) f = let q = next-number a r in let g = f k in omega arith
     go (inr l) f = absurd (not-late (daysOn n (nextDay a)) s (late-on n (nextDay a) l))
 
-late-number : (d : Date) → 2100 ≤ d .year → 36525 ≤ numberOf d
+late-number : (d : Date) → 2100 ≤ d .year → 36525 ≤ dayNumber d
 unfolding monthOf
 late-number d h = omega (arith, start-mono 1200 (monthOf d) (omega arith), start-1200, number-least d)
 
 -- and a date that many numbers on is reached
-pub reached : (n : ℕ) (a b : Date) → isDate a ≡ true → isDate b ≡ true → numberOf b ≡ numberOf a + n → daysOn n a ≡ b
+pub reached : (n : ℕ) (a b : Date) → isDate a ≡ true → isDate b ≡ true → dayNumber b ≡ dayNumber a + n → daysOn n a ≡ b
 unfolding daysOn
 reached zero a b r s e = one-date a b r s (omega arith)
 reached (suc n) a b r s e = go (next-real a r) (λ k q. reached n (nextDay a) b k s q)
   where
-    go : (isDate (nextDay a) ≡ true) ⊎ (2100 ≤ nextDay a .year) → (isDate (nextDay a) ≡ true → numberOf b ≡ numberOf (nextDay a) + n → daysOn n (nextDay a) ≡ b)
+    go : (isDate (nextDay a) ≡ true) ⊎ (2100 ≤ nextDay a .year) → (isDate (nextDay a) ≡ true → dayNumber b ≡ dayNumber (nextDay a) + n → daysOn n (nextDay a) ≡ b)
         → daysOn n (nextDay a) ≡ b
     go (inl k) f = let q = next-number a r in f k (omega arith)
     go (inr l) f = absurd (omega (arith, late-number (nextDay a) l, next-number a r, number-most b s))
@@ -81,37 +81,37 @@ fewer a n = go (a + suc n) (omega arith)
 
 -- COUNTING
 module _ (a b : Date) (h : served a ≡ true) (k : served b ≡ true) where
-  told : daysBetween a b ≡ record { code = 0; days = pos (numberOf b) -ℤ pos (numberOf a) }
+  told : daysBetween a b ≡ record { code = 0; days = pos (dayNumber b) -ℤ pos (dayNumber a) }
   told = sym (both-served a b h k refl)
 
-  later : (n : ℕ) → numberOf b ≡ numberOf a + n → daysBetween a b .days ≡ pos n
-  later n q = ap (λ r. r .days) told ∙ ap (λ m. pos m -ℤ pos (numberOf a)) q ∙ more (numberOf a) n
+  later : (n : ℕ) → dayNumber b ≡ dayNumber a + n → daysBetween a b .days ≡ pos n
+  later n q = ap (λ r. r .days) told ∙ ap (λ m. pos m -ℤ pos (dayNumber a)) q ∙ more (dayNumber a) n
 
-  earlier : (n : ℕ) → numberOf a ≡ numberOf b + suc n → daysBetween a b .days ≡ negsuc n
-  earlier n q = ap (λ r. r .days) told ∙ ap (λ m. pos (numberOf b) -ℤ pos m) q ∙ fewer (numberOf b) n
+  earlier : (n : ℕ) → dayNumber a ≡ dayNumber b + suc n → daysBetween a b .days ≡ negsuc n
+  earlier n q = ap (λ r. r .days) told ∙ ap (λ m. pos (dayNumber b) -ℤ pos m) q ∙ fewer (dayNumber b) n
 
-  count : (x : Bool) → leb (numberOf a) (numberOf b) ≡ x → Takes a b (daysBetween a b .days)
+  count : (x : Bool) → leb (dayNumber a) (dayNumber b) ≡ x → Takes a b (daysBetween a b .days)
   count true e =
-      let l = leb-true (numberOf a) (numberOf b) e in
-      let n = numberOf b - numberOf a in
-      let q : numberOf b ≡ numberOf a + n = omega arith in
+      let l = leb-true (dayNumber a) (dayNumber b) e in
+      let n = dayNumber b - dayNumber a in
+      let q : dayNumber b ≡ dayNumber a + n = omega arith in
       subst (Takes a b) (sym (later n q)) (on (reached n a b (served-date a h .1) (served-date b k .1) q))
   count false e =
-      let l = leb-false (numberOf a) (numberOf b) e in
-      let n = numberOf a - suc (numberOf b) in
-      let q : numberOf a ≡ numberOf b + suc n = omega arith in
+      let l = leb-false (dayNumber a) (dayNumber b) e in
+      let n = dayNumber a - suc (dayNumber b) in
+      let q : dayNumber a ≡ dayNumber b + suc n = omega arith in
       subst (Takes a b) (sym (earlier n q)) (back (reached (suc n) b a (served-date b k .1) (served-date a h .1) q))
 
   only : (z : ℤ) → Takes a b z → z ≡ daysBetween a b .days
   only z (on {n} e) =
       let s = subst (λ d. isDate d ≡ true) (sym e) (served-date b k .1) in
-      sym (later n (ap numberOf (sym e) ∙ on-number n a (served-date a h .1) s))
+      sym (later n (ap dayNumber (sym e) ∙ on-number n a (served-date a h .1) s))
   only z (back {n} e) =
       let s = subst (λ d. isDate d ≡ true) (sym e) (served-date a h .1) in
-      sym (earlier n (ap numberOf (sym e) ∙ on-number (suc n) b (served-date b k .1) s))
+      sym (earlier n (ap dayNumber (sym e) ∙ on-number (suc n) b (served-date b k .1) s))
 
   pub counting : Counting a b
-  counting = record { code = ap (λ r. r .code) told; takes = count (leb (numberOf a) (numberOf b)) refl; alone = only }
+  counting = record { code = ap (λ r. r .code) told; takes = count (leb (dayNumber a) (dayNumber b)) refl; alone = only }
 
 pub counted-days : CountedDays
 counted-days = counting

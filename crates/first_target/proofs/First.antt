@@ -7,13 +7,13 @@ use borrow.Author.Tests.{eq-eqb, eqb-true, eqb-false, leb-true, leb-false}
 use lib.Dec.{T, eqb, leb}
 use Rattle.calendar.specs.declared.Date.{Date}
 use Rattle.calendar.specs.Calendar.{leap, monthLength, isDate}
-use Rattle.days.specs.Days.{lengthAt, startOf, monthOf, numberOf, weekday, dateOf, nextDay, served}
+use Rattle.days.specs.Days.{lengthAt, monthStart, monthOf, dayNumber, weekday, dateBy, nextDay, served}
 use Rattle.days.proofs.Table.{T-both}
 use Rattle.days.proofs.Laws.{one-date, next-number, number-first, number-most}
 use Rattle.target_days.specs.Easter.{easter}
 use Rattle.target_days.specs.Published.{butcher, butcherMid, butcherEnd}
 use Rattle.target_days.specs.Target.{weekend, fixedClosing, marchDay, closesOn, closing, targetCode, firstFrom, firstTargetDay}
-use Rattle.first_target.specs.First.{First, FirstTold, FirstDays}
+use Rattle.first_target.specs.First.{FirstOpen, FirstTold, FirstDays}
 use Rattle.target_days.proofs.Easter.{by-butcher}
 use Rattle.target_days.proofs.Laws.{Served, served-real, code-28, code-0, first-stop}
 
@@ -28,31 +28,31 @@ walk zero d n = true
 walk (suc c) d n = soon 4 d n && walk c (nextDay d) (suc n)
 
 -- at each of the 35,794 days of 2002 to 2099, fourteen years at a time, which takes a quarter of the memory that it takes at once
-days-2002 : T (walk 5113 (dateOf 2002 1 1) 731)
+days-2002 : T (walk 5113 (dateBy 2002 1 1) 731)
 unfolding walk soon closesOn weekend fixedClosing marchDay butcher butcherMid butcherEnd nextDay weekday served isDate monthLength leap
 days-2002 = tt
 
-days-2016 : T (walk 5114 (dateOf 2016 1 1) 5844)
+days-2016 : T (walk 5114 (dateBy 2016 1 1) 5844)
 unfolding walk soon closesOn weekend fixedClosing marchDay butcher butcherMid butcherEnd nextDay weekday served isDate monthLength leap
 days-2016 = tt
 
-days-2030 : T (walk 5113 (dateOf 2030 1 1) 10958)
+days-2030 : T (walk 5113 (dateBy 2030 1 1) 10958)
 unfolding walk soon closesOn weekend fixedClosing marchDay butcher butcherMid butcherEnd nextDay weekday served isDate monthLength leap
 days-2030 = tt
 
-days-2044 : T (walk 5114 (dateOf 2044 1 1) 16071)
+days-2044 : T (walk 5114 (dateBy 2044 1 1) 16071)
 unfolding walk soon closesOn weekend fixedClosing marchDay butcher butcherMid butcherEnd nextDay weekday served isDate monthLength leap
 days-2044 = tt
 
-days-2058 : T (walk 5113 (dateOf 2058 1 1) 21185)
+days-2058 : T (walk 5113 (dateBy 2058 1 1) 21185)
 unfolding walk soon closesOn weekend fixedClosing marchDay butcher butcherMid butcherEnd nextDay weekday served isDate monthLength leap
 days-2058 = tt
 
-days-2072 : T (walk 5114 (dateOf 2072 1 1) 26298)
+days-2072 : T (walk 5114 (dateBy 2072 1 1) 26298)
 unfolding walk soon closesOn weekend fixedClosing marchDay butcher butcherMid butcherEnd nextDay weekday served isDate monthLength leap
 days-2072 = tt
 
-days-2086 : T (walk 5113 (dateOf 2086 1 1) 31412)
+days-2086 : T (walk 5113 (dateBy 2086 1 1) 31412)
 unfolding walk soon closesOn weekend fixedClosing marchDay butcher butcherMid butcherEnd nextDay weekday served isDate monthLength leap
 days-2086 = tt
 
@@ -65,22 +65,22 @@ unfolding soon
 soon-served zero d n t = T-true (served d) (T-both (served d) _ t .0)
 soon-served (suc f) d n t = T-true (served d) (T-both (served d) _ t .0)
 
-each-day : (c : ℕ) (d : Date) → T (walk c d (numberOf d)) → (e : Date) → isDate e ≡ true → numberOf d ≤ numberOf e → numberOf e < numberOf d + c → T (soon 4 e (numberOf e))
+each-day : (c : ℕ) (d : Date) → T (walk c d (dayNumber d)) → (e : Date) → isDate e ≡ true → dayNumber d ≤ dayNumber e → dayNumber e < dayNumber d + c → T (soon 4 e (dayNumber e))
 unfolding walk
 each-day zero d t e r h k = absurd (omega arith)
 each-day (suc c) d t e r h k =
-    let b = T-both (soon 4 d (numberOf d)) (walk c (nextDay d) (suc (numberOf d))) t in
-    let s = served-real d (soon-served 4 d (numberOf d) (b .0)) .real in
+    let b = T-both (soon 4 d (dayNumber d)) (walk c (nextDay d) (suc (dayNumber d))) t in
+    let s = served-real d (soon-served 4 d (dayNumber d) (b .0)) .real in
     let q = next-number d s in
-    go (eqb (numberOf d) (numberOf e)) refl s (b .0) (λ l. each-day c (nextDay d) (rw q (b .1)) e r (omega arith) (omega arith))
+    go (eqb (dayNumber d) (dayNumber e)) refl s (b .0) (λ l. each-day c (nextDay d) (rw q (b .1)) e r (omega arith) (omega arith))
   where
-    go : (x : Bool) → eqb (numberOf d) (numberOf e) ≡ x → isDate d ≡ true → T (soon 4 d (numberOf d)) → (numberOf d < numberOf e → T (soon 4 e (numberOf e))) → T (soon 4 e (numberOf e))
-    go true z s u g = subst (λ (i : Date). T (soon 4 i (numberOf i))) (one-date d e s r (eqb-true _ _ z)) u
-    go false z s u g = let w = eqb-false (numberOf d) (numberOf e) z in g (omega arith)
+    go : (x : Bool) → eqb (dayNumber d) (dayNumber e) ≡ x → isDate d ≡ true → T (soon 4 d (dayNumber d)) → (dayNumber d < dayNumber e → T (soon 4 e (dayNumber e))) → T (soon 4 e (dayNumber e))
+    go true z s u g = subst (λ (i : Date). T (soon 4 i (dayNumber i))) (one-date d e s r (eqb-true _ _ z)) u
+    go false z s u g = let w = eqb-false (dayNumber d) (dayNumber e) z in g (omega arith)
 
 -- from 1 January of the year y on, which has the day number n
-part : (y c n : ℕ) → T (walk c (dateOf y 1 1) n) → n ≡ numberOf (dateOf y 1 1) → (d : Date) → isDate d ≡ true → n ≤ numberOf d → numberOf d < n + c → T (soon 4 d (numberOf d))
-part y c n t q d r h k = each-day c (dateOf y 1 1) (subst (λ (m : ℕ). T (walk c (dateOf y 1 1) m)) q t) d r (omega arith) (omega arith)
+part : (y c n : ℕ) → T (walk c (dateBy y 1 1) n) → n ≡ dayNumber (dateBy y 1 1) → (d : Date) → isDate d ≡ true → n ≤ dayNumber d → dayNumber d < n + c → T (soon 4 d (dayNumber d))
+part y c n t q d r h k = each-day c (dateBy y 1 1) (subst (λ (m : ℕ). T (walk c (dateBy y 1 1) m)) q t) d r (omega arith) (omega arith)
 
 split : {A : Type 0} (x n : ℕ) → (x < n → A) → (n ≤ x → A) → A
 split {A} x n f g = go (leb n x) refl
@@ -89,43 +89,43 @@ split {A} x n f g = go (leb n x) refl
     go true e = g (leb-true n x e)
     go false e = f (leb-false n x e)
 
-every-day : (d : Date) → served d ≡ true → T (soon 4 d (numberOf d))
-unfolding numberOf monthOf startOf lengthAt monthLength leap
+every-day : (d : Date) → served d ≡ true → T (soon 4 d (dayNumber d))
+unfolding dayNumber monthOf monthStart lengthAt monthLength leap
 every-day d s =
     let r = served-real d s .real in
     let a = number-first d s in
     let z = number-most d r in
-    split (numberOf d) 5844 (λ l. part 2002 5113 731 days-2002 refl d r (omega arith) (omega arith)) (λ g.
-    split (numberOf d) 10958 (λ l. part 2016 5114 5844 days-2016 refl d r (omega arith) (omega arith)) (λ g.
-    split (numberOf d) 16071 (λ l. part 2030 5113 10958 days-2030 refl d r (omega arith) (omega arith)) (λ g.
-    split (numberOf d) 21185 (λ l. part 2044 5114 16071 days-2044 refl d r (omega arith) (omega arith)) (λ g.
-    split (numberOf d) 26298 (λ l. part 2058 5113 21185 days-2058 refl d r (omega arith) (omega arith)) (λ g.
-    split (numberOf d) 31412 (λ l. part 2072 5114 26298 days-2072 refl d r (omega arith) (omega arith)) (λ g.
+    split (dayNumber d) 5844 (λ l. part 2002 5113 731 days-2002 refl d r (omega arith) (omega arith)) (λ g.
+    split (dayNumber d) 10958 (λ l. part 2016 5114 5844 days-2016 refl d r (omega arith) (omega arith)) (λ g.
+    split (dayNumber d) 16071 (λ l. part 2030 5113 10958 days-2030 refl d r (omega arith) (omega arith)) (λ g.
+    split (dayNumber d) 21185 (λ l. part 2044 5114 16071 days-2044 refl d r (omega arith) (omega arith)) (λ g.
+    split (dayNumber d) 26298 (λ l. part 2058 5113 21185 days-2058 refl d r (omega arith) (omega arith)) (λ g.
+    split (dayNumber d) 31412 (λ l. part 2072 5114 26298 days-2072 refl d r (omega arith) (omega arith)) (λ g.
     part 2086 5113 31412 days-2086 refl d r (omega arith) (omega arith)))))))
 
 -- what the test tests is the definition's closing day
-closing-is : (d : Date) → served d ≡ true → closesOn d (numberOf d) (butcher (d .year)) ≡ closing d
+closing-is : (d : Date) → served d ≡ true → closesOn d (dayNumber d) (butcher (d .year)) ≡ closing d
 unfolding closing
-closing-is d s = let r = served-real d s .ranges .year in ap (closesOn d (numberOf d)) (by-butcher (d .year) (r .0) (r .1))
+closing-is d s = let r = served-real d s .ranges .year in ap (closesOn d (dayNumber d)) (by-butcher (d .year) (r .0) (r .1))
 
 -- an open day is its own first
-here : (f : ℕ) (d : Date) → served d ≡ true → closing d ≡ false → First d (firstFrom f d) × (numberOf (firstFrom f d) ≤ numberOf d + f)
+here : (f : ℕ) (d : Date) → served d ≡ true → closing d ≡ false → FirstOpen d (firstFrom f d) × (dayNumber (firstFrom f d) ≤ dayNumber d + f)
 here f d s e =
     let c = code-0 d s e in
     let q = first-stop d f (λ z. let x = c ∙ z in omega arith) in
     rw q (record { open-day = sym c; after = omega arith; before = λ b r h k. absurd (omega arith) }, omega arith)
 
 -- a closing day's first is that of the day after
-past : (d r : Date) → isDate d ≡ true → closing d ≡ true → First (nextDay d) r → First d r
+past : (d r : Date) → isDate d ≡ true → closing d ≡ true → FirstOpen (nextDay d) r → FirstOpen d r
 past d r s k w =
     let q = next-number d s in
     let a = w .after in
-    record { open-day = w .open-day; after = omega arith; before = λ e p h l. go e p l (eqb (numberOf d) (numberOf e)) refl h (w .before e p) }
+    record { open-day = w .open-day; after = omega arith; before = λ e p h l. go e p l (eqb (dayNumber d) (dayNumber e)) refl h (w .before e p) }
   where
-    go : (e : Date) → isDate e ≡ true → numberOf e < numberOf r → (x : Bool) → eqb (numberOf d) (numberOf e) ≡ x → numberOf d ≤ numberOf e
-        → (numberOf (nextDay d) ≤ numberOf e → numberOf e < numberOf r → closing e ≡ true) → closing e ≡ true
-    go e p l true z h g = ap closing (sym (one-date d e s p (eqb-true (numberOf d) (numberOf e) z))) ∙ k
-    go e p l false z h g = let y = eqb-false (numberOf d) (numberOf e) z in let q = next-number d s in g (omega arith) l
+    go : (e : Date) → isDate e ≡ true → dayNumber e < dayNumber r → (x : Bool) → eqb (dayNumber d) (dayNumber e) ≡ x → dayNumber d ≤ dayNumber e
+        → (dayNumber (nextDay d) ≤ dayNumber e → dayNumber e < dayNumber r → closing e ≡ true) → closing e ≡ true
+    go e p l true z h g = ap closing (sym (one-date d e s p (eqb-true (dayNumber d) (dayNumber e) z))) ∙ k
+    go e p l false z h g = let y = eqb-false (dayNumber d) (dayNumber e) z in let q = next-number d s in g (omega arith) l
 
 T-open : (b : Bool) → T (not b) → b ≡ false
 T-open true t = absurd t
@@ -139,35 +139,35 @@ on : (f : ℕ) (d : Date) → targetCode d ≡ 28 → firstFrom (suc f) d ≡ fi
 unfolding firstFrom
 on f d h = rw (eq-eqb (targetCode d) 28 h)
 
-found : (f : ℕ) (d : Date) → T (soon f d (numberOf d)) → First d (firstFrom f d) × (numberOf (firstFrom f d) ≤ numberOf d + f)
+found : (f : ℕ) (d : Date) → T (soon f d (dayNumber d)) → FirstOpen d (firstFrom f d) × (dayNumber (firstFrom f d) ≤ dayNumber d + f)
 unfolding soon
 found zero d t =
-    let s = soon-served 0 d (numberOf d) t in
-    let u = T-both (served d) (not (closesOn d (numberOf d) (butcher (d .year)))) t .1 in
+    let s = soon-served 0 d (dayNumber d) t in
+    let u = T-both (served d) (not (closesOn d (dayNumber d) (butcher (d .year)))) t .1 in
     here 0 d s (sym (closing-is d s) ∙ T-open _ u)
 found (suc f) d t = go (closing d) refl (found f (nextDay d))
   where
     s : served d ≡ true
-    s = soon-served (suc f) d (numberOf d) t
+    s = soon-served (suc f) d (dayNumber d) t
 
     go : (x : Bool) → closing d ≡ x
-        → (T (soon f (nextDay d) (numberOf (nextDay d))) → First (nextDay d) (firstFrom f (nextDay d)) × (numberOf (firstFrom f (nextDay d)) ≤ numberOf (nextDay d) + f))
-        → First d (firstFrom (suc f) d) × (numberOf (firstFrom (suc f) d) ≤ numberOf d + suc f)
+        → (T (soon f (nextDay d) (dayNumber (nextDay d))) → FirstOpen (nextDay d) (firstFrom f (nextDay d)) × (dayNumber (firstFrom f (nextDay d)) ≤ dayNumber (nextDay d) + f))
+        → FirstOpen d (firstFrom (suc f) d) × (dayNumber (firstFrom (suc f) d) ≤ dayNumber d + suc f)
     go false e g = here (suc f) d s e
     go true e g =
         let r = served-real d s .real in
         let q = next-number d r in
-        let u = T-both (served d) (not (closesOn d (numberOf d) (butcher (d .year))) || soon f (nextDay d) (suc (numberOf d))) t .1 in
-        let v = T-on (closesOn d (numberOf d) (butcher (d .year))) (soon f (nextDay d) (suc (numberOf d))) (closing-is d s ∙ e) u in
+        let u = T-both (served d) (not (closesOn d (dayNumber d) (butcher (d .year))) || soon f (nextDay d) (suc (dayNumber d))) t .1 in
+        let v = T-on (closesOn d (dayNumber d) (butcher (d .year))) (soon f (nextDay d) (suc (dayNumber d))) (closing-is d s ∙ e) u in
         let w = g (subst (λ (n : ℕ). T (soon f (nextDay d) n)) (sym q) v) in
         let l = w .1 in
         rw (on f d (sym (code-28 d s e))) (past d (firstFrom f (nextDay d)) r e (w .0), omega arith)
 
 -- of every date of the served years
-pub first-is : (d : Date) → served d ≡ true → First d (firstFrom 4 d)
+pub first-is : (d : Date) → served d ≡ true → FirstOpen d (firstFrom 4 d)
 first-is d s = found 4 d (every-day d s) .0
 
-pub first-near : (d : Date) → served d ≡ true → numberOf (firstFrom 4 d) ≤ numberOf d + 4
+pub first-near : (d : Date) → served d ≡ true → dayNumber (firstFrom 4 d) ≤ dayNumber d + 4
 first-near d s = found 4 d (every-day d s) .1
 
 -- it falls in the served years: what gets the code 0 does
@@ -183,18 +183,18 @@ pub first-served : (d : Date) → served d ≡ true → served (firstFrom 4 d) �
 first-served d s = open-served (firstFrom 4 d) (first-is d s .open-day)
 
 -- and there is no other
-not-after : (d a b : Date) → First d a → First d b → numberOf b ≤ numberOf a
-not-after d a b f g = go (leb (numberOf b) (numberOf a)) refl
+not-after : (d a b : Date) → FirstOpen d a → FirstOpen d b → dayNumber b ≤ dayNumber a
+not-after d a b f g = go (leb (dayNumber b) (dayNumber a)) refl
   where
-    go : (x : Bool) → leb (numberOf b) (numberOf a) ≡ x → numberOf b ≤ numberOf a
-    go true e = leb-true (numberOf b) (numberOf a) e
+    go : (x : Bool) → leb (dayNumber b) (dayNumber a) ≡ x → dayNumber b ≤ dayNumber a
+    go true e = leb-true (dayNumber b) (dayNumber a) e
     go false e =
         let s = open-served a (f .open-day) in
-        let k = g .before a (served-real a s .real) (f .after) (leb-false (numberOf b) (numberOf a) e) in
+        let k = g .before a (served-real a s .real) (f .after) (leb-false (dayNumber b) (dayNumber a) e) in
         let z = code-28 a s k ∙ f .open-day in
         absurd (omega arith)
 
-pub first-one : (d a b : Date) → First d a → First d b → a ≡ b
+pub first-one : (d a b : Date) → FirstOpen d a → FirstOpen d b → a ≡ b
 first-one d a b f g =
     let x = not-after d a b f g in
     let y = not-after d b a g f in
@@ -213,8 +213,8 @@ first-days d s =
     let e : firstTargetDay d .date ≡ firstFrom 4 d = ap (λ r. r .date) q in
     record {
       code = ap (λ r. r .code) q;
-      first = subst (First d) (sym e) (first-is d s);
+      first = subst (FirstOpen d) (sym e) (first-is d s);
       alone = λ r f. first-one d r (firstFrom 4 d) f (first-is d s) ∙ sym e;
-      near = subst (λ r. numberOf r ≤ numberOf d + 4) (sym e) (first-near d s);
+      near = subst (λ r. dayNumber r ≤ dayNumber d + 4) (sym e) (first-near d s);
       inside = ap served e ∙ first-served d s;
     }

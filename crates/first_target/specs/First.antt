@@ -4,21 +4,21 @@ use mathlib.Core.Path.{_≡_}
 use mathlib.Core.Bool.{true}
 use Rattle.calendar.specs.declared.Date.{Date}
 use Rattle.calendar.specs.Calendar.{isDate}
-use Rattle.days.specs.Days.{numberOf, served}
+use Rattle.days.specs.Days.{dayNumber, served}
 use Rattle.target_days.specs.Target.{closing, targetCode, firstTargetDay}
 
 -- r is a TARGET day, on or after d, and each date between is a closing day
-pub record First (d r : Date) : Type 0 where
+pub record FirstOpen (d r : Date) : Type 0 where
   pub open-day : targetCode r ≡ 0
-  pub after : numberOf d ≤ numberOf r
-  pub before : (e : Date) → isDate e ≡ true → numberOf d ≤ numberOf e → numberOf e < numberOf r → closing e ≡ true
+  pub after : dayNumber d ≤ dayNumber r
+  pub before : (e : Date) → isDate e ≡ true → dayNumber d ≤ dayNumber e → dayNumber e < dayNumber r → closing e ≡ true
 
 -- the answer to a date is the first one, no other date is, it comes within four days, and is served
 pub record FirstTold (d : Date) : Type 0 where
   pub code : firstTargetDay d .code ≡ 0
-  pub first : First d (firstTargetDay d .date)
-  pub alone : (r : Date) → First d r → r ≡ firstTargetDay d .date
-  pub near : numberOf (firstTargetDay d .date) ≤ numberOf d + 4
+  pub first : FirstOpen d (firstTargetDay d .date)
+  pub alone : (r : Date) → FirstOpen d r → r ≡ firstTargetDay d .date
+  pub near : dayNumber (firstTargetDay d .date) ≤ dayNumber d + 4
   pub inside : served (firstTargetDay d .date) ≡ true
 
 -- of every date of the served years: "a first TARGET day never falls outside the served years". Proved: `first-days : FirstDays` (proofs/First.antt)

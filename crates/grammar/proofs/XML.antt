@@ -292,8 +292,8 @@ unfolding isChar
 name-is-char b l h = fourth (eqb b 0x09) (eqb b 0x0a) (eqb b 0x0d) (between 0x20 0xd7ff b) _ (rw (le-leb 0x20 b l, le-leb b 0xd7ff (omega arith)))
 
 -- a letter, a digit or _ may stand in an attribute's value
-value-char : (b : ℕ) → isNameByte b ≡ true → xml.isValue b ≡ true
-unfolding xml.isValue
+value-char : (b : ℕ) → isNameByte b ≡ true → xml.isAttributeChar b ≡ true
+unfolding xml.isAttributeChar
 value-char b e =
     let r = name-range b e in
     let l = r .0 in
@@ -308,7 +308,7 @@ id-value : {i : List ℕ} {n : List ℕ} → Id i → xml.STag n (bytes "<" ++ n
 unfolding all xml.isNameStart xml.isNameChar
 id-value {n = n} (id v a k l) =
     let z = attribute-assoc (bytes "<") n (bytes " ") (bytes "Id") (bytes "=") (bytes "\"") v (bytes "\"") (bytes ">") ∙ sym (id-assoc (bytes "<") n (bytes " Id=\"") v (bytes "\"") (bytes ">")) in
-    (subst (xml.STag n) z (xml.start-with space (xml.attribute (xml.name {c = 73} {t = bytes "d"} refl refl) (xml.equals xml.absent xml.absent) (xml.quoted v (all-kind isNameByte xml.isValue value-char v a))) xml.absent), all-append ascii (bytes " Id=\"" ++ v) (bytes "\"") (all-append ascii (bytes " Id=\"") v refl (all-kind isNameByte ascii name-ascii v a)) refl)
+    (subst (xml.STag n) z (xml.start-with space (xml.attribute (xml.name {c = 73} {t = bytes "d"} refl refl) (xml.equals xml.absent xml.absent) (xml.quoted v (all-kind isNameByte xml.isAttributeChar value-char v a))) xml.absent), all-append ascii (bytes " Id=\"" ++ v) (bytes "\"") (all-append ascii (bytes " Id=\"") v refl (all-kind isNameByte ascii name-ascii v a)) refl)
 
 tag-is : {ids : Bool} {n a : List ℕ} → Name n → RootTag n ids a → xml.STag n a × (all ascii a ≡ true)
 unfolding all

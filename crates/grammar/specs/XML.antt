@@ -74,11 +74,11 @@ pub data Eq : List ℕ → Type 0 where
   equals : {v w : List ℕ} → Maybe S v → Maybe S w → Eq (v ++ chars "=" ++ w)
 
 -- [10] AttValue ::= '"' [^<&"]* '"', of characters of [2]
-unfoldable pub isValue : ℕ → Bool
-isValue c = isData c && not (eqb c (byte "\""))
+unfoldable pub isAttributeChar : ℕ → Bool
+isAttributeChar c = isData c && not (eqb c (byte "\""))
 
 pub data AttValue : List ℕ → Type 0 where
-  quoted : (t : List ℕ) → all isValue t ≡ true → AttValue (chars "\"" ++ t ++ chars "\"")
+  quoted : (t : List ℕ) → all isAttributeChar t ≡ true → AttValue (chars "\"" ++ t ++ chars "\"")
 
 -- [41] Attribute ::= Name Eq AttValue
 pub data Attribute : List ℕ → Type 0 where

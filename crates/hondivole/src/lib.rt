@@ -2,7 +2,7 @@
 use calendar::Date;
 use record::Key;
 ghost use mathlib.Core.Bool.{true, false};
-ghost use Rattle.days.specs.Days.{dateOf, daysTold, DaysPromise};
+ghost use Rattle.days.specs.Days.{dateBy, daysTold, DaysPromise};
 ghost use Rattle.target_days.specs.Target.{firstTold, FirstPromise};
 ghost use Rattle.children.specs.Child.{FieldPromise};
 ghost use Rattle.opening.specs.Opening.{OpenReplies};
@@ -73,7 +73,7 @@ pub extern "C" fn hondivole_execute(
     day: u64,
     cents: &mut u64,
 ) -> u64
-    ensures { λ r. ⌜ NoticeReplies (now (table .entry)) true (now (body .entry)) (keyed kind esercizio number) line (dateOf year month day)
+    ensures { λ r. ⌜ NoticeReplies (now (table .entry)) true (now (body .entry)) (keyed kind esercizio number) line (dateBy year month day)
         r (now (cents .exit)) (now (table .exit)) ⌝ }
 {
     let key = Key {
@@ -101,7 +101,7 @@ pub extern "C" fn hondivole_reverse(
     day: u64,
     cents: &mut u64,
 ) -> u64
-    ensures { λ r. ⌜ NoticeReplies (now (table .entry)) false (now (body .entry)) (keyed kind esercizio number) line (dateOf year month day)
+    ensures { λ r. ⌜ NoticeReplies (now (table .entry)) false (now (body .entry)) (keyed kind esercizio number) line (dateBy year month day)
         r (now (cents .exit)) (now (table .exit)) ⌝ }
 {
     let key = Key {
@@ -174,7 +174,7 @@ pub extern "C" fn hondivole_first_target_day(
     first_month: &mut u64,
     first_day: &mut u64,
 ) -> u64
-    ensures { λ r. ⌜ FirstPromise (dateOf year month day) (firstTold r (dateOf (now («first_year» .exit)) (now («first_month» .exit)) (now («first_day» .exit)))) ⌝ }
+    ensures { λ r. ⌜ FirstPromise (dateBy year month day) (firstTold r (dateBy (now («first_year» .exit)) (now («first_month» .exit)) (now («first_day» .exit)))) ⌝ }
 {
     let a = target_days::first_target_day(year, month, day);
     let d = a.date;
@@ -195,7 +195,7 @@ pub extern "C" fn hondivole_days_between(
     to_day: u64,
     days: &mut i64,
 ) -> u64
-    ensures { λ r. ⌜ DaysPromise (dateOf year month day) (dateOf «to_year» «to_month» «to_day») (daysTold r (now (days .exit))) ⌝ }
+    ensures { λ r. ⌜ DaysPromise (dateBy year month day) (dateBy «to_year» «to_month» «to_day») (daysTold r (now (days .exit))) ⌝ }
 {
     let a = days::days_between(year, month, day, to_year, to_month, to_day);
     let signed = a.days;

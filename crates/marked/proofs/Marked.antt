@@ -34,7 +34,7 @@ use Rattle.lines.specs.Lines.{numberedFrom, sumOf, lineCode}
 use Rattle.rules.specs.Rules.{amountsOf, anyExecuted, situationIn, situationOf, placed, stepped, judgeOrder, written, lineMoves, noticeIn, noticeAt, judgeNotice}
 use Rattle.service.specs.Service.{orderComes, orderStored, outcomeBytes, allLeave, allOutcomes, noticeComes}
 use Rattle.address.specs.Address.{addressed}
-use Rattle.days.specs.Days.{lengthAt, startOf, monthOf, numberOf, weekday, served}
+use Rattle.days.specs.Days.{lengthAt, monthStart, monthOf, dayNumber, weekday, served}
 use Rattle.target_days.specs.Easter.{paschal, fullMoon, sundayAfter, easter}
 use Rattle.target_days.specs.Target.{weekend, fixedClosing, marchDay, closesOn, closing, targetCode}
 use Rattle.notices.specs.Notices.{noticeBy}
@@ -42,5 +42,5 @@ use Rattle.desk.specs.Desk.{flowReads}
 use Rattle.marked.specs.Marked.{allHold, marked}
 
 pub all-hold : allHold marked ≡ true
-unfolding isLetter isDigit isAlnum isNameByte isWhite allBytes run runEnd startsWith hasAt textIs isChar sized isTail charSize pastOr charAt be2 be4 be8 put leap monthLength isDate zeros isIdentifying codiceAbi identificativo codiceEnte tipoOperazione digitsAfter digits esercizio numero zeroInFront importo progressivo dataOf clock signs dataOraWritten dataOraWithin dataOra whichAt replacedAfter charactersAfter anagrafica fieldStands repeat until nameAt tagEndAt pieceAt textAt endTagAt optionalAt elementBy childBy childrenBy contentBy elementAt contentAt rootAt rootFrom markupOf childAt childrenChildrenBy childrenFrom keep keptFrom nameIs allKept rowsOf inOrder textOnly fitBy fitsAt fieldsBy fieldsAt firstBad those ordersTextIn inside lineOf linesOf eight linesIn orderOf ordersOf verdictBy recordAt restZero flat8 recordBytes keyIs lineThere lineAbsent lineOk allFrom sum rangesOk recordOk usedAt slotsAt findIn distinct slotOk slotsOk bodyOk codeAt slotsOf placeOf formOk codesFrom findCode distinctCodes headOk entryOk layoutOk agrees bodyHolds bodiesOk validAs centsOf executedIn keptBytes slotsFrom asked needed headAsked entryBytes entriesBytes opened numberedFrom sumOf lineCode amountsOf anyExecuted situationIn situationOf placed stepped judgeOrder written lineMoves noticeIn noticeAt judgeNotice orderComes orderStored outcomeBytes allLeave allOutcomes noticeComes addressed noticeBy targetCode served closing closesOn weekend fixedClosing marchDay easter sundayAfter fullMoon paschal weekday numberOf monthOf startOf lengthAt flowReads
+unfolding isLetter isDigit isAlnum isNameByte isWhite allBytes run runEnd startsWith hasAt textIs isChar sized isTail charSize pastOr charAt be2 be4 be8 put leap monthLength isDate zeros isIdentifying codiceAbi identificativo codiceEnte tipoOperazione digitsAfter digits esercizio numero zeroInFront importo progressivo dataOf clock signs dataOraWritten dataOraWithin dataOra whichAt replacedAfter charactersAfter anagrafica fieldStands repeat until nameAt tagEndAt pieceAt textAt endTagAt optionalAt elementBy childBy childrenBy contentBy elementAt contentAt rootAt rootFrom markupOf childAt childrenChildrenBy childrenFrom keep keptFrom nameIs allKept rowsOf inOrder textOnly fitBy fitsAt fieldsBy fieldsAt firstBad those ordersTextIn inside lineOf linesOf eight linesIn orderOf ordersOf verdictBy recordAt restZero flat8 recordBytes keyIs lineThere lineAbsent lineOk allFrom sum rangesOk recordOk usedAt slotsAt findIn distinct slotOk slotsOk bodyOk codeAt slotsOf placeOf formOk codesFrom findCode distinctCodes headOk entryOk layoutOk agrees bodyHolds bodiesOk validAs centsOf executedIn keptBytes slotsFrom asked needed headAsked entryBytes entriesBytes opened numberedFrom sumOf lineCode amountsOf anyExecuted situationIn situationOf placed stepped judgeOrder written lineMoves noticeIn noticeAt judgeNotice orderComes orderStored outcomeBytes allLeave allOutcomes noticeComes addressed noticeBy targetCode served closing closesOn weekend fixedClosing marchDay easter sundayAfter fullMoon paschal weekday dayNumber monthOf monthStart lengthAt flowReads
 all-hold = refl

@@ -2,14 +2,9 @@
 use mathlib.Core.Path.{_≡_, refl, sym, ap, _∙_}
 use mathlib.Core.List.{List}
 use mathlib.Core.Bool.{Bool, true, false, cond}
-use Prim.Native.Nat.{ℕ, zero, suc, _+_, _-_, _*_, _^_, _≤_, _<_}
+use Prim.Native.Nat.{ℕ, zero, suc, _+_, _*_, _≤_}
 use native.Mathlib.Omega.{arith}
-use lib.IntN.{ℤ, pos, negsuc, subℕ, _-ℤ_}
-use lib.Signed.{mag}
-use lib.Dec.{ltb}
-use mir.Syntax.{w64}
-use mir.Val.{SFits, toZ, ofZ}
-use mir.Facts.{toZ-pos, toZ-ofZ}
+use lib.IntN.{ℤ, pos, _-ℤ_}
 use Rattle.calendar.specs.declared.Date.{Date}
 use Rattle.target_days.specs.Target.{targetCode}
 use Rattle.record.specs.declared.Key.{Key}
@@ -93,28 +88,3 @@ module _ {t : List ℕ} {e base n : ℕ} (S : Served t e base n) where
 
 pub slots-served : {t : List ℕ} {e base n : ℕ} → Slots t e base n → Served t e base n
 slots-served s = record { entry = s .entry; inside = s .inside; few = s .few; valid = s .valid; agreed = s .agreed }
-
--- A DIFFERENCE of two numbers that a signed one holds
-mag-sub : (a b : ℕ) → a < 2 ^ 63 → b < 2 ^ 63 → mag (subℕ a b) < 2 ^ 63
-mag-sub a b h k = go (ltb a b) refl
-  where
-    go : (x : Bool) → ltb a b ≡ x → mag (cond x (negsuc (b - suc a)) (pos (a - b))) < 2 ^ 63
-    go true e = omega arith
-    go false e = omega arith
-
-less-fits : (a b : ℕ) → a < 2 ^ 63 → b < 2 ^ 63 → SFits w64 (pos a -ℤ pos b)
-less-fits a zero h k = record { sfits = omega arith }
-less-fits a (suc b) h k = record { sfits = mag-sub a (suc b) h k }
-
-module _ (a b : ℕ) (h : a < 2 ^ 63) (k : b < 2 ^ 63) where
-  read : toZ w64 a -ℤ toZ w64 b ≡ pos a -ℤ pos b
-  read i = toZ-pos w64 h i -ℤ toZ-pos w64 k i
-
-  pub difference-fits : SFits w64 (toZ w64 a -ℤ toZ w64 b)
-  difference-fits = rw read (less-fits a b h k)
-
-  pub difference-is : toZ w64 (ofZ w64 (toZ w64 a -ℤ toZ w64 b)) ≡ pos a -ℤ pos b
-  difference-is = toZ-ofZ difference-fits ∙ read
-
-  pub difference-kept : {z : ℤ} → z ≡ pos a -ℤ pos b → toZ w64 (ofZ w64 z) ≡ pos a -ℤ pos b
-  difference-kept e = ap (λ (z : ℤ). toZ w64 (ofZ w64 z)) e ∙ toZ-ofZ (less-fits a b h k)

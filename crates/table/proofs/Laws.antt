@@ -19,7 +19,7 @@ use Rattle.body.specs.Inner.{summed}
 use Rattle.body.specs.declared.Sums.the-variants.{Broken, Right}
 use Rattle.body.proofs.Laws.{summed-right, summed-broken}
 use Rattle.entries.specs.Entry.{entrySize, kept, slotsOf, placeOf, formOk, formsOk, codesFrom, distinctCodes}
-use Rattle.entries.proofs.Laws.{Form, form}
+use Rattle.entries.proofs.Laws.{times, Form, form}
 use Rattle.bounds.specs.Bounds.{maxBodies}
 use Rattle.table.specs.declared.Layout.{Layout}
 use Rattle.table.specs.Table.{table1, table2, headSize, bodies, abiOf, headOk, entryOk, layoutOk, agrees, recordsOf, bodyHolds, bodiesOk, validAs}
@@ -41,6 +41,15 @@ known-2 = record { fixed = omega arith; inside = omega arith; small = omega arit
 -- a few entries take few bytes
 pub entries-most : {L : Layout} → Known L → (n : ℕ) → n ≤ maxBodies → L .entry * n ≤ entrySize * maxBodies
 entries-most k n h = mul-le-mul (k .small) h
+
+-- the next of `left` entries, of the n of a table: how far they and it reach
+pub record Next (L : Layout) (n left : ℕ) : Type 0 where
+  pub most : L .entry * n ≤ entrySize * maxBodies
+  pub more : L .entry * left ≡ L .entry + L .entry * (left - 1)
+  pub known : Known L
+
+pub next : {L : Layout} → Known L → (n left : ℕ) → n ≤ maxBodies → 0 < left → Next L n left
+next {L} k n left h l = record { most = entries-most k n h; more = times (L .entry) left (left - 1) (omega arith); known = k }
 
 -- THE HEAD, a way out of the code at a time; n, v, l are the numbers read
 module _ (L : Layout) (t : List ℕ) where

@@ -20,6 +20,9 @@ pub const ABI: usize = 8;
 
 pub const REST: usize = 13;
 
+// An entry of a table 1.
+pub const OLD_ENTRY: usize = 32;
+
 // What tells tables apart: an entry's size, where its rest begins, whether it keeps totals before that, the head's number, the greatest length.
 pub struct Layout {
     pub entry: usize,
@@ -33,7 +36,7 @@ pub fn table_1() -> Layout
     ensures { λ r. ⌜ r ≡ table1 ⌝ }
 {
     Layout {
-        entry: 32,
+        entry: OLD_ENTRY,
         rest: entries::FIXED,
         keeps: false,
         number: 1,

@@ -7,7 +7,7 @@ use lib.Dec.{T, leb, eqb, eqb→eq, leb→le}
 use borrow.Author.Tests.{eq-eqb, eqb-true, eqb-false}
 use lib.ListN.{getD}
 use Rattle.calendar.specs.Calendar.{leap, monthLength}
-use Rattle.days.specs.Days.{lengthAt, startOf, monthOf, numberOf, weekday, dateOf}
+use Rattle.days.specs.Days.{lengthAt, monthStart, monthOf, dayNumber, weekday, dateBy}
 use Rattle.days.proofs.Table.{T-both, allStarts, each-start}
 use Rattle.target_days.specs.Easter.{paschal, fullMoon, sundayAfter, easter}
 use Rattle.target_days.specs.Published.{moonOfEpact, moonByEpact, butcherEnd, butcherMid, butcher, FirstSunday, Agreed, AllAgreed}
@@ -26,12 +26,12 @@ unfolding agrees allStarts lengthAt monthLength leap weekday paschal fullMoon su
 all-agree = tt
 
 pub by-butcher : (y : ℕ) → 2000 ≤ y → y ≤ 2099 → butcher y ≡ easter y
-unfolding agrees easter monthOf numberOf
+unfolding agrees easter monthOf dayNumber
 by-butcher y h k =
     let t = each-start agrees 1200 all-agree (12 * (y - 2000) + 2) (omega arith) in
     let w : (12 * (y - 2000) + 2) % 12 ≡ 2 = omega arith in
     let q : 2000 + (12 * (y - 2000) + 2) / 12 ≡ y = omega arith in
-    let s = startOf (12 * (y - 2000) + 2) in
+    let s = monthStart (12 * (y - 2000) + 2) in
     let z : s ≡ s + 0 = omega arith in
     eqb→eq (butcher y) (sundayAfter s (fullMoon y)) (rw (w, q) at t) ∙ ap (λ (n : ℕ). sundayAfter n (fullMoon y)) z
 
@@ -82,7 +82,7 @@ all-agreed y h k =
     record {
       moon = by-epact y h k;
       equinox = r;
-      sunday = first-sunday (numberOf (dateOf y 3 1)) (fullMoon y) (omega arith);
+      sunday = first-sunday (dayNumber (dateBy y 3 1)) (fullMoon y) (omega arith);
       rule = by-butcher y h k;
     }
 

@@ -8,7 +8,7 @@ use lib.Dec.{eqb}
 use Rattle.calendar.specs.declared.Date.{Date}
 use Rattle.calendar.specs.Calendar.{isDate}
 use Rattle.calendar.proofs.Laws.{Ranges}
-use Rattle.days.specs.Days.{numberOf, weekday, dateOf, nextDay, served, counted}
+use Rattle.days.specs.Days.{dayNumber, weekday, dateBy, nextDay, served, counted}
 use Rattle.days.proofs.Laws.{placed, served-date, counted-date}
 use Rattle.target_days.specs.Easter.{easter}
 use Rattle.target_days.specs.Target.{weekend, fixedClosing, marchDay, closesOn, closing, targetCode, firstFrom, firstTargetDay}
@@ -33,14 +33,14 @@ pub served-real : (d : Date) → served d ≡ true → Served d
 served-real d s = let r = served-date d s in record { real = r .1; from = r .0; ranges = placed d (r .1) .ranges }
 
 module _ (d : Date) where
-  pub week-of : {n w : ℕ} {b : Bool} → served d ≡ true → n ≡ counted d → w ≡ weekday n → b ≡ weekend w → weekend (weekday (numberOf d)) ≡ b
+  pub week-of : {n w : ℕ} {b : Bool} → served d ≡ true → n ≡ counted d → w ≡ weekday n → b ≡ weekend w → weekend (weekday (dayNumber d)) ≡ b
   week-of s en ew eb = let e = en ∙ counted-date d (served-real d s .real) in sym (eb ∙ ap weekend (ew ∙ ap weekday e))
 
-  pub shut-week : weekend (weekday (numberOf d)) ≡ true → true ≡ closing d
+  pub shut-week : weekend (weekday (dayNumber d)) ≡ true → true ≡ closing d
   unfolding closing closesOn
   shut-week h = rw h
 
-  module _ (h : weekend (weekday (numberOf d)) ≡ false) where
+  module _ (h : weekend (weekday (dayNumber d)) ≡ false) where
     pub shut-fixed : fixedClosing (d .month) (d .day) ≡ true → true ≡ closing d
     unfolding closing closesOn
     shut-fixed k = rw (h, k)
@@ -75,16 +75,16 @@ module _ (d : Date) where
       go true b q z = q
       go false b q z = absurd (omega arith)
 
-  pub next-in-month : isDate (dateOf (d .year) (d .month) (d .day + 1)) ≡ true → dateOf (d .year) (d .month) (d .day + 1) ≡ nextDay d
+  pub next-in-month : isDate (dateBy (d .year) (d .month) (d .day + 1)) ≡ true → dateBy (d .year) (d .month) (d .day + 1) ≡ nextDay d
   unfolding nextDay
   next-in-month h = rw h
 
-  module _ (h : isDate (dateOf (d .year) (d .month) (d .day + 1)) ≡ false) where
-    pub next-month : isDate (dateOf (d .year) (d .month + 1) 1) ≡ true → dateOf (d .year) (d .month + 1) 1 ≡ nextDay d
+  module _ (h : isDate (dateBy (d .year) (d .month) (d .day + 1)) ≡ false) where
+    pub next-month : isDate (dateBy (d .year) (d .month + 1) 1) ≡ true → dateBy (d .year) (d .month + 1) 1 ≡ nextDay d
     unfolding nextDay
     next-month k = rw (h, k)
 
-    pub next-year : isDate (dateOf (d .year) (d .month + 1) 1) ≡ false → dateOf (d .year + 1) 1 1 ≡ nextDay d
+    pub next-year : isDate (dateBy (d .year) (d .month + 1) 1) ≡ false → dateBy (d .year + 1) 1 1 ≡ nextDay d
     unfolding nextDay
     next-year k = rw (h, k)
 
@@ -99,7 +99,7 @@ module _ (d : Date) where
   first-step zero l h = absurd (omega arith)
   first-step (suc n) l h = let q : n ≡ suc n - 1 = omega arith in rw (eq-eqb (targetCode d) 28 h) (ap (λ (k : ℕ). firstFrom k (nextDay d)) q)
 
-  pub first-none : served d ≡ false → _≡_ {A = FirstDay} (record { code = 27; date = dateOf 0 0 0 }) (firstTargetDay d)
+  pub first-none : served d ≡ false → _≡_ {A = FirstDay} (record { code = 27; date = dateBy 0 0 0 }) (firstTargetDay d)
   unfolding firstTargetDay
   first-none h = rw h
 

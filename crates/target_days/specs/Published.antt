@@ -3,7 +3,7 @@ use Prim.Native.Nat.{ℕ, _+_, _-_, _*_, _/_, _%_, _≤_, _<_}
 use mathlib.Core.Path.{_≡_}
 use mathlib.Core.Bool.{cond, _&&_, _||_}
 use lib.Dec.{ltb, eqb}
-use Rattle.days.specs.Days.{numberOf, weekday, dateOf}
+use Rattle.days.specs.Days.{dayNumber, weekday, dateBy}
 use Rattle.target_days.specs.Easter.{fullMoon, easter}
 
 -- the full moon by the epact e, 0 to 29, the moon's age on 1 January: the new moon's 14th day, on or after 21 March, with the two exceptions for
@@ -37,7 +37,7 @@ pub record FirstSunday (s moon e : ℕ) : Type 0 where
 pub record Agreed (y : ℕ) : Type 0 where
   pub moon : moonByEpact y ≡ fullMoon y
   pub equinox : (21 ≤ fullMoon y) × (fullMoon y ≤ 49)
-  pub sunday : FirstSunday (numberOf (dateOf y 3 1)) (fullMoon y) (easter y)
+  pub sunday : FirstSunday (dayNumber (dateBy y 3 1)) (fullMoon y) (easter y)
   pub rule : butcher y ≡ easter y
 
 -- of every year of the table. Proved: `all-agreed : AllAgreed` (proofs/Easter.antt)

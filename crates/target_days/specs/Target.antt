@@ -4,7 +4,7 @@ use mathlib.Core.Path.{_≡_}
 use mathlib.Core.Bool.{Bool, cond, _&&_, _||_}
 use lib.Dec.{eqb}
 use Rattle.calendar.specs.declared.Date.{Date}
-use Rattle.days.specs.Days.{numberOf, weekday, nextDay, served, dateOf}
+use Rattle.days.specs.Days.{dayNumber, weekday, nextDay, served, dateBy}
 use Rattle.target_days.specs.declared.FirstDay.{FirstDay}
 use Rattle.target_days.specs.Easter.{easter}
 
@@ -28,7 +28,7 @@ closesOn d n e =
     || (eqb (marchDay (d .month) (d .day) + 2) e || eqb (marchDay (d .month) (d .day)) (e + 1)))
 
 unfoldable pub closing : Date → Bool
-closing d = closesOn d (numberOf d) (easter (d .year))
+closing d = closesOn d (dayNumber d) (easter (d .year))
 
 -- "Refusals: 27 no date or outside the years, 28 closing day"
 unfoldable pub targetCode : Date → ℕ
@@ -44,7 +44,7 @@ abbrev pub firstTold : ℕ → Date → FirstDay
 firstTold c d = record { code = c; date = d }
 
 unfoldable pub firstTargetDay : Date → FirstDay
-firstTargetDay d = cond (served d) (firstTold 0 (firstFrom 4 d)) (firstTold 27 (dateOf 0 0 0))
+firstTargetDay d = cond (served d) (firstTold 0 (firstFrom 4 d)) (firstTold 27 (dateBy 0 0 0))
 
 -- THE PROMISE of the call, which has no table and no buffer
 abbrev pub FirstPromise : Date → FirstDay → Type 0

@@ -4,7 +4,7 @@ ghost use mathlib.Core.Path.{_≡_};
 ghost use mathlib.Core.Bool.{true};
 ghost use Prim.Native.Nat.{_≤_};
 ghost use Rattle.calendar.specs.Calendar.{isDate};
-ghost use Rattle.days.specs.Days.{served, dateOf, nextDay};
+ghost use Rattle.days.specs.Days.{served, dateBy, nextDay};
 ghost use Rattle.target_days.specs.Easter.{easter};
 ghost use Rattle.target_days.specs.Target.{weekend, fixedClosing, marchDay, closing, targetCode, firstFrom, FirstPromise};
 
@@ -147,7 +147,7 @@ fn first_from(d: Date) -> Date
 
 // The first TARGET day on or after a date; 27 with zeros where that is no date or outside the years.
 pub fn first_target_day(year: u64, month: u64, day: u64) -> FirstDay
-    ensures { λ r. ⌜ FirstPromise (dateOf year month day) r ⌝ }
+    ensures { λ r. ⌜ FirstPromise (dateBy year month day) r ⌝ }
 {
     let d = Date { year, month, day };
     if !days::is_served(d) {

@@ -32,7 +32,7 @@ use Rattle.opening.specs.declared.Opened.{Opened}
 use Rattle.opening.specs.declared.Opened.the-variants.{Open, WrongRequest, WrongLength}
 use Rattle.opening.specs.Opening.{openOf, openCode, OpenPromise}
 use Rattle.tree.proofs.Theorem.{answered}
-use Rattle.theorems.specs.Engine.{recordsOf}
+use Rattle.theorems.specs.Engine.{bodyRecords}
 use Rattle.theorems.specs.Condition2.{Condition2}
 use Rattle.theorems.proofs.Given.{given-when}
 use Rattle.theorems.proofs.Exactly.{order-exactly, order-answer, notice-exactly, notice-answer, no-such-key}
@@ -52,12 +52,12 @@ module _ (t : List ℕ) (ok : tableOk t ≡ true) (code : List ℕ) (b : ℕ) (e
   is-body = rw (ok, e)
 
   noticed-is : (executing : Bool) (k : Key) (line : ℕ) (d : Date) → targetCode d ≡ 0 → (a : NoticeAnswer) (t′ : List ℕ) → NoticePromise t executing code k line d a t′
-      → a ≡ noticed (judgeNotice executing k line (recordsOf b t))
+      → a ≡ noticed (judgeNotice executing k line (bodyRecords b t))
   unfolding noticeBy noticeComes
   noticed-is executing k line d o a t′ p = only-target t code executing k line d o p .0 ∙ ap (noticeBy t executing k line) is-body
 
   moved-is : (executing : Bool) (k : Key) (line : ℕ) (d : Date) → targetCode d ≡ 0 → (a : NoticeAnswer) (t′ : List ℕ) → NoticePromise t executing code k line d a t′
-      → recordsAt t′ base size ≡ recordsMoved executing line (recordsOf b t) (judgeNotice executing k line (recordsOf b t))
+      → recordsAt t′ base size ≡ recordsMoved executing line (bodyRecords b t) (judgeNotice executing k line (bodyRecords b t))
   unfolding noticeTableBy
   moved-is executing k line d o a t′ p =
       ap (λ (u : List ℕ). recordsAt u base size) (only-target t code executing k line d o p .1 ∙ ap (noticeTableBy t executing k line) is-body)

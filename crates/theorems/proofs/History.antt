@@ -33,7 +33,7 @@ use Rattle.opening.specs.Opening.{opened}
 use Rattle.opening.proofs.Valid.{opened-valid, opened-bodies, past}
 use Rattle.isolation.proofs.Runs.{good-run}
 use Rattle.isolation.proofs.History.{balance}
-use Rattle.theorems.specs.Engine.{Call, flow, execute, reverse, totals, journal, Answer, Engine, who, machine, recordsOf, tableAfter, namesOn, position}
+use Rattle.theorems.specs.Engine.{Call, flow, execute, reverse, totals, journal, Answer, Engine, who, machine, tableAfter, namesOn, position, bodyRecords}
 use Rattle.theorems.specs.History.{Weight, ofExecution, ofReversal, executions, reversals, weight, cash, perTime, logOf, History, HistoryValid, HistoryOpened}
 use Rattle.rules.specs.Worth.{Which, Value, worth, ofKind, itsCents, withKey, onLine}
 use Rattle.theorems.proofs.Steps.{answer, after, one-step}
@@ -52,7 +52,7 @@ module _ (E : Engine) (t₀ : List ℕ) (r : tableOk t₀ ≡ true) (cs : List C
   pub good : Good t₀ now
   good = good-run (machine E t₀) (Good t₀) (laws E t₀ r) cs t₀ (fresh t₀ r)
 
-  records-now : (b : ℕ) → b < bodies t₀ → recordsOf b now ≡ recordsAt now (base t₀ b) (size t₀ b)
+  records-now : (b : ℕ) → b < bodies t₀ → bodyRecords b now ≡ recordsAt now (base t₀ b) (size t₀ b)
   records-now b l = λ i. recordsAt now (place-is t₀ r now good b l i) (slots-is t₀ r now good b l i)
 
 -- a number that a body's records tell: no order moves it, and a notice moves it by what its answer weighs
@@ -132,7 +132,7 @@ module _ (t₀ : List ℕ) (r : tableOk t₀ ≡ true) (w : Weight) (h : List Re
         (λ i. (sym (d .0) i, sym (d .1) i)) (subst (Moves c t) e (moves t g c))
 
     -- THE ARGUMENT
-    balances : h (recordsOf b (tableAfter E t₀ cs)) + reversals w (logOf E t₀ b cs) ≡ h (recordsOf b t₀) + executions w (logOf E t₀ b cs)
+    balances : h (bodyRecords b (tableAfter E t₀ cs)) + reversals w (logOf E t₀ b cs) ≡ h (bodyRecords b t₀) + executions w (logOf E t₀ b cs)
     balances =
         let e = ap h (records-now E t₀ r cs b l) in
         let x = balance (machine E t₀) (Good t₀) (laws E t₀ r) b l (held b) (ofExecution w) (ofReversal w)
@@ -160,13 +160,13 @@ worth-weighs p v = record { orders = orders-worth p v; executes = executes; reve
 pub history : HistoryValid
 history E t₀ r b l cs = record {
   cash-history = λ kind.
-      let x = cents-worth kind (recordsOf b (tableAfter E t₀ cs)) in
-      let y = cents-worth kind (recordsOf b t₀) in
+      let x = cents-worth kind (bodyRecords b (tableAfter E t₀ cs)) in
+      let y = cents-worth kind (bodyRecords b t₀) in
       omega (arith, worths (ofKind kind) itsCents);
   worth-history = worths;
   line-most = λ key line.
       let w = parts (tableAfter E t₀ cs) (base t₀ b) (size t₀ b) (ready t₀ r (tableAfter E t₀ cs) (good E t₀ r cs) b l .1) in
-      one-most line key (recordsOf b (tableAfter E t₀ cs)) (ap distinct (records-now E t₀ r cs b l) ∙ w .keys);
+      one-most line key (bodyRecords b (tableAfter E t₀ cs)) (ap distinct (records-now E t₀ r cs b l) ∙ w .keys);
   totals-are = λ code e a p.
       let g = good E t₀ r cs in
       let x = condition2 .totals (tableAfter E t₀ cs) (g .ok) code b (find-is t₀ r (tableAfter E t₀ cs) g code ∙ found-at (bodyOf t₀ code) b e) a p in
@@ -174,11 +174,11 @@ history E t₀ r b l cs = record {
 }
   where
     worths : (p : Which) (v : Value)
-        → worth p v (recordsOf b (tableAfter E t₀ cs)) + reversals (weight p v) (logOf E t₀ b cs) ≡ worth p v (recordsOf b t₀) + executions (weight p v) (logOf E t₀ b cs)
+        → worth p v (bodyRecords b (tableAfter E t₀ cs)) + reversals (weight p v) (logOf E t₀ b cs) ≡ worth p v (bodyRecords b t₀) + executions (weight p v) (logOf E t₀ b cs)
     worths p v = balances t₀ r (weight p v) (worth p v) (worth-weighs p v) E b l cs
 
 -- FROM OPENING ON
-empty : (q : List ℕ) → requestOk q ≡ true → (b : ℕ) → b < bodies (opened q) → recordsOf b (opened q) ≡ []
+empty : (q : List ℕ) → requestOk q ≡ true → (b : ℕ) → b < bodies (opened q) → bodyRecords b (opened q) ≡ []
 empty q ok b l =
     let i = inside (opened q) (opened-valid q ok) b l .0 in
     let n = opened-bodies q ok in
@@ -186,8 +186,8 @@ empty q ok b l =
     let m = slotsOf (opened q) (entryOf b) in
     empty-records (opened q) at m (get-zeros (opened q) at (at + slotSize * m) (λ j x y. past q ok j (omega arith)))
 
-none-yet : (q t₀ : List ℕ) → OpenedBy q t₀ → (b : ℕ) → b < bodies t₀ → recordsOf b t₀ ≡ []
-none-yet q t₀ f b l = ap (recordsOf b) (f .filled) ∙ empty q (f .right) b (subst (λ (x : List ℕ). b < bodies x) (f .filled) l)
+none-yet : (q t₀ : List ℕ) → OpenedBy q t₀ → (b : ℕ) → b < bodies t₀ → bodyRecords b t₀ ≡ []
+none-yet q t₀ f b l = ap (bodyRecords b) (f .filled) ∙ empty q (f .right) b (subst (λ (x : List ℕ). b < bodies x) (f .filled) l)
 
 -- a number that starts at 0 and ends at 0 or 1
 nought-or-one : (n start gains losses : ℕ) → n ≤ 1 → start ≡ 0 → n + losses ≡ start + gains → (gains ≡ losses) ⊎ (gains ≡ losses + 1)
@@ -204,7 +204,7 @@ history-opened E q t t₀ p b l cs = record {
         ap (λ (n : ℕ). n + reversals (cash 2) (logOf E t₀ b cs)) (x .1) ∙ cash-opened 2,
       );
   line-opened = λ key line.
-      nought-or-one (worth (withKey key) (onLine line) (recordsOf b (tableAfter E t₀ cs))) (worth (withKey key) (onLine line) (recordsOf b t₀))
+      nought-or-one (worth (withKey key) (onLine line) (bodyRecords b (tableAfter E t₀ cs))) (worth (withKey key) (onLine line) (bodyRecords b t₀))
       (executions (perTime key line) (logOf E t₀ b cs)) (reversals (perTime key line) (logOf E t₀ b cs))
       (H .line-most key line) (ap (worth (withKey key) (onLine line)) none) (H .worth-history (withKey key) (onLine line));
 }
@@ -212,10 +212,10 @@ history-opened E q t t₀ p b l cs = record {
     H : History E t₀ b cs
     H = history E t₀ (open-valid q t₀ (answered-0 q t t₀ p)) b l cs
 
-    none : recordsOf b t₀ ≡ []
+    none : bodyRecords b t₀ ≡ []
     none = none-yet q t₀ (answered-0 q t t₀ p) b l
 
-    cash-opened : (kind : ℕ) → centsOf kind (recordsOf b (tableAfter E t₀ cs)) + reversals (cash kind) (logOf E t₀ b cs) ≡ executions (cash kind) (logOf E t₀ b cs)
+    cash-opened : (kind : ℕ) → centsOf kind (bodyRecords b (tableAfter E t₀ cs)) + reversals (cash kind) (logOf E t₀ b cs) ≡ executions (cash kind) (logOf E t₀ b cs)
     cash-opened kind =
-        let z : centsOf kind (recordsOf b t₀) ≡ 0 = ap (centsOf kind) none in
+        let z : centsOf kind (bodyRecords b t₀) ≡ 0 = ap (centsOf kind) none in
         omega (arith, H .cash-history kind)

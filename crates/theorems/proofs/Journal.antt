@@ -13,7 +13,7 @@ use Rattle.body.proofs.Slots.{parts}
 use Rattle.journal.specs.Journal.{movementsIn, wholeMovements, executedLines, journalCode, checked, journalOf, JournalPromise}
 use Rattle.journal.specs.Told.{Told}
 use Rattle.journal.proofs.Told.{journal-told}
-use Rattle.theorems.specs.Engine.{recordsOf}
+use Rattle.theorems.specs.Engine.{bodyRecords}
 use Rattle.theorems.specs.Journal.{Accepts, JournalAnswers}
 use Rattle.theorems.proofs.Condition2.{is-body, no-table, no-body}
 
@@ -27,7 +27,7 @@ module _ (t code s : List ℕ) (c : ℕ) (p : JournalPromise t code s c) where
   to-7 ok e = p ∙ rw (no-body t code ok e)
 
   module _ (b : ℕ) (ok : tableOk t ≡ true) (e : bodyOf t code ≡ At b) where
-    to-body : c ≡ checked (recordsOf b t) s
+    to-body : c ≡ checked (bodyRecords b t) s
     unfolding journalOf
     to-body = p ∙ rw (is-body t ok code b e)
 
@@ -35,14 +35,14 @@ module _ (t code s : List ℕ) (c : ℕ) (p : JournalPromise t code s c) where
     unfolding checked
     to-29 w = to-body ∙ rw w
 
-    to-code : wholeMovements s ≡ true → c ≡ journalCode (executedLines (recordsOf b t)) [] (movementsIn s)
+    to-code : wholeMovements s ≡ true → c ≡ journalCode (executedLines (bodyRecords b t)) [] (movementsIn s)
     unfolding checked
     to-code w = to-body ∙ rw w
 
-    to-told : Told (recordsOf b t) (movementsIn s)
+    to-told : Told (bodyRecords b t) (movementsIn s)
     to-told =
         let w = slots t code (is-body t ok code b e) in
-        journal-told (recordsOf b t) (parts t (placeOf t (entryOf b)) (slotsOf t (entryOf b)) (w .valid) .keys) (movementsIn s)
+        journal-told (bodyRecords b t) (parts t (placeOf t (entryOf b)) (slotsOf t (entryOf b)) (w .valid) .keys) (movementsIn s)
 
   accepts : c ≡ 0 → Accepts t code s
   accepts z = valid (tableOk t) refl

@@ -15,3 +15,4 @@ pub mod Exactly
 pub mod Totals
 pub mod Searches
 pub mod Journal
+pub mod Converted

@@ -36,7 +36,7 @@ use Rattle.opening.specs.declared.Opened.{Opened}
 use Rattle.opening.specs.Opening.{openCode, OpenPromise}
 use Rattle.desk.specs.declared.FlowAnswer.{FlowAnswer}
 use Rattle.desk.specs.Desk.{FlowPromise, flowCode, flowReply}
-use Rattle.theorems.specs.Engine.{recordsOf}
+use Rattle.theorems.specs.Engine.{bodyRecords}
 use Rattle.theorems.specs.Given.{breaksAt, breaksBy, flowRefusals, firstOf}
 use Rattle.theorems.specs.Codes.{outcomeCodes, zeroCodes}
 
@@ -93,15 +93,15 @@ pub record Taken (t f : List ℕ) (a : FlowAnswer) (t′ out′ : List ℕ) : Ty
   -- its orders, for the flow's esercizio, get the rules' codes over the body's records, and leave the records that the rules give (rules/specs/Effects)
   pub orders : flowReply a .orders ≡ length (flowOrders f at)
   pub codes : outcomeCodes (length (flowOrders f at)) out′
-      ≡ codesInTurn (slotsOf t (entryOf body)) (headerOf f at .esercizio) (flowOrders f at) (recordsOf body t)
+      ≡ codesInTurn (slotsOf t (entryOf body)) (headerOf f at .esercizio) (flowOrders f at) (bodyRecords body t)
   pub records : recordsAt t′ (placeOf t (entryOf body)) (slotsOf t (entryOf body))
-      ≡ allRecords (slotsOf t (entryOf body)) (headerOf f at .esercizio) (flowOrders f at) (recordsOf body t)
+      ≡ allRecords (slotsOf t (entryOf body)) (headerOf f at .esercizio) (flowOrders f at) (bodyRecords body t)
   -- "The flow's answer carries their sum, shown to be at most orders times the body's slots" (document 02, Req 09)
-  pub steps : flowReply a .steps ≡ stepsInTurn (slotsOf t (entryOf body)) (headerOf f at .esercizio) (flowOrders f at) (recordsOf body t)
+  pub steps : flowReply a .steps ≡ stepsInTurn (slotsOf t (entryOf body)) (headerOf f at .esercizio) (flowOrders f at) (bodyRecords body t)
   pub steps-bound : flowReply a .steps ≤ flowReply a .orders * slotsOf t (entryOf body)
   -- "An order is accepted exactly when no listed refusal applies", on what the orders before it left
   pub exactly : (before : List Ordinativo) (o : Ordinativo) (after : List Ordinativo) → flowOrders f at ≡ before ++ (o ∷ after)
-      → let rs = allRecords (slotsOf t (entryOf body)) (headerOf f at .esercizio) before (recordsOf body t) in
+      → let rs = allRecords (slotsOf t (entryOf body)) (headerOf f at .esercizio) before (bodyRecords body t) in
       Exactly (orderCode (judgeOrder (slotsOf t (entryOf body)) (headerOf f at .esercizio) o rs) ≡ 0) (None (Applies (slotsOf t (entryOf body)) (headerOf f at .esercizio) o rs))
 
 pub record Condition2 : Type 0 where
@@ -118,18 +118,18 @@ pub record Condition2 : Type 0 where
   pub accepted : (t f out : List ℕ) (a : FlowAnswer) (t′ out′ : List ℕ) → FlowPromise t f out a t′ out′ → flowCode a ≡ 0
       → flowReply a .accepted ≡ zeroCodes (outcomeCodes (flowReply a .orders) out′)
   -- "execution and reversal is answered by the .. notice rules there": by those over the records of the body with that code
-  pub notices : EachNotice (λ t b executing k line a t′. a ≡ noticed (judgeNotice executing k line (recordsOf b t)))
+  pub notices : EachNotice (λ t b executing k line a t′. a ≡ noticed (judgeNotice executing k line (bodyRecords b t)))
   pub moved : EachNotice (λ t b executing k line a t′.
-      recordsAt t′ (placeOf t (entryOf b)) (slotsOf t (entryOf b)) ≡ recordsMoved executing line (recordsOf b t) (judgeNotice executing k line (recordsOf b t)))
+      recordsAt t′ (placeOf t (entryOf b)) (slotsOf t (entryOf b)) ≡ recordsMoved executing line (bodyRecords b t) (judgeNotice executing k line (bodyRecords b t)))
   -- "An order is accepted exactly when no listed refusal applies." (What each says: rules/specs/Listed.) Its code is another exactly when that refusal
   -- is the first that does
-  pub exactly : EachOrder (λ t b year o. Exactly (orderCode (comesTo t b year o) ≡ 0) (None (Applies (slotsOf t (entryOf b)) year o (recordsOf b t))))
+  pub exactly : EachOrder (λ t b year o. Exactly (orderCode (comesTo t b year o) ≡ 0) (None (Applies (slotsOf t (entryOf b)) year o (bodyRecords b t))))
   pub answer : EachOrder (λ t b year o. (c : ℕ) → (c ≡ 0 → ⊥)
-      → Exactly (orderCode (comesTo t b year o) ≡ c) (InTurn turn (Applies (slotsOf t (entryOf b)) year o (recordsOf b t)) c))
+      → Exactly (orderCode (comesTo t b year o) ≡ c) (InTurn turn (Applies (slotsOf t (entryOf b)) year o (bodyRecords b t)) c))
   -- and so is a notice
-  pub notice-exactly : EachNotice (λ t b executing k line a t′. Exactly (noticeCodeOf a ≡ 0) (None (NoticeApplies executing k line (recordsOf b t))))
+  pub notice-exactly : EachNotice (λ t b executing k line a t′. Exactly (noticeCodeOf a ≡ 0) (None (NoticeApplies executing k line (bodyRecords b t))))
   pub notice-answer : EachNotice (λ t b executing k line a t′. (c : ℕ) → (c ≡ 0 → ⊥)
-      → Exactly (noticeCodeOf a ≡ c) (InTurn noticeTurn (NoticeApplies executing k line (recordsOf b t)) c))
+      → Exactly (noticeCodeOf a ≡ c) (InTurn noticeTurn (NoticeApplies executing k line (bodyRecords b t)) c))
   -- "1 the table isn't valid; .. 7 no body has this code", of a notice and of totals: "A refusal gives zeros"
   pub notice-refused : (t : List ℕ) (executing : Bool) (code : List ℕ) (k : Key) (line : ℕ) (d : Date) (a : NoticeAnswer) (t′ : List ℕ)
       → NoticePromise t executing code k line d a t′
@@ -145,5 +145,5 @@ pub record Condition2 : Type 0 where
   pub no-such-order : EachNotice (λ t b executing k line a t′. Strange k → (a ≡ Declined 16) × (t′ ≡ t))
   -- "a body's totals are those of its records"
   pub totals : (t : List ℕ) → tableOk t ≡ true → (code : List ℕ) (b : ℕ) → bodyOf t code ≡ At b → (a : TotalsAnswer) → TotalsPromise t code a
-      → (a .code ≡ 0) × (a .used ≡ length (recordsOf b t)) × (a .paid ≡ centsOf mandatoKind (recordsOf b t)) × (a .collected ≡ centsOf reversaleKind (recordsOf b t))
+      → (a .code ≡ 0) × (a .used ≡ length (bodyRecords b t)) × (a .paid ≡ centsOf mandatoKind (bodyRecords b t)) × (a .collected ≡ centsOf reversaleKind (bodyRecords b t))
       × (a .balance ≡ pos (a .collected) -ℤ pos (a .paid))

@@ -108,8 +108,8 @@ abbrev pub who : List ℕ → Call → Option ℕ
 who t₀ c = position t₀ (names t₀ c)
 
 -- BODY b of a table t: its records
-abbrev pub recordsOf : ℕ → List ℕ → List Record
-recordsOf b t = recordsAt t (placeOf t (entryOf b)) (slotsOf t (entryOf b))
+abbrev pub bodyRecords : ℕ → List ℕ → List Record
+bodyRecords b t = recordsAt t (placeOf t (entryOf b)) (slotsOf t (entryOf b))
 
 -- WHAT BODY b OWNS of a table t: its entry's bytes past the fixed ones, and the bytes of its slots, where t₀ has them
 abbrev pub owned : List ℕ → ℕ → List ℕ → List ℕ

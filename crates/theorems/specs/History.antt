@@ -18,7 +18,7 @@ use Rattle.rules.specs.Worth.{Which, Value, worth, ofKind, itsCents, withKey, o
 use Rattle.isolation.specs.Order.{mine}
 use Rattle.isolation.specs.Machine.{whose, log}
 use Rattle.isolation.specs.Tally.{tally}
-use Rattle.theorems.specs.Engine.{Call, flow, execute, reverse, totals, journal, Answer, ofFlow, ofNotice, ofTotals, ofJournal, Engine, position, machine, recordsOf, tableAfter}
+use Rattle.theorems.specs.Engine.{Call, flow, execute, reverse, totals, journal, Answer, ofFlow, ofNotice, ofTotals, ofJournal, Engine, position, machine, tableAfter, bodyRecords}
 
 -- what an answer to a notice for line n of the order with this key weighs
 abbrev pub Weight : Type 0
@@ -83,20 +83,20 @@ module _ (E : Engine) (t₀ : List ℕ) (b : ℕ) (cs : List Call) where
   pub record History : Type 0 where
     -- the cents of its records of a kind, with those of its accepted reversals, are those that t₀ had, with those of its accepted executions
     pub cash-history : (kind : ℕ)
-        → centsOf kind (recordsOf b now) + reversals (cash kind) L ≡ centsOf kind (recordsOf b t₀) + executions (cash kind) L
+        → centsOf kind (bodyRecords b now) + reversals (cash kind) L ≡ centsOf kind (bodyRecords b t₀) + executions (cash kind) L
     -- the same for the orders of any keys, and whatever a line is held to be worth
     pub worth-history : (p : Which) (v : Value)
-        → worth p v (recordsOf b now) + reversals (weight p v) L ≡ worth p v (recordsOf b t₀) + executions (weight p v) L
+        → worth p v (bodyRecords b now) + reversals (weight p v) L ≡ worth p v (bodyRecords b t₀) + executions (weight p v) L
     -- at any moment at most one executed line has this key and number
-    pub line-most : (key : Key) (line : ℕ) → worth (withKey key) (onLine line) (recordsOf b now) ≤ 1
+    pub line-most : (key : Key) (line : ℕ) → worth (withKey key) (onLine line) (bodyRecords b now) ≤ 1
     -- what totals answer at that moment are the cents of those records
     pub totals-are : (code : List ℕ) → position t₀ (some code) ≡ some b → (a : TotalsAnswer) → TotalsPromise now code a
-        → (a .paid ≡ centsOf mandatoKind (recordsOf b now)) × (a .collected ≡ centsOf reversaleKind (recordsOf b now))
+        → (a .paid ≡ centsOf mandatoKind (bodyRecords b now)) × (a .collected ≡ centsOf reversaleKind (bodyRecords b now))
 
   -- from a fresh table
   pub record Fresh : Type 0 where
     -- the cents are those executed less those reversed
-    pub cash-opened : (kind : ℕ) → centsOf kind (recordsOf b now) + reversals (cash kind) L ≡ executions (cash kind) L
+    pub cash-opened : (kind : ℕ) → centsOf kind (bodyRecords b now) + reversals (cash kind) L ≡ executions (cash kind) L
     -- and so are those that totals answer
     pub totals-opened : (code : List ℕ) → position t₀ (some code) ≡ some b → (a : TotalsAnswer) → TotalsPromise now code a
         → (a .paid + reversals (cash mandatoKind) L ≡ executions (cash mandatoKind) L)

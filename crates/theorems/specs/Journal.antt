@@ -7,7 +7,7 @@ use Rattle.ranges.specs.declared.Found.the-variants.{At, Nothing}
 use Rattle.table.specs.Table.{tableOk, bodyOf}
 use Rattle.journal.specs.Journal.{movementsIn, wholeMovements, executedLines, journalCode, JournalPromise}
 use Rattle.journal.specs.Told.{Permutation, Told}
-use Rattle.theorems.specs.Engine.{recordsOf}
+use Rattle.theorems.specs.Engine.{bodyRecords}
 use Rattle.theorems.specs.Condition2.{Exactly}
 
 -- "accept exactly when every executed line of that body is listed once, with its cents, and nothing else is listed": the table is valid, a body has the code,
@@ -17,7 +17,7 @@ pub record Accepts (t code s : List ℕ) : Type 0 where
   pub body : ℕ
   pub named : bodyOf t code ≡ At body
   pub whole : wholeMovements s ≡ true
-  pub same : Permutation (movementsIn s) (executedLines (recordsOf body t))
+  pub same : Permutation (movementsIn s) (executedLines (bodyRecords body t))
 
 pub record JournalAnswers : Type 0 where
   pub accepted : (t code s : List ℕ) (c : ℕ) → JournalPromise t code s c → Exactly (c ≡ 0) (Accepts t code s)
@@ -29,4 +29,4 @@ pub record JournalAnswers : Type 0 where
   -- "then one by one 30 no such executed line, 31 other cents, 32 listed before; then 33 an executed line is missing": each exactly when (`Told`,
   -- crates/journal/specs/Told)
   pub told : (t code s : List ℕ) (c : ℕ) → JournalPromise t code s c → (b : ℕ) → tableOk t ≡ true → bodyOf t code ≡ At b → wholeMovements s ≡ true
-      → (c ≡ journalCode (executedLines (recordsOf b t)) [] (movementsIn s)) × Told (recordsOf b t) (movementsIn s)
+      → (c ≡ journalCode (executedLines (bodyRecords b t)) [] (movementsIn s)) × Told (bodyRecords b t) (movementsIn s)

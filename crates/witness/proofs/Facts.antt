@@ -11,7 +11,7 @@ use Rattle.service.specs.Service.{orderComes, orderStored, orderLeaves, outcome
 use Rattle.notices.specs.declared.NoticeAnswer.the-variants.{Done, Declined}
 use Rattle.address.specs.Address.{addressed}
 use Rattle.calendar.specs.declared.Date.{Date}
-use Rattle.days.specs.Days.{lengthAt, startOf, monthOf, numberOf, weekday, served as daysServed}
+use Rattle.days.specs.Days.{lengthAt, monthStart, monthOf, dayNumber, weekday, served as daysServed}
 use Rattle.target_days.specs.Easter.{paschal, fullMoon, sundayAfter, easter}
 use Rattle.target_days.specs.Target.{weekend, fixedClosing, marchDay, closesOn, closing, targetCode}
 use Rattle.notices.specs.Notices.{noticeBy, noticeAnswer, bodyTotals, totalsOf}
@@ -91,7 +91,7 @@ pub record Facts : Type 0 where
   pub opens : openOf (requestOf 4) 880 ≡ Open
 
 pub facts : Facts
-unfolding isLetter isDigit isAlnum all startsWith hasAt textIs be2 be4 be8 put leap monthLength isDate zeros digitsAfter digits recordAt restZero flat8 recordBytes keyIs lineThere lineAbsent lineOk allFrom sum rangesOk recordOk usedAt slotsAt findIn distinct slotOk slotsOk bodyOk codeAt slotsOf placeOf formOk formsOk codesFrom findCode distinctCodes headOk entryOk layoutOk agrees bodyHolds bodiesOk validAs centsOf executedIn keptBytes slotsFrom asked needed bodiesAskedOk requestOk headBytes entryBytes entriesBytes opened openOf numberedFrom sumOf lineCode amountsOf anyExecuted situationIn situationOf sameList sameOrder placed stepped judgeOrder written lineMoves noticeIn noticeAt judgeNotice orderComes orderStored outcomeBytes allLeave allOutcomes allAccepted allSteps stepsOf noticeComes addressed noticeBy targetCode daysServed closing closesOn weekend fixedClosing marchDay easter sundayAfter fullMoon paschal weekday numberOf monthOf startOf lengthAt bodyTotals totalsOf
+unfolding isLetter isDigit isAlnum all startsWith hasAt textIs be2 be4 be8 put leap monthLength isDate zeros digitsAfter digits recordAt restZero flat8 recordBytes keyIs lineThere lineAbsent lineOk allFrom sum rangesOk recordOk usedAt slotsAt findIn distinct slotOk slotsOk bodyOk codeAt slotsOf placeOf formOk formsOk codesFrom findCode distinctCodes headOk entryOk layoutOk agrees bodyHolds bodiesOk validAs centsOf executedIn keptBytes slotsFrom asked needed bodiesAskedOk requestOk headBytes entryBytes entriesBytes opened openOf numberedFrom sumOf lineCode amountsOf anyExecuted situationIn situationOf sameList sameOrder placed stepped judgeOrder written lineMoves noticeIn noticeAt judgeNotice orderComes orderStored outcomeBytes allLeave allOutcomes allAccepted allSteps stepsOf noticeComes addressed noticeBy targetCode daysServed closing closesOn weekend fixedClosing marchDay easter sundayAfter fullMoon paschal weekday monthOf lengthAt bodyTotals totalsOf dayNumber monthStart
 facts = record {
   valid = refl;
   valid-first = refl;

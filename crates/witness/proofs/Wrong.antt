@@ -38,7 +38,7 @@ use Rattle.rules.specs.Rules.{keyFor, nth, judgeOrder, orderCode}
 use Rattle.rules.specs.Effects.{recordsBy, allRecords}
 use Rattle.service.specs.Service.{outcomeSize, orderComes}
 use Rattle.service.proofs.Laws.{held}
-use Rattle.theorems.specs.Engine.{flow as aFlow, recordsOf, owned}
+use Rattle.theorems.specs.Engine.{flow as aFlow, bodyRecords, owned}
 use Rattle.theorems.specs.Codes.{outcomeCodes}
 use Rattle.theorems.specs.Condition2.{codesInTurn}
 use Rattle.theorems.specs.Condition2 as Rules
@@ -105,8 +105,8 @@ past-lines r v k h = go (ltb k 8) refl
 
 -- an order's record, said of the same body and place
 has-there : (t f : List ℕ) (before : List Ordinativo) (o : Ordinativo) (r : Record) {a b i j : ℕ} → a ≡ b → i ≡ j
-    → Has (allRecords (slotsOf t (entryOf a)) (headerOf f i .esercizio) before (recordsOf a t)) (keyFor (headerOf f i .esercizio) o) r
-    → Has (allRecords (slotsOf t (entryOf b)) (headerOf f j .esercizio) before (recordsOf b t)) (keyFor (headerOf f j .esercizio) o) r
+    → Has (allRecords (slotsOf t (entryOf a)) (headerOf f i .esercizio) before (bodyRecords a t)) (keyFor (headerOf f i .esercizio) o) r
+    → Has (allRecords (slotsOf t (entryOf b)) (headerOf f j .esercizio) before (bodyRecords b t)) (keyFor (headerOf f j .esercizio) o) r
 has-there t f before o r p q h = rw (← p, ← q) h
 
 -- a byte of buffers that are one
@@ -235,7 +235,7 @@ module _ (T : Taker) (keeps : Keeps T) where
       let i = here-place w in
       let os = rw i at (r .orders) in
       let has = has-there (w .table) (w .flow) (r .before) (r .order) (r .old) (here-body w) i (r .has) in
-      let d = code-in-turn (slotsOf (w .table) (entryOf (k .body))) (headerOf (w .flow) (k .at) .esercizio) (r .before) (r .order) (r .others) (recordsOf (k .body) (w .table)) in
+      let d = code-in-turn (slotsOf (w .table) (entryOf (k .body))) (headerOf (w .flow) (k .at) .esercizio) (r .before) (r .order) (r .others) (bodyRecords (k .body) (w .table)) in
       let c = ap (λ (l : List ℕ). getD l (length (r .before)) 0) (rw os at (k .codes)) in
       let x = outcome-byte (length (r .before ++ (r .order ∷ r .others))) (length (r .before)) (T .outcomes (w .table) (w .flow) (w .lent)) (omega (arith, length-append (r .before) (r .order ∷ r .others))) in
       let z = sym (sym x ∙ c ∙ d) ∙ r .answered in

@@ -34,7 +34,7 @@ use Rattle.notices.specs.Notices.{NoticePromise, TotalsPromise}
 use Rattle.desk.specs.declared.FlowAnswer.{FlowAnswer}
 use Rattle.desk.specs.declared.FlowReply.{FlowReply}
 use Rattle.desk.specs.Desk.{served, flowReads, FlowPromise, flowReply}
-use Rattle.theorems.specs.Engine.{flow as aFlow, who, recordsOf, owned}
+use Rattle.theorems.specs.Engine.{flow as aFlow, who, bodyRecords, owned}
 use Rattle.theorems.specs.Codes.{outcomeCodes, zeroCodes}
 
 -- FLOWS: from a table, a flow and a lent outcome buffer
@@ -92,10 +92,10 @@ module _ (T : Taker) where
     pub body : ℕ
     pub there : body < bodies (T .table table flow lent)
     pub slot : ℕ
-    pub used : slot < length (recordsOf body (T .table table flow lent))
+    pub used : slot < length (bodyRecords body (T .table table flow lent))
     pub line : ℕ
-    pub gone : nth (recordsOf body (T .table table flow lent)) slot .lines ≤ line
-    pub kept : getD (nth (recordsOf body (T .table table flow lent)) slot .amounts) line 0 ≡ 0 → ⊥
+    pub gone : nth (bodyRecords body (T .table table flow lent)) slot .lines ≤ line
+    pub kept : getD (nth (bodyRecords body (T .table table flow lent)) slot .amounts) line 0 ≡ 0 → ⊥
 
   -- somewhere: a flow that it takes, and the body that the flow names
   pub record Somewhere : Type 0 where
@@ -116,7 +116,7 @@ module _ (T : Taker) where
   slots w = slotsOf (w .table) (entryOf (w .body))
 
   abbrev after : Somewhere → List Ordinativo → List Record
-  after w os = allRecords (slots w) (year w) os (recordsOf (w .body) (w .table))
+  after w os = allRecords (slots w) (year w) os (bodyRecords (w .body) (w .table))
 
   -- "ANNULLO by number alone, where the school meant another order": somewhere an ANNULLO gets 0 though total, number of lines or a line amount differs
   -- from the record of its key, on what the orders before it left
@@ -136,7 +136,7 @@ module _ (T : Taker) where
   -- an empty slot
   pub record NoSlotForOthers : Type 0 where
     pub here : Somewhere
-    pub empty : length (recordsOf (here .body) (here .table)) < slots here
+    pub empty : length (bodyRecords (here .body) (here .table)) < slots here
     pub order : Ordinativo
     pub others : List Ordinativo
     pub first : flowOrders (here .flow) (here .at) ≡ order ∷ others
@@ -194,7 +194,7 @@ pub record InventsUsed (S : Teller) : Type 0 where
   pub body : ℕ
   pub valid : tableOk table ≡ true
   pub named : bodyOf table code ≡ At body
-  pub other : S table code .used ≡ length (recordsOf body table) → ⊥
+  pub other : S table code .used ≡ length (bodyRecords body table) → ⊥
 
 -- or one told without a look at the table
 abbrev pub UsedUnseen : Teller → Type 0

@@ -3,7 +3,7 @@ use Prim.Native.Nat.{_+_, _*_, _≤_}
 use mathlib.Core.Path.{_≡_, _∙_}
 use native.Mathlib.Omega.{arith}
 use lib.ListN.{length}
-use Rattle.convert.proofs.Laws.{room, few, five, slots-fit, filled}
+use Rattle.convert.proofs.Laws.{five, sizes, slots-fit, filled}
 use Rattle.convert.proofs.fill.Statement.{statement}
 use Rattle.convert.proofs.fill.Tie as tie
 
@@ -15,91 +15,58 @@ part-put-head-start c = search needs
 
 part-put-head-end : tie.Need-part-put-head-end
 part-put-head-end c =
-    let e = c .before .before .before .pre .1 in
-    let l = c .before .before .before .pre .2 in
-    let w = room (c .before .before .before .args .o .now) (c .before .before .before .pre .0) in
-    let f = few (c .before .before .before .args .o .now) (c .before .before .before .pre .0) in
+    let w = sizes (c .before .before .before .args .o .now) (c .before .before .before .pre .0) (c .before .before .before .pre .1) (c .before .before .before .pre .2) in
     omega arith
 
 put-head-requires : tie.Need-put-head-requires
 put-head-requires c κs =
-    let e = c .before .before .before .before .pre .1 in
-    let l = c .before .before .before .before .pre .2 in
-    let w = room (c .before .before .before .before .args .o .now) (c .before .before .before .before .pre .0) in
-    let f = few (c .before .before .before .before .args .o .now) (c .before .before .before .before .pre .0) in
+    let w = sizes (c .before .before .before .before .args .o .now) (c .before .before .before .before .pre .0) (c .before .before .before .before .pre .1) (c .before .before .before .before .pre .2) in
     (omega arith, five (c .before .before .before .before .args .o .now) (c .before .before .before .before .pre .0))
 
 put-entries-requires : tie.Need-put-entries-requires
 put-entries-requires c κs =
-    let e = c .before .before .before .before .before .before .before .before .pre .1 in
-    let l = c .before .before .before .before .before .before .before .before .pre .2 in
-    let w = room (c .before .before .before .before .before .before .before .before .args .o .now) (c .before .before .before .before .before .before .before .before .pre .0) in
-    let f = few (c .before .before .before .before .before .before .before .before .args .o .now) (c .before .before .before .before .before .before .before .before .pre .0) in
-    (c .before .before .before .before .before .before .before .before .pre .0, e, omega arith)
+    let w = sizes (c .before .before .before .before .before .before .before .before .args .o .now) (c .before .before .before .before .before .before .before .before .pre .0) (c .before .before .before .before .before .before .before .before .pre .1) (c .before .before .before .before .before .before .before .before .pre .2) in
+    (c .before .before .before .before .before .before .before .before .pre .0, w .number, omega arith)
 
 mul-from : tie.Need-mul-from
 mul-from c =
-    let e = c .before .before .before .before .before .before .before .before .before .before .before .pre .1 in
-    let l = c .before .before .before .before .before .before .before .before .before .before .before .pre .2 in
-    let w = room (c .before .before .before .before .before .before .before .before .before .before .before .args .o .now) (c .before .before .before .before .before .before .before .before .before .before .before .pre .0) in
-    let f = few (c .before .before .before .before .before .before .before .before .before .before .before .args .o .now) (c .before .before .before .before .before .before .before .before .before .before .before .pre .0) in
+    let w = sizes (c .before .before .before .before .before .before .before .before .before .before .before .args .o .now) (c .before .before .before .before .before .before .before .before .before .before .before .pre .0) (c .before .before .before .before .before .before .before .before .before .before .before .pre .1) (c .before .before .before .before .before .before .before .before .before .before .before .pre .2) in
     omega arith
 
 add-from : tie.Need-add-from
 add-from c =
-    let e = c .before .before .before .before .before .before .before .before .before .before .before .pre .1 in
-    let l = c .before .before .before .before .before .before .before .before .before .before .before .pre .2 in
-    let w = room (c .before .before .before .before .before .before .before .before .before .before .before .args .o .now) (c .before .before .before .before .before .before .before .before .before .before .before .pre .0) in
-    let f = few (c .before .before .before .before .before .before .before .before .before .before .before .args .o .now) (c .before .before .before .before .before .before .before .before .before .before .before .pre .0) in
+    let w = sizes (c .before .before .before .before .before .before .before .before .before .before .before .args .o .now) (c .before .before .before .before .before .before .before .before .before .before .before .pre .0) (c .before .before .before .before .before .before .before .before .before .before .before .pre .1) (c .before .before .before .before .before .before .before .before .before .before .before .pre .2) in
     omega arith
 
 mul-copy-in : tie.Need-mul-copy-in
 mul-copy-in c =
-    let e = c .before .before .before .before .before .before .before .before .before .before .before .before .pre .1 in
-    let l = c .before .before .before .before .before .before .before .before .before .before .before .before .pre .2 in
-    let w = room (c .before .before .before .before .before .before .before .before .before .before .before .before .args .o .now) (c .before .before .before .before .before .before .before .before .before .before .before .before .pre .0) in
-    let f = few (c .before .before .before .before .before .before .before .before .before .before .before .before .args .o .now) (c .before .before .before .before .before .before .before .before .before .before .before .before .pre .0) in
+    let w = sizes (c .before .before .before .before .before .before .before .before .before .before .before .before .args .o .now) (c .before .before .before .before .before .before .before .before .before .before .before .before .pre .0) (c .before .before .before .before .before .before .before .before .before .before .before .before .pre .1) (c .before .before .before .before .before .before .before .before .before .before .before .before .pre .2) in
     omega arith
 
 add-copy-in : tie.Need-add-copy-in
 add-copy-in c =
-    let e = c .before .before .before .before .before .before .before .before .before .before .before .before .pre .1 in
-    let l = c .before .before .before .before .before .before .before .before .before .before .before .before .pre .2 in
-    let w = room (c .before .before .before .before .before .before .before .before .before .before .before .before .args .o .now) (c .before .before .before .before .before .before .before .before .before .before .before .before .pre .0) in
-    let f = few (c .before .before .before .before .before .before .before .before .before .before .before .before .args .o .now) (c .before .before .before .before .before .before .before .before .before .before .before .before .pre .0) in
+    let w = sizes (c .before .before .before .before .before .before .before .before .before .before .before .before .args .o .now) (c .before .before .before .before .before .before .before .before .before .before .before .before .pre .0) (c .before .before .before .before .before .before .before .before .before .before .before .before .pre .1) (c .before .before .before .before .before .before .before .before .before .before .before .before .pre .2) in
     omega arith
 
 sub-copy-in : tie.Need-sub-copy-in
 sub-copy-in c =
-    let e = c .before .before .before .before .before .before .before .before .before .before .before .before .pre .1 in
-    let l = c .before .before .before .before .before .before .before .before .before .before .before .before .pre .2 in
-    let w = room (c .before .before .before .before .before .before .before .before .before .before .before .before .args .o .now) (c .before .before .before .before .before .before .before .before .before .before .before .before .pre .0) in
-    let f = few (c .before .before .before .before .before .before .before .before .before .before .before .before .args .o .now) (c .before .before .before .before .before .before .before .before .before .before .before .before .pre .0) in
+    let w = sizes (c .before .before .before .before .before .before .before .before .before .before .before .before .args .o .now) (c .before .before .before .before .before .before .before .before .before .before .before .before .pre .0) (c .before .before .before .before .before .before .before .before .before .before .before .before .pre .1) (c .before .before .before .before .before .before .before .before .before .before .before .before .pre .2) in
     omega arith
 
 part-copy-in-start : tie.Need-part-copy-in-start
 part-copy-in-start c =
-    let e = c .before .before .before .before .before .before .before .before .before .before .before .before .pre .1 in
-    let l = c .before .before .before .before .before .before .before .before .before .before .before .before .pre .2 in
-    let w = room (c .before .before .before .before .before .before .before .before .before .before .before .before .args .o .now) (c .before .before .before .before .before .before .before .before .before .before .before .before .pre .0) in
-    let f = few (c .before .before .before .before .before .before .before .before .before .before .before .before .args .o .now) (c .before .before .before .before .before .before .before .before .before .before .before .before .pre .0) in
+    let w = sizes (c .before .before .before .before .before .before .before .before .before .before .before .before .args .o .now) (c .before .before .before .before .before .before .before .before .before .before .before .before .pre .0) (c .before .before .before .before .before .before .before .before .before .before .before .before .pre .1) (c .before .before .before .before .before .before .before .before .before .before .before .before .pre .2) in
     omega arith
 
 part-copy-in-end : tie.Need-part-copy-in-end
 part-copy-in-end c =
-    let e = c .before .before .before .before .before .before .before .before .before .before .before .before .pre .1 in
-    let l = c .before .before .before .before .before .before .before .before .before .before .before .before .pre .2 in
-    let w = room (c .before .before .before .before .before .before .before .before .before .before .before .before .args .o .now) (c .before .before .before .before .before .before .before .before .before .before .before .before .pre .0) in
-    let f = few (c .before .before .before .before .before .before .before .before .before .before .before .before .args .o .now) (c .before .before .before .before .before .before .before .before .before .before .before .before .pre .0) in
+    let w = sizes (c .before .before .before .before .before .before .before .before .before .before .before .before .args .o .now) (c .before .before .before .before .before .before .before .before .before .before .before .before .pre .0) (c .before .before .before .before .before .before .before .before .before .before .before .before .pre .1) (c .before .before .before .before .before .before .before .before .before .before .before .before .pre .2) in
     omega arith
 
 copy-in-requires : tie.Need-copy-in-requires
 copy-in-requires c κs =
-    let e = c .before .before .before .before .before .before .before .before .before .before .before .before .before .pre .1 in
-    let l = c .before .before .before .before .before .before .before .before .before .before .before .before .before .pre .2 in
-    let w = room (c .before .before .before .before .before .before .before .before .before .before .before .before .before .args .o .now) (c .before .before .before .before .before .before .before .before .before .before .before .before .before .pre .0) in
-    let f = few (c .before .before .before .before .before .before .before .before .before .before .before .before .before .args .o .now) (c .before .before .before .before .before .before .before .before .before .before .before .before .before .pre .0) in
-    let z = slots-fit (c .before .before .before .before .before .before .before .before .before .before .before .before .before .args .o .now) (c .before .before .before .before .before .before .before .before .before .before .before .before .before .pre .0) e in
+    let w = sizes (c .before .before .before .before .before .before .before .before .before .before .before .before .before .args .o .now) (c .before .before .before .before .before .before .before .before .before .before .before .before .before .pre .0) (c .before .before .before .before .before .before .before .before .before .before .before .before .before .pre .1) (c .before .before .before .before .before .before .before .before .before .before .before .before .before .pre .2) in
+    let z = slots-fit (c .before .before .before .before .before .before .before .before .before .before .before .before .before .args .o .now) (c .before .before .before .before .before .before .before .before .before .before .before .before .before .pre .0) (w .number) in
     omega arith
 
 same-length : tie.Need-same-length

@@ -1,7 +1,8 @@
 use borrow.Author.Needs.{needs}
 use mathlib.Core.Path.{_∙_}
 use native.Mathlib.Omega.{arith}
-use Rattle.notices.proofs.Laws.{totals-made, difference-kept, paid-is, collected-is, few-cents}
+use Rattle.days.proofs.Signed.{difference-kept}
+use Rattle.notices.proofs.Laws.{totals-made, paid-is, collected-is, few-cents}
 use Rattle.notices.proofs.body_totals.Statement.{statement}
 use Rattle.notices.proofs.body_totals.Tie as tie
 

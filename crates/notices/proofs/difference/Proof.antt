@@ -1,5 +1,5 @@
 use native.Mathlib.Omega.{arith}
-use Rattle.notices.proofs.Laws.{difference-fits, difference-is}
+use Rattle.days.proofs.Signed.{difference-fits, difference-is}
 use borrow.Author.Needs.{needs}
 use Rattle.notices.proofs.difference.Statement.{statement}
 use Rattle.notices.proofs.difference.Tie as tie

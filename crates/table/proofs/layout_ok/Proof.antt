@@ -4,9 +4,9 @@ use mathlib.Core.Path.{_≡_, refl, sym, ap, _∙_}
 use native.Mathlib.Omega.{arith}
 use borrow.Author.Tests.{not-true, not-false}
 use Rattle.record.specs.Slot.{slotSize}
-use Rattle.entries.proofs.Laws.{times, form}
+use Rattle.entries.proofs.Laws.{form}
 use Rattle.table.specs.Table.{headSize, layoutOk}
-use Rattle.table.proofs.Laws.{entries-most, entry, lay-not, lay-on, lay-done}
+use Rattle.table.proofs.Laws.{entries-most, next, entry, lay-not, lay-on, lay-done}
 use Rattle.table.proofs.layout_ok.Statement.{statement}
 use Rattle.table.proofs.layout_ok.Tie as tie
 
@@ -34,23 +34,15 @@ loop-holds c = (refl, omega arith, refl)
 
 entry-ok-requires : tie.Need-entry-ok-requires Inv-loop μ-loop
 entry-ok-requires c κs =
-    let k = c .before .before .before .before .pre .0 in
-    let z = entries-most k (c .before .before .before .before .args .n) (omega arith) in
-    let w = times (c .before .before .before .before .args .l .entry) (c .before .loop .left) (c .before .loop .left - 1) (omega arith) in
-    let f = k .fixed in
-    let i = k .inside in
-    (k, omega arith, omega arith)
+    let w = next (c .before .before .before .before .pre .0) (c .before .before .before .before .args .n) (c .before .loop .left) (omega arith) (omega arith) in
+    (w .known, omega arith, omega arith)
 
 returns : tie.Need-returns Inv-loop μ-loop
 returns c = sym (c .before .before .before .loop .inv .2 ∙ lay-not (c .before .before .before .before .before .before .args .l) (c .before .before .before .before .before .before .args .t .now) (c .before .before .before .loop .at) (c .before .before .before .loop .left) (c .before .before .before .loop .left - 1) (c .before .before .before .loop .p) (omega arith) (sym (c .before .entry-ok .ensures) ∙ not-true _ (c .if1 .taken)))
 
 slots-of-requires : tie.Need-slots-of-requires Inv-loop μ-loop
 slots-of-requires c κs =
-    let k = c .before .before .before .before .before .before .pre .0 in
-    let z = entries-most k (c .before .before .before .before .before .before .args .n) (omega arith) in
-    let w = times (c .before .before .before .before .before .before .args .l .entry) (c .before .before .before .loop .left) (c .before .before .before .loop .left - 1) (omega arith) in
-    let f = k .fixed in
-    let i = k .inside in
+    let w = next (c .before .before .before .before .before .before .pre .0) (c .before .before .before .before .before .before .args .n) (c .before .before .before .loop .left) (omega arith) (omega arith) in
     omega arith
 
 mul-p-2 : tie.Need-mul-p-2 Inv-loop μ-loop
@@ -58,20 +50,12 @@ mul-p-2 c = omega arith
 
 add-p-2 : tie.Need-add-p-2 Inv-loop μ-loop
 add-p-2 c =
-    let k = c .before .before .before .before .before .before .before .pre .0 in
-    let z = entries-most k (c .before .before .before .before .before .before .before .args .n) (omega arith) in
-    let w = times (c .before .before .before .before .before .before .before .args .l .entry) (c .before .before .before .before .loop .left) (c .before .before .before .before .loop .left - 1) (omega arith) in
-    let f = k .fixed in
-    let i = k .inside in
+    let w = next (c .before .before .before .before .before .before .before .pre .0) (c .before .before .before .before .before .before .before .args .n) (c .before .before .before .before .loop .left) (omega arith) (omega arith) in
     omega arith
 
 add-at : tie.Need-add-at Inv-loop μ-loop
 add-at c =
-    let k = c .before .before .before .before .before .before .before .before .pre .0 in
-    let z = entries-most k (c .before .before .before .before .before .before .before .before .args .n) (omega arith) in
-    let w = times (c .before .before .before .before .before .before .before .before .args .l .entry) (c .before .before .before .before .before .loop .left) (c .before .before .before .before .before .loop .left - 1) (omega arith) in
-    let f = k .fixed in
-    let i = k .inside in
+    let w = next (c .before .before .before .before .before .before .before .before .pre .0) (c .before .before .before .before .before .before .before .before .args .n) (c .before .before .before .before .before .loop .left) (omega arith) (omega arith) in
     omega arith
 
 sub-left : tie.Need-sub-left Inv-loop μ-loop
@@ -82,11 +66,7 @@ loop-less c = search needs
 
 loop-again : tie.Need-loop-again Inv-loop μ-loop
 loop-again c =
-    let k = c .before .before .before .before .before .before .before .before .pre .0 in
-    let z = entries-most k (c .before .before .before .before .before .before .before .before .args .n) (omega arith) in
-    let w = times (c .before .before .before .before .before .before .before .before .args .l .entry) (c .before .before .before .before .before .loop .left) (c .before .before .before .before .before .loop .left - 1) (omega arith) in
-    let f = k .fixed in
-    let i = k .inside in
+    let w = next (c .before .before .before .before .before .before .before .before .pre .0) (c .before .before .before .before .before .before .before .before .args .n) (c .before .before .before .before .before .loop .left) (omega arith) (omega arith) in
     let ok = (sym (c .before .before .before .entry-ok .ensures) ∙ not-false _ (c .before .before .if1 .left)) in
     let most = form (c .before .before .before .before .before .before .before .before .args .t .now) (c .before .before .before .before .before .loop .at) (entry (c .before .before .before .before .before .before .before .before .args .l) (c .before .before .before .before .before .before .before .before .args .t .now) (c .before .before .before .before .before .loop .at) (c .before .before .before .before .before .loop .p) ok .formed) .most-slots in
     let same = c .before .slots-of .ensures .0 in

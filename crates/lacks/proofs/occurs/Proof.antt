@@ -1,8 +1,8 @@
 use Prim.Native.Nat.{_-_}
 use lib.ListN.{length}
 use borrow.Author.Needs.{needs}
-use Rattle.reasons.proofs.occurs.Statement.{statement}
-use Rattle.reasons.proofs.occurs.Tie as tie
+use Rattle.lacks.proofs.occurs.Statement.{statement}
+use Rattle.lacks.proofs.occurs.Tie as tie
 
 abbrev Inv-loop : tie.InvT-loop
 Inv-loop s x i₀ i = Unit {0}
