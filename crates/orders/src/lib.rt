@@ -182,6 +182,8 @@ fn kind_of(parent: Parent) -> u8
         Parent::InformazioniVersante => 0,
         Parent::Beneficiario => 0,
         Parent::Versante => 0,
+        Parent::FlussoOpi => 0,
+        Parent::TestataFlusso => 0,
     }
 }
 

@@ -24,6 +24,10 @@ const BENEFICIARIO: [u8; 2] = *b"\x01\x01";
 
 const VERSANTE: [u8; 2] = *b"\x01\x01";
 
+const FLUSSO_OPI: [u8; 6] = *b"\x01\x01\x01\x01\x01\x40";
+
+const TESTATA_FLUSSO: [u8; 8] = *b"\x01\x01\x01\x01\x01\x01\x01\x01";
+
 // A byte as a number.
 fn wide(b: u8) -> usize
     ensures { λ r. ⌜ r ≡ b ⌝ }
@@ -57,6 +61,8 @@ pub fn rows(parent: Parent) -> usize
         Parent::InformazioniVersante => 3,
         Parent::Beneficiario => 1,
         Parent::Versante => 1,
+        Parent::FlussoOpi => 3,
+        Parent::TestataFlusso => 4,
     }
 }
 
@@ -110,6 +116,14 @@ pub fn filled(parent: Parent, row: usize, n: usize, to: usize) -> bool
         }
         Parent::Versante => {
             let pairs = VERSANTE;
+            filled_in(row, n, to, &pairs)
+        }
+        Parent::FlussoOpi => {
+            let pairs = FLUSSO_OPI;
+            filled_in(row, n, to, &pairs)
+        }
+        Parent::TestataFlusso => {
+            let pairs = TESTATA_FLUSSO;
             filled_in(row, n, to, &pairs)
         }
     }

@@ -10,7 +10,7 @@ use borrow.Author.Tests.{leb-true, ne-eqb}
 use Rattle.scan.specs.Bytes.{bytes, between, run, textIs}
 use Rattle.scan.proofs.Laws.{both}
 use Rattle.rows.specs.declared.Parent.{Parent}
-use Rattle.rows.specs.declared.Parent.the-variants.{FlussoOrdinativi, Mandato, Reversale, InformazioniBeneficiario, InformazioniVersante, Beneficiario, Versante}
+use Rattle.rows.specs.declared.Parent.the-variants.{FlussoOrdinativi, Mandato, Reversale, InformazioniBeneficiario, InformazioniVersante, Beneficiario, Versante, FlussoOpi, TestataFlusso}
 use Rattle.rows.specs.declared.Holds.{Holds}
 use Rattle.rows.specs.declared.Holds.the-variants.{Text, Rows}
 use Rattle.rows.specs.declared.Spot.{Spot}
@@ -116,6 +116,8 @@ rank InformazioniBeneficiario = 1
 rank InformazioniVersante = 1
 rank Beneficiario = 0
 rank Versante = 0
+rank FlussoOpi = 3
+rank TestataFlusso = 0
 
 abbrev below : ℕ → Said → Bool
 below n (named (Text f)) = true
@@ -151,6 +153,8 @@ ranked InformazioniBeneficiario = refl
 ranked InformazioniVersante = refl
 ranked Beneficiario = refl
 ranked Versante = refl
+ranked FlussoOpi = refl
+ranked TestataFlusso = refl
 
 -- no parent is deeper than the levels that are looked at
 pub rank-levels : (p : Parent) → rank p < levels
@@ -161,6 +165,8 @@ rank-levels InformazioniBeneficiario = omega arith
 rank-levels InformazioniVersante = omega arith
 rank-levels Beneficiario = omega arith
 rank-levels Versante = omega arith
+rank-levels FlussoOpi = omega arith
+rank-levels TestataFlusso = omega arith
 
 rank-said : (p q : Parent) (x : List ℕ) → said (table p) x ≡ named (Rows q) → rank q < rank p
 rank-said p q x e = let b = below-rows (rank p) x (table p) (ranked p) in leb-true (suc (rank q)) (rank p) (rw e at b)

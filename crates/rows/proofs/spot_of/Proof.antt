@@ -44,6 +44,18 @@ enum-told-7 c = search needs
 versante-spot-requires : tie.Need-versante-spot-requires
 versante-spot-requires c κs = search needs
 
+enum-told-8 : tie.Need-enum-told-8
+enum-told-8 c = search needs
+
+opi-spot-requires : tie.Need-opi-spot-requires
+opi-spot-requires c κs = search needs
+
+enum-told-9 : tie.Need-enum-told-9
+enum-told-9 c = search needs
+
+testata-spot-requires : tie.Need-testata-spot-requires
+testata-spot-requires c κs = search needs
+
 returns : tie.Need-returns
 returns c = rw (c .before .enum-told .given .1) (c .flusso-spot .ensures)
 
@@ -65,6 +77,12 @@ returns-6 c = rw (c .before .enum-told6 .given .1) (c .beneficiario-spot .ensure
 returns-7 : tie.Need-returns-7
 returns-7 c = rw (c .before .enum-told7 .given .1) (c .versante-spot .ensures)
 
+returns-8 : tie.Need-returns-8
+returns-8 c = rw (c .before .enum-told8 .given .1) (c .opi-spot .ensures)
+
+returns-9 : tie.Need-returns-9
+returns-9 c = rw (c .before .enum-told9 .given .1) (c .testata-spot .ensures)
+
 pub spot-of-spec : {M : Type 1} → statement M
 spot-of-spec =
     tie.close
@@ -83,10 +101,16 @@ spot-of-spec =
     beneficiario-spot-requires
     enum-told-7
     versante-spot-requires
+    enum-told-8
+    opi-spot-requires
+    enum-told-9
+    testata-spot-requires
     returns
     returns-2
     returns-3
     returns-4
     returns-5
     returns-6
-    returns-7)
+    returns-7
+    returns-8
+    returns-9)

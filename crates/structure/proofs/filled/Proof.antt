@@ -68,6 +68,24 @@ slice-aggregate-filled-in-7 c = search needs
 filled-in-requires-7 : tie.Need-filled-in-requires-7
 filled-in-requires-7 c κs = search needs
 
+enum-told-8 : tie.Need-enum-told-8
+enum-told-8 c = search needs
+
+slice-aggregate-filled-in-8 : tie.Need-slice-aggregate-filled-in-8
+slice-aggregate-filled-in-8 c = search needs
+
+filled-in-requires-8 : tie.Need-filled-in-requires-8
+filled-in-requires-8 c κs = search needs
+
+enum-told-9 : tie.Need-enum-told-9
+enum-told-9 c = search needs
+
+slice-aggregate-filled-in-9 : tie.Need-slice-aggregate-filled-in-9
+slice-aggregate-filled-in-9 c = search needs
+
+filled-in-requires-9 : tie.Need-filled-in-requires-9
+filled-in-requires-9 c κs = search needs
+
 returns : tie.Need-returns
 returns c = rw (c .before .before .enum-told .given .1) (c .filled-in .ensures)
 
@@ -88,6 +106,12 @@ returns-6 c = rw (c .before .before .enum-told6 .given .1) (c .filled-in6 .ensur
 
 returns-7 : tie.Need-returns-7
 returns-7 c = rw (c .before .before .enum-told7 .given .1) (c .filled-in7 .ensures)
+
+returns-8 : tie.Need-returns-8
+returns-8 c = rw (c .before .before .enum-told8 .given .1) (c .filled-in8 .ensures)
+
+returns-9 : tie.Need-returns-9
+returns-9 c = rw (c .before .before .enum-told9 .given .1) (c .filled-in9 .ensures)
 
 pub filled-spec : {M : Type 1} → statement M
 filled-spec =
@@ -114,10 +138,18 @@ filled-spec =
     enum-told-7
     slice-aggregate-filled-in-7
     filled-in-requires-7
+    enum-told-8
+    slice-aggregate-filled-in-8
+    filled-in-requires-8
+    enum-told-9
+    slice-aggregate-filled-in-9
+    filled-in-requires-9
     returns
     returns-2
     returns-3
     returns-4
     returns-5
     returns-6
-    returns-7)
+    returns-7
+    returns-8
+    returns-9)
