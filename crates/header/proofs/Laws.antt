@@ -117,7 +117,10 @@ module _ (e : Edition) (s : List ℕ) (i : ℕ) where
       → (h : Heading) → h .abi ≡ t .abi → h .ente ≡ t .ente → h .esercizio ≡ valueOf (esercizio (part s (k .child .gt + 1) (k .child .to))) → h .orders ≡ k .child .after
       → h ≡ headingFrom e s i
   unfolding headingIn testataIn textIn
-  heading-made k x t y h a b c d = rw (x, ← c, ← d) (rw (← a, ← b) (rw (← y)))
+  heading-made k x t y h a b c d =
+      let p : h .abi ≡ spanOf (nextOf (inRow 0 (testataOf e s kids))) = a ∙ ap (λ (u : Testata). u .abi) y in
+      let q : h .ente ≡ spanOf (nextOf (inRow 3 (testataOf e s kids))) = b ∙ ap (λ (u : Testata). u .ente) y in
+      rw (x, ← c, ← d, ← p, ← q)
 
 -- A PART OF THE HEADER is the text of its row, and lies within the flow
 span-text : (s : List ℕ) (w : Next) → part s (spanOf w .from) (spanOf w .to) ≡ textOfNext s w

@@ -37,7 +37,7 @@ testataIn ks = record { abi = spanOf (nextOf (inRow 0 ks)); ente = spanOf (nextO
 
 -- rows of one element each, four of them, before others
 abbrev pub fourThen : List Range → List Range
-fourThen rs = let r = record { least = 1; most = 1 } in r ∷ r ∷ r ∷ r ∷ rs
+fourThen rs = let r : Range = record { least = 1; most = 1 } in r ∷ r ∷ r ∷ r ∷ rs
 
 -- a parent's named children from i on begin with such rows
 pub record FourFirst (p : Parent) (s : List ℕ) (i : ℕ) : Type 0 where

@@ -93,9 +93,11 @@ fn flat_from(s: &[u8], from: usize, past: &[u32]) -> Heading
     let t = testata_from(s, from, Parent::FlussoOrdinativi, past);
     let e = orders::first_named(s, t.after, Parent::FlussoOrdinativi, past).child;
     let esercizio = orders::number_of(rows::read_field(s, e, Form::Esercizio));
+    let abi = t.abi;
+    let ente = t.ente;
     Heading {
-        abi: t.abi,
-        ente: t.ente,
+        abi,
+        ente,
         esercizio,
         orders: e.after,
     }
@@ -111,9 +113,11 @@ fn nested_from(s: &[u8], from: usize, past: &[u32]) -> Heading
     let t = testata_from(s, inner, Parent::TestataFlusso, past);
     let e = orders::first_named(s, k.after, Parent::FlussoOpi, past).child;
     let esercizio = orders::number_of(rows::read_field(s, e, Form::Esercizio));
+    let abi = t.abi;
+    let ente = t.ente;
     Heading {
-        abi: t.abi,
-        ente: t.ente,
+        abi,
+        ente,
         esercizio,
         orders: e.after,
     }
