@@ -115,3 +115,6 @@ flow-stood e = document-stood (bytes "flusso_ordinativi") (rootOf e) (idAllowed 
 
 pub flow-shown : (e : Edition) (s : List ℕ) (q : ℕ) (y : Cause) → verdictOf e s ≡ FieldBreaks q y → Shown s q y
 flow-shown e = document-shown (bytes "flusso_ordinativi") (rootOf e) (idAllowed e)
+
+pub flow-by : (e : Edition) (s : List ℕ) {v : Verdict} {p : Parent} {b : Bool} → p ≡ rootOf e → b ≡ idAllowed e → v ≡ verdictBy (bytes "flusso_ordinativi") p b s → v ≡ verdictOf e s
+flow-by e s x y z = z ∙ (λ i. verdictBy (bytes "flusso_ordinativi") (x i) (y i) s)

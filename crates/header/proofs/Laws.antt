@@ -20,7 +20,7 @@ use Rattle.rows.specs.Table.{table}
 use Rattle.rows.specs.Kept.{keptFrom, nextOf}
 use Rattle.structure.specs.Structure.{Range, ranges, keptHolds, fitsAt}
 use Rattle.structure.proofs.Laws.{HeldIn, all-next}
-use Rattle.orders.specs.Shape.{Filled}
+use Rattle.orders.specs.Shape.{Shaped, Filled}
 use Rattle.orders.specs.Orders.{those, ofRow, inRow, textOfNext, textIn, valueOf, insideOf, inside, ordersOf, holdsOrder, isOrder, ordersIn}
 use Rattle.orders.proofs.Laws.{one, held-at, those-at, those-other, row-one, Found, found-some, found, Inside, shaped-inside, Standing}
 use Rattle.editions.specs.declared.Edition.{Edition}
@@ -94,6 +94,8 @@ four-past {rs} depth p s i f =
 
 -- testata_flusso, the first named child of edition 2's root
 pub record Nested (s : List ℕ) (i : ℕ) (k : Kept) : Type 0 where
+  pub holds : k .holds ≡ Rows TestataFlusso
+  pub shaped : Shaped (ranges (table TestataFlusso)) 3 s k
   pub inner : Inside (ranges (table TestataFlusso)) 2 s k TestataFlusso
   pub own : testataOf Opi s (keptFrom FlussoOpi s i) ≡ keptFrom TestataFlusso s (whiteAt s (k .child .gt + 1))
 
@@ -104,9 +106,10 @@ nested s i k f e =
     let r = o .row in
     let h : k .holds ≡ Rows TestataFlusso = ⊎-elim sym (λ x. absurd x) (rw r at (held-at FlussoOpi s i k e)) in
     let w = all-next FlussoOpi s i k e (keptHolds (λ q b. fitsAt 3 q s b) s) (f .each) in
-    let n = shaped-inside (ranges (table TestataFlusso)) 2 s k TestataFlusso h (record { within = omega arith; rows = rw h; holds = w .0 }) in
+    let v : Shaped (ranges (table TestataFlusso)) 3 s k = record { within = omega arith; rows = rw h; holds = w .0 } in
+    let n = shaped-inside (ranges (table TestataFlusso)) 2 s k TestataFlusso h v in
     let z : nextOf (inRow 0 (keptFrom FlussoOpi s i)) ≡ Named k = ap nextOf (row-one 0 FlussoOpi s i k e r) in
-    record { inner = n; own = rw z (n .named) }
+    record { holds = h; shaped = v; inner = n; own = rw z (n .named) }
 
 -- THE HEADER of either edition
 module _ (e : Edition) (s : List ℕ) (i : ℕ) where
