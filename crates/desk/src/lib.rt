@@ -66,17 +66,7 @@ fn with_room(
     }
     FlowAnswer::Taken(
         count,
-        serving::serve_all(
-            t,
-            f,
-            from,
-            root,
-            base,
-            n,
-            year,
-            out,
-            past,
-        ),
+        serving::serve_all(t, f, from, root, base, n, year, out, past),
     )
 }
 
@@ -96,7 +86,17 @@ fn for_body(
     let w = h.ente;
     let ente = header::part_at(f, w);
     match address::body_named(t, ente) {
-        Addressed::Body(_, base, n) => with_room(t, f, root, h.orders, h.esercizio, base, n, out, past),
+        Addressed::Body(_, base, n) => with_room(
+            t,
+            f,
+            root,
+            h.orders,
+            h.esercizio,
+            base,
+            n,
+            out,
+            past,
+        ),
         Addressed::Unknown => FlowAnswer::UnknownBody,
         Addressed::Invalid => FlowAnswer::InvalidTable,
     }
@@ -127,13 +127,7 @@ fn for_bank(
 }
 
 // Reads a flow of an edition that is not too long, noting in `past` where its elements end, and serves it.
-fn take_noted(
-    t: &mut [u8],
-    e: Edition,
-    f: &[u8],
-    out: &mut [u8],
-    past: &mut [u32],
-) -> FlowAnswer
+fn take_noted(t: &mut [u8], e: Edition, f: &[u8], out: &mut [u8], past: &mut [u32]) -> FlowAnswer
     requires { ⌜ (tableOk (now t) ≡ true) × (length (now f) ≤ maxFlow) × Noted (now f) (now past) ⌝ }
     ensures { λ r. ⌜ Gives (now (t .entry)) (now (out .entry))
         (forFlow e (now (t .entry)) (now (f .entry)) (length (now (out .entry))) (verdictOf e (now (f .entry)))) r (now (t .exit)) (now (out .exit)) ⌝ }

@@ -15,7 +15,7 @@ use Rattle.tokens.specs.Tokens.{whiteAt}
 use Rattle.calendar.specs.Calendar.{isDate}
 use Rattle.fields.specs.declared.Cause.{Cause}
 use Rattle.fields.specs.declared.Form.{Form}
-use Rattle.fields.specs.declared.Form.the-variants.{CodiceAbi, Identificativo, DataOra, CodiceEnte, Esercizio, TipoOperazione, Numero, Data, Importo, Progressivo}
+use Rattle.fields.specs.declared.Form.the-variants.{CodiceAbi, Identificativo, DataOra, CodiceEnte, Esercizio, TipoOperazione, Numero, Data, Importo, Progressivo, DataOraZona}
 use Rattle.fields.specs.declared.Judged.{Judged}
 use Rattle.fields.specs.declared.Judged.the-variants.{Stands, Breaks}
 use Rattle.digits.specs.declared.Number.{Number}
@@ -439,7 +439,7 @@ header-ok Opi s at h =
     let p = FlussoOpi in
     let n = nest-at s i (well Opi s at h) in
     let z = n .1 .own in
-    let a = four-at 2 TestataFlusso s (whiteAt s (n .0 .child .gt + 1)) DataOra only only only only (n .1 .inner) in
+    let a = four-at 2 TestataFlusso s (whiteAt s (n .0 .child .gt + 1)) DataOraZona only only only only (n .1 .inner) in
     let j = n .0 .child .after in
     let e = field-at 3 p s 1 j Esercizio only (n .1 .on) in (
       record { abi = rw z (a .1 .abi); ente = rw z (a .1 .ente); esercizio = rw (n .1 .texts 1 (omega arith)) (year-ok (textIn 1 s (keptFrom p s j)) (e .1 .stands)) },

@@ -30,7 +30,7 @@ use Rattle.codes.specs.Codes.{tipoOperazione}
 use Rattle.digits.specs.Digits.{esercizio, numero, importo, progressivo}
 use Rattle.dates.specs.Dates.{dataOf}
 use Rattle.rows.specs.declared.Parent.{Parent}
-use Rattle.rows.specs.declared.Parent.the-variants.{FlussoOrdinativi, Mandato, Reversale, InformazioniBeneficiario, InformazioniVersante, Beneficiario, Versante, FlussoOpi, TestataFlusso}
+use Rattle.rows.specs.declared.Parent.the-variants.{FlussoOrdinativi, Mandato, Reversale, InformazioniBeneficiario, InformazioniVersante, Beneficiario, Versante, MessaggiEsito, TestataMessaggio, EsitoReversali, EsitoMandati, ErroriReversali, ErroriMandati, FlussoOpi, TestataFlusso}
 use Rattle.rows.specs.declared.Holds.{Holds}
 use Rattle.rows.specs.declared.Holds.the-variants.{Text, Rows}
 use Rattle.rows.specs.declared.Kept.{Kept}
@@ -62,6 +62,9 @@ held-line InformazioniBeneficiario h e w = absurd w
 held-line InformazioniVersante h e w = absurd w
 held-line Beneficiario h e w = absurd w
 held-line Versante h e w = absurd w
+held-line TestataMessaggio h e w = let z : _≡_ {A = ℕ} 9 5 = ap length e in absurd (omega arith)
+held-line EsitoReversali h e w = let z : _≡_ {A = ℕ} 9 5 = ap length e in absurd (omega arith)
+held-line EsitoMandati h e w = let z : _≡_ {A = ℕ} 9 5 = ap length e in absurd (omega arith)
 held-line FlussoOpi h e w = absurd w
 held-line TestataFlusso h e w = absurd w
 
@@ -366,6 +369,12 @@ order-held (Rows InformazioniBeneficiario) e = no-kind e
 order-held (Rows InformazioniVersante) e = no-kind e
 order-held (Rows Beneficiario) e = no-kind e
 order-held (Rows Versante) e = no-kind e
+order-held (Rows MessaggiEsito) e = no-kind e
+order-held (Rows TestataMessaggio) e = no-kind e
+order-held (Rows EsitoReversali) e = no-kind e
+order-held (Rows EsitoMandati) e = no-kind e
+order-held (Rows ErroriReversali) e = no-kind e
+order-held (Rows ErroriMandati) e = no-kind e
 order-held (Rows FlussoOpi) e = no-kind e
 order-held (Rows TestataFlusso) e = no-kind e
 

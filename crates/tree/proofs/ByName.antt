@@ -10,7 +10,7 @@ use borrow.Author.Tests.{leb-true, ne-eqb}
 use Rattle.scan.specs.Bytes.{bytes, between, run, textIs}
 use Rattle.scan.proofs.Laws.{both}
 use Rattle.rows.specs.declared.Parent.{Parent}
-use Rattle.rows.specs.declared.Parent.the-variants.{FlussoOrdinativi, Mandato, Reversale, InformazioniBeneficiario, InformazioniVersante, Beneficiario, Versante, FlussoOpi, TestataFlusso}
+use Rattle.rows.specs.declared.Parent.the-variants.{FlussoOrdinativi, Mandato, Reversale, InformazioniBeneficiario, InformazioniVersante, Beneficiario, Versante, MessaggiEsito, TestataMessaggio, EsitoReversali, EsitoMandati, ErroriReversali, ErroriMandati, FlussoOpi, TestataFlusso}
 use Rattle.rows.specs.declared.Holds.{Holds}
 use Rattle.rows.specs.declared.Holds.the-variants.{Text, Rows}
 use Rattle.rows.specs.declared.Spot.{Spot}
@@ -116,6 +116,12 @@ rank InformazioniBeneficiario = 1
 rank InformazioniVersante = 1
 rank Beneficiario = 0
 rank Versante = 0
+rank MessaggiEsito = 2
+rank TestataMessaggio = 0
+rank EsitoReversali = 1
+rank EsitoMandati = 1
+rank ErroriReversali = 0
+rank ErroriMandati = 0
 rank FlussoOpi = 3
 rank TestataFlusso = 0
 
@@ -153,6 +159,12 @@ ranked InformazioniBeneficiario = refl
 ranked InformazioniVersante = refl
 ranked Beneficiario = refl
 ranked Versante = refl
+ranked MessaggiEsito = refl
+ranked TestataMessaggio = refl
+ranked EsitoReversali = refl
+ranked EsitoMandati = refl
+ranked ErroriReversali = refl
+ranked ErroriMandati = refl
 ranked FlussoOpi = refl
 ranked TestataFlusso = refl
 
@@ -165,6 +177,12 @@ rank-levels InformazioniBeneficiario = omega arith
 rank-levels InformazioniVersante = omega arith
 rank-levels Beneficiario = omega arith
 rank-levels Versante = omega arith
+rank-levels MessaggiEsito = omega arith
+rank-levels TestataMessaggio = omega arith
+rank-levels EsitoReversali = omega arith
+rank-levels EsitoMandati = omega arith
+rank-levels ErroriReversali = omega arith
+rank-levels ErroriMandati = omega arith
 rank-levels FlussoOpi = omega arith
 rank-levels TestataFlusso = omega arith
 
