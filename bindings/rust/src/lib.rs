@@ -6,7 +6,7 @@
 //! [`Refusal`].
 //!
 //! ```
-//! use hondivole::{Date, Kind, Notice, Refusal, Table};
+//! use hondivole::{Date, Edition, Kind, Notice, Refusal, Table};
 //!
 //! let mut table = Table::open("01234", &[("000471", 4), ("471", 4)])?;
 //!
@@ -24,7 +24,7 @@
 //!     "</flusso_ordinativi>",
 //! );
 //! let mut outcomes = [0; 16];
-//! let answer = table.flow(flow.as_bytes(), &mut outcomes)?;
+//! let answer = table.flow(Edition::Oil, flow.as_bytes(), &mut outcomes)?;
 //! assert_eq!(answer.accepted(), 1);
 //!
 //! let day = Date { year: 2021, month: 3, day: 3 };
@@ -44,7 +44,7 @@ mod table;
 
 pub use date::Date;
 pub use field::{Field, InWords, field_at};
-pub use flow::{FlowAnswer, Kind, Operation, OrderOutcome};
+pub use flow::{Edition, FlowAnswer, Kind, Operation, OrderOutcome};
 pub use refusal::{Cause, Refusal};
 pub use table::{Notice, Table, Totals, request};
 

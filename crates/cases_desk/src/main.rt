@@ -1,6 +1,6 @@
 // Cases of the desk, as a script of calls on one table. A line of the input has a call, a name, its arguments and what document 01 says it answers, by hand;
 // a line of the output has what the code answers beside it, and says `touched` where outcome bytes that should stay did not. Calls: open (request, length),
-// flow (flow, room), execute and reverse (body, kind, esercizio, number, line, year, month, day), totals (body), poke (place, byte: damages the table),
+// flow (of edition 1: flow, room), execute and reverse (body, kind, esercizio, number, line, year, month, day), totals (body), poke (place, byte: damages the table),
 // long (a flow of so many zero bytes), first (year, month, day).
 use calendar::Date;
 use casebook::number;
@@ -42,10 +42,10 @@ fn say_flow(a: FlowAnswer, out: &[u8]) {
 fn run_within(t: &mut [u8], flow: &[u8], room: u64, out: &mut [u8]) {
     let all = out.len() as u64;
     if all <= room {
-        let a = desk::take_flow(t, flow, out);
+        let a = desk::take_flow(t, 1, flow, out);
         return say_flow(a, out);
     }
-    let a = desk::take_flow(t, flow, &mut out[..room as usize]);
+    let a = desk::take_flow(t, 1, flow, &mut out[..room as usize]);
     say_flow(a, out)
 }
 

@@ -85,6 +85,10 @@ module _ (e : Edition) (f : List ℕ) (at from : ℕ) (z : from ≡ whiteAt f at
         subst (λ (os : List Ordinativo). Gives t out (forBank t (length out) (headerOf e f at) os) r t′ out′) b
         (subst (λ (x : Header). Gives t out (forBank t (length out) x os) r t′ out′) a g)
 
+pub verdict-read : (e : Edition) (t f out : List ℕ) {v : Verdict} {r : FlowAnswer} {t′ out′ : List ℕ} → verdictOf e f ≡ v → Gives t out (forFlow e t f (length out) v) r t′ out′
+    → Gives t out (forFlow e t f (length out) (verdictOf e f)) r t′ out′
+verdict-read e t f out w g = rw w g
+
 module _ (t : List ℕ) (ed : ℕ) (f out : List ℕ) where
   pub flow-invalid : tableOk t ≡ false → FlowPromise t ed f out InvalidTable t out
   unfolding flowReads

@@ -110,10 +110,10 @@ impl Yard {
         match call {
             Call::Open { .. } => Answer::Open(engine.open(given, lent)),
             Call::Convert { .. } => Answer::Convert(engine.convert(given, lent)),
-            Call::Flow { .. } => {
+            Call::Flow { edition, .. } => {
                 let outcomes = self.outcomes.bytes_mut();
                 let (place, orders, accepted) = (first.number_mut(), second.number_mut(), third.number_mut());
-                let code = engine.flow(lent, given, outcomes, place, orders, accepted, fourth.number_mut());
+                let code = engine.flow(lent, *edition, given, outcomes, place, orders, accepted, fourth.number_mut());
                 let (place, orders, accepted) = (first.number(), second.number(), third.number());
                 Answer::Flow(FlowAnswer { code, place, orders, accepted, cause: fourth.number() })
             }

@@ -18,6 +18,7 @@ pub trait Engine {
     fn flow(
         &self,
         table: &mut [u8],
+        edition: u64,
         flow: &[u8],
         outcomes: &mut [u8],
         place: &mut u64,
@@ -55,6 +56,7 @@ impl Engine for Reference {
     fn flow(
         &self,
         table: &mut [u8],
+        edition: u64,
         flow: &[u8],
         outcomes: &mut [u8],
         place: &mut u64,
@@ -62,7 +64,7 @@ impl Engine for Reference {
         accepted: &mut u64,
         cause: &mut u64,
     ) -> u64 {
-        let answer = reference::flow(table, flow, outcomes);
+        let answer = reference::flow(table, edition, flow, outcomes);
         (*place, *orders, *accepted, *cause) = (answer.place, answer.orders, answer.accepted, answer.cause);
         answer.code
     }
@@ -109,6 +111,7 @@ impl Engine for Library {
     fn flow(
         &self,
         table: &mut [u8],
+        edition: u64,
         flow: &[u8],
         outcomes: &mut [u8],
         place: &mut u64,
@@ -121,6 +124,7 @@ impl Engine for Library {
             hondivole::ffi::hondivole_flow(
                 table.as_mut_ptr(),
                 table.len(),
+                edition,
                 flow.as_ptr(),
                 flow.len(),
                 outcomes.as_mut_ptr(),

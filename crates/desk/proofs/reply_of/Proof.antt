@@ -1,3 +1,4 @@
+use mathlib.Core.Path.{refl}
 use borrow.Author.Needs.{needs}
 use Rattle.desk.proofs.reply_of.Statement.{statement}
 use Rattle.desk.proofs.reply_of.Tie as tie
@@ -6,119 +7,90 @@ use Rattle.desk.proofs.reply_of.Lts as lts
 use Rattle.desk.proofs.refusal.Reads as refusal-reads
 use Rattle.fields.proofs.cause_number.Reads as cause-number-reads
 
--- src/lib.rt:188:37
 enum-told : tie.Need-enum-told
 enum-told c = search needs
 
--- src/lib.rt:188:37
 refusal-requires : tie.Need-refusal-requires
 refusal-requires c κs = search needs
 
--- src/lib.rt:189:39
 enum-told-2 : tie.Need-enum-told-2
 enum-told-2 c = search needs
 
--- src/lib.rt:189:39
 refusal-requires-2 : tie.Need-refusal-requires-2
 refusal-requires-2 c κs = search needs
 
--- src/lib.rt:190:32
 enum-told-3 : tie.Need-enum-told-3
 enum-told-3 c = search needs
 
--- src/lib.rt:190:32
 refusal-requires-3 : tie.Need-refusal-requires-3
 refusal-requires-3 c κs = search needs
 
--- src/lib.rt:191:37
 enum-told-4 : tie.Need-enum-told-4
 enum-told-4 c = search needs
 
--- src/lib.rt:191:37
 refusal-requires-4 : tie.Need-refusal-requires-4
 refusal-requires-4 c κs = search needs
 
--- src/lib.rt:192:40
 enum-told-5 : tie.Need-enum-told-5
 enum-told-5 c = search needs
 
--- src/lib.rt:192:40
 refusal-requires-5 : tie.Need-refusal-requires-5
 refusal-requires-5 c κs = search needs
 
--- src/lib.rt:193:33
 enum-known-a : tie.Need-enum-known-a
 enum-known-a c = search needs
 
--- src/lib.rt:198:20
 cause-number-requires : tie.Need-cause-number-requires
 cause-number-requires c κs = search needs
 
--- src/lib.rt:200:34
 enum-told-6 : tie.Need-enum-told-6
 enum-told-6 c = search needs
 
--- src/lib.rt:200:34
 refusal-requires-6 : tie.Need-refusal-requires-6
 refusal-requires-6 c κs = search needs
 
--- src/lib.rt:201:36
 enum-told-7 : tie.Need-enum-told-7
 enum-told-7 c = search needs
 
--- src/lib.rt:201:36
 refusal-requires-7 : tie.Need-refusal-requires-7
 refusal-requires-7 c κs = search needs
 
--- src/lib.rt:202:31
 enum-told-8 : tie.Need-enum-told-8
 enum-told-8 c = search needs
 
--- src/lib.rt:202:31
 refusal-requires-8 : tie.Need-refusal-requires-8
 refusal-requires-8 c κs = search needs
 
--- src/lib.rt:203:27
 enum-known-a-2 : tie.Need-enum-known-a-2
 enum-known-a-2 c = search needs
 
--- src/lib.rt:184:1
 returns : tie.Need-returns
 returns c = search needs
 
--- src/lib.rt:184:1
 returns-2 : tie.Need-returns-2
 returns-2 c = search needs
 
--- src/lib.rt:184:1
 returns-3 : tie.Need-returns-3
 returns-3 c = search needs
 
--- src/lib.rt:184:1
 returns-4 : tie.Need-returns-4
 returns-4 c = search needs
 
--- src/lib.rt:184:1
 returns-5 : tie.Need-returns-5
 returns-5 c = search needs
 
--- src/lib.rt:184:1
 returns-6 : tie.Need-returns-6
-returns-6 c = ?
+returns-6 c = rw (c .before .before .a .given .1) (refl, refl, refl, refl, c .cause-number .ensures)
 
--- src/lib.rt:184:1
 returns-7 : tie.Need-returns-7
 returns-7 c = search needs
 
--- src/lib.rt:184:1
 returns-8 : tie.Need-returns-8
 returns-8 c = search needs
 
--- src/lib.rt:184:1
 returns-9 : tie.Need-returns-9
 returns-9 c = search needs
 
--- src/lib.rt:184:1
 returns-10 : tie.Need-returns-10
 returns-10 c = search needs
 

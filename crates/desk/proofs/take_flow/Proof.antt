@@ -1,3 +1,7 @@
+use mathlib.Core.Path.{sym, _∙_}
+use borrow.Author.Tests.{not-true, not-false}
+use Rattle.markup.proofs.Noted.{noted-none}
+use Rattle.desk.proofs.Laws.{flow-invalid, flow-unknown, flow-long, flow-read}
 use borrow.Author.Needs.{needs}
 use Rattle.desk.proofs.take_flow.Statement.{statement}
 use Rattle.desk.proofs.take_flow.Tie as tie
@@ -7,85 +11,65 @@ use Rattle.desk.proofs.take_noted.Reads as take-noted-reads
 use Rattle.editions.proofs.edition_of.Reads as edition-of-reads
 use Rattle.table.proofs.table_ok.Reads as table-ok-reads
 
--- src/lib.rt:154:9
 table-ok-requires : tie.Need-table-ok-requires
 table-ok-requires c κs = search needs
 
--- src/lib.rt:155:9
 same-length : tie.Need-same-length
 same-length c = search needs
 
--- src/lib.rt:155:9
 returns : tie.Need-returns
-returns c = ?
+returns c = flow-invalid (c .before .before .before .before .before .before .args .t .now) (c .before .before .before .before .before .before .args .edition) (c .before .before .before .before .before .before .args .f .now) (c .before .before .before .before .before .before .args .out .now) (sym (c .before .table-ok .ensures) ∙ not-true _ (c .if1 .taken))
 
--- src/lib.rt:157:25
 edition-of-requires : tie.Need-edition-of-requires
 edition-of-requires c κs = search needs
 
--- src/lib.rt:157:20
 enum-known-e : tie.Need-enum-known-e
 enum-known-e c = search needs
 
--- src/lib.rt:158:9
 enum-told : tie.Need-enum-told
 enum-told c = search needs
 
--- src/lib.rt:158:9
 same-length-2 : tie.Need-same-length-2
 same-length-2 c = search needs
 
--- src/lib.rt:158:9
 returns-2 : tie.Need-returns-2
-returns-2 c = ?
+returns-2 c = flow-unknown (c .before .before .before .before .before .before .before .before .before .args .t .now) (c .before .before .before .before .before .before .before .before .before .args .edition) (c .before .before .before .before .before .before .before .before .before .args .f .now) (c .before .before .before .before .before .before .before .before .before .args .out .now) (sym (c .before .before .before .before .table-ok .ensures) ∙ not-false _ (c .before .before .before .if1 .left)) (sym (c .before .before .edition-of .ensures) ∙ c .enum-told .given .1)
 
--- src/lib.rt:161:9
 same-length-3 : tie.Need-same-length-3
 same-length-3 c = search needs
 
--- src/lib.rt:161:9
 returns-3 : tie.Need-returns-3
-returns-3 c = ?
+returns-3 c = flow-long (c .before .before .before .before .before .before .before .before .before .before .before .args .t .now) (c .before .before .before .before .before .before .before .before .before .before .before .args .edition) (c .before .before .before .before .before .before .before .before .before .before .before .args .f .now) (c .before .before .before .before .before .before .before .before .before .before .before .args .out .now) (sym (c .before .before .before .before .before .before .table-ok .ensures) ∙ not-false _ (c .before .before .before .before .before .if1 .left)) _ (sym (c .before .before .before .before .edition-of .ensures) ∙ c .before .before .e .given .1) (c .if2 .taken)
 
--- src/lib.rt:165:41
 slice-aggregate-take-noted : tie.Need-slice-aggregate-take-noted
 slice-aggregate-take-noted c = search needs
 
--- src/lib.rt:165:9
 take-noted-requires : tie.Need-take-noted-requires
-take-noted-requires c κs = ?
+take-noted-requires c κs = ((sym (c .before .before .before .before .before .before .before .before .before .before .table-ok .ensures) ∙ not-false _ (c .before .before .before .before .before .before .before .before .before .if1 .left)), c .before .before .before .before .if2 .left, noted-none (c .before .before .before .before .before .before .before .before .before .before .before .before .before .before .before .args .f .now) 1024)
 
--- src/lib.rt:165:9
 same-length-4 : tie.Need-same-length-4
 same-length-4 c = search needs
 
--- src/lib.rt:165:9
 same-length-5 : tie.Need-same-length-5
 same-length-5 c = search needs
 
--- src/lib.rt:165:9
 returns-4 : tie.Need-returns-4
-returns-4 c = ?
+returns-4 c = flow-read (c .before .before .before .before .before .before .before .before .before .before .before .before .before .before .before .before .before .before .before .before .before .args .t .now) (c .before .before .before .before .before .before .before .before .before .before .before .before .before .before .before .before .before .before .before .before .before .args .edition) (c .before .before .before .before .before .before .before .before .before .before .before .before .before .before .before .before .before .before .before .before .before .args .f .now) (c .before .before .before .before .before .before .before .before .before .before .before .before .before .before .before .before .before .before .before .before .before .args .out .now) (sym (c .before .before .before .before .before .before .before .before .before .before .before .before .before .before .before .before .table-ok .ensures) ∙ not-false _ (c .before .before .before .before .before .before .before .before .before .before .before .before .before .before .before .if1 .left)) _ (sym (c .before .before .before .before .before .before .before .before .before .before .before .before .before .before .edition-of .ensures) ∙ c .before .before .before .before .before .before .before .before .before .before .before .before .e .given .1) (c .before .before .before .before .before .before .before .before .before .before .if2 .left) (c .before .before .before .before .before .take-noted .ensures)
 
--- src/lib.rt:168:30
 slice-aggregate-take-noted-2 : tie.Need-slice-aggregate-take-noted-2
 slice-aggregate-take-noted-2 c = search needs
 
--- src/lib.rt:168:5
 take-noted-requires-2 : tie.Need-take-noted-requires-2
-take-noted-requires-2 c κs = ?
+take-noted-requires-2 c κs = ((sym (c .before .before .before .before .before .before .before .before .before .before .table-ok .ensures) ∙ not-false _ (c .before .before .before .before .before .before .before .before .before .if1 .left)), c .before .before .before .before .if2 .left, noted-none (c .before .before .before .before .before .before .before .before .before .before .before .before .before .before .before .args .f .now) 8193)
 
--- src/lib.rt:151:1
 same-length-6 : tie.Need-same-length-6
 same-length-6 c = search needs
 
--- src/lib.rt:151:1
 same-length-7 : tie.Need-same-length-7
 same-length-7 c = search needs
 
--- src/lib.rt:151:1
 returns-5 : tie.Need-returns-5
-returns-5 c = ?
+returns-5 c = flow-read (c .before .before .before .before .before .before .before .before .before .before .before .before .before .before .before .before .before .before .before .before .before .args .t .now) (c .before .before .before .before .before .before .before .before .before .before .before .before .before .before .before .before .before .before .before .before .before .args .edition) (c .before .before .before .before .before .before .before .before .before .before .before .before .before .before .before .before .before .before .before .before .before .args .f .now) (c .before .before .before .before .before .before .before .before .before .before .before .before .before .before .before .before .before .before .before .before .before .args .out .now) (sym (c .before .before .before .before .before .before .before .before .before .before .before .before .before .before .before .before .table-ok .ensures) ∙ not-false _ (c .before .before .before .before .before .before .before .before .before .before .before .before .before .before .before .if1 .left)) _ (sym (c .before .before .before .before .before .before .before .before .before .before .before .before .before .before .edition-of .ensures) ∙ c .before .before .before .before .before .before .before .before .before .before .before .before .e .given .1) (c .before .before .before .before .before .before .before .before .before .before .if2 .left) (c .before .before .before .before .before .take-noted2 .ensures)
 
 pub take-flow-spec : {M : Type 1} → statement M
 take-flow-spec =

@@ -1,3 +1,5 @@
+use mathlib.Core.Path.{refl, sym, _∙_}
+use Rattle.desk.proofs.Laws.{verdict-read}
 use borrow.Author.Needs.{needs}
 use Rattle.desk.proofs.take_noted.Statement.{statement}
 use Rattle.desk.proofs.take_noted.Tie as tie
@@ -6,69 +8,53 @@ use Rattle.desk.proofs.take_noted.Lts as lts
 use Rattle.desk.proofs.for_bank.Reads as for-bank-reads
 use Rattle.flow.proofs.verdict_of.Reads as verdict-of-reads
 
--- src/lib.rt:141:11
 verdict-of-requires : tie.Need-verdict-of-requires
 verdict-of-requires c κs = search needs
 
--- src/lib.rt:142:37
 enum-told : tie.Need-enum-told
 enum-told c = search needs
 
--- src/lib.rt:143:37
 enum-told-2 : tie.Need-enum-told-2
 enum-told-2 c = search needs
 
--- src/lib.rt:144:30
 enum-known-p : tie.Need-enum-known-p
 enum-known-p c = search needs
 
--- src/lib.rt:145:25
 enum-known-at : tie.Need-enum-known-at
 enum-known-at c = search needs
 
--- src/lib.rt:145:32
 for-bank-requires : tie.Need-for-bank-requires
-for-bank-requires c κs = ?
+for-bank-requires c κs = (c .before .before .before .before .before .before .before .before .before .before .before .before .before .before .pre .0, sym (c .before .before .before .before .before .before .before .before .verdict-of .ensures .0) ∙ c .before .before .before .before .at .given .1, c .before .before .before .before .before .before .before .before .verdict-of .ensures .1, c .before .before .before .before .before .before .before .before .before .before .before .before .before .before .pre .1)
 
--- src/lib.rt:130:1
 same-length : tie.Need-same-length
 same-length c = search needs
 
--- src/lib.rt:130:1
 returns : tie.Need-returns
-returns c = ?
+returns c = verdict-read (c .before .before .before .before .before .before .before .before .before .before .args .e) (c .before .before .before .before .before .before .before .before .before .before .args .t .now) (c .before .before .before .before .before .before .before .before .before .before .args .f .now) (c .before .before .before .before .before .before .before .before .before .before .args .out .now) (sym (c .before .before .before .before .verdict-of .ensures .0) ∙ c .enum-told .given .1) (refl, refl, refl)
 
--- src/lib.rt:130:1
 same-length-2 : tie.Need-same-length-2
 same-length-2 c = search needs
 
--- src/lib.rt:130:1
 returns-2 : tie.Need-returns-2
-returns-2 c = ?
+returns-2 c = verdict-read (c .before .before .before .before .before .before .before .before .before .before .args .e) (c .before .before .before .before .before .before .before .before .before .before .args .t .now) (c .before .before .before .before .before .before .before .before .before .before .args .f .now) (c .before .before .before .before .before .before .before .before .before .before .args .out .now) (sym (c .before .before .before .before .verdict-of .ensures .0) ∙ c .enum-told2 .given .1) (refl, refl, refl)
 
--- src/lib.rt:130:1
 same-length-3 : tie.Need-same-length-3
 same-length-3 c = search needs
 
--- src/lib.rt:130:1
 returns-3 : tie.Need-returns-3
-returns-3 c = ?
+returns-3 c = verdict-read (c .before .before .before .before .before .before .before .before .before .before .before .args .e) (c .before .before .before .before .before .before .before .before .before .before .before .args .t .now) (c .before .before .before .before .before .before .before .before .before .before .before .args .f .now) (c .before .before .before .before .before .before .before .before .before .before .before .args .out .now) (sym (c .before .before .before .before .before .verdict-of .ensures .0) ∙ c .before .p .given .1) (refl, refl, refl)
 
--- src/lib.rt:130:1
 same-length-4 : tie.Need-same-length-4
 same-length-4 c = search needs
 
--- src/lib.rt:130:1
 same-length-5 : tie.Need-same-length-5
 same-length-5 c = search needs
 
--- src/lib.rt:130:1
 same-length-6 : tie.Need-same-length-6
 same-length-6 c = search needs
 
--- src/lib.rt:130:1
 returns-4 : tie.Need-returns-4
-returns-4 c = ?
+returns-4 c = verdict-read (c .before .before .before .before .before .before .before .before .before .before .before .before .before .before .before .before .before .before .before .args .e) (c .before .before .before .before .before .before .before .before .before .before .before .before .before .before .before .before .before .before .before .args .t .now) (c .before .before .before .before .before .before .before .before .before .before .before .before .before .before .before .before .before .before .before .args .f .now) (c .before .before .before .before .before .before .before .before .before .before .before .before .before .before .before .before .before .before .before .args .out .now) (sym (c .before .before .before .before .before .before .before .before .before .before .before .before .before .verdict-of .ensures .0) ∙ c .before .before .before .before .before .before .before .before .before .at .given .1) (c .before .before .before .before .for-bank .ensures)
 
 pub take-noted-spec : {M : Type 1} → statement M
 take-noted-spec =

@@ -1,3 +1,7 @@
+use native.Mathlib.Omega.{arith}
+use Rattle.serving.specs.Served.{ordersFrom}
+use Rattle.serving.proofs.Laws.{orders-few, orders-count}
+use Rattle.desk.proofs.Laws.{room-none, room-served}
 use borrow.Author.Needs.{needs}
 use Rattle.desk.proofs.with_room.Statement.{statement}
 use Rattle.desk.proofs.with_room.Tie as tie
@@ -6,33 +10,37 @@ use Rattle.desk.proofs.with_room.Lts as lts
 use Rattle.orders.proofs.count_orders.Reads as count-orders-reads
 use Rattle.serving.proofs.serve_all.Reads as serve-all-reads
 
--- src/lib.rt:63:9
 count-orders-requires : tie.Need-count-orders-requires
 count-orders-requires c κs = search needs
 
--- src/lib.rt:64:20
 mul-if1 : tie.Need-mul-if1
-mul-if1 c = ?
+mul-if1 c =
+    let e = orders-count (c .before .before .before .before .before .args .root) (c .before .before .before .before .before .args .f .now) (c .before .before .before .before .before .args .from) (c .count-orders .ensures) in
+    let n = orders-few (c .before .before .before .before .before .args .root) (c .before .before .before .before .before .args .f .now) (c .before .before .before .before .before .args .from) (c .before .before .before .before .before .pre .1 .within) in
+    let l = c .before .before .before .before .before .pre .2 in
+    omega arith
 
--- src/lib.rt:65:9
 returns : tie.Need-returns
-returns c = ?
+returns c =
+    let e = orders-count (c .before .before .before .before .before .before .args .root) (c .before .before .before .before .before .before .args .f .now) (c .before .before .before .before .before .before .args .from) (c .before .count-orders .ensures) in
+    room-none (c .before .before .before .before .before .before .args .t .now) (c .before .before .before .before .before .before .args .out .now) (ordersFrom (c .before .before .before .before .before .before .args .root) (c .before .before .before .before .before .before .args .f .now) (c .before .before .before .before .before .before .args .from)) (c .before .before .before .before .before .before .args .base) (c .before .before .before .before .before .before .args .n) (c .before .before .before .before .before .before .args .year) e (c .if1 .taken)
 
--- src/lib.rt:69:9
 serve-all-requires : tie.Need-serve-all-requires
-serve-all-requires c κs = ?
+serve-all-requires c κs =
+    let e = orders-count (c .before .before .before .before .before .before .before .before .args .root) (c .before .before .before .before .before .before .before .before .args .f .now) (c .before .before .before .before .before .before .before .before .args .from) (c .before .before .before .count-orders .ensures) in
+    let g = c .before .before .if1 .left in
+    (c .before .before .before .before .before .before .before .before .pre .0, c .before .before .before .before .before .before .before .before .pre .1, omega arith)
 
--- src/lib.rt:48:1
 same-length : tie.Need-same-length
 same-length c = search needs
 
--- src/lib.rt:48:1
 same-length-2 : tie.Need-same-length-2
 same-length-2 c = search needs
 
--- src/lib.rt:48:1
 returns-2 : tie.Need-returns-2
-returns-2 c = ?
+returns-2 c =
+    let e = orders-count (c .before .before .before .before .before .before .before .before .before .before .before .before .before .args .root) (c .before .before .before .before .before .before .before .before .before .before .before .before .before .args .f .now) (c .before .before .before .before .before .before .before .before .before .before .before .before .before .args .from) (c .before .before .before .before .before .before .before .before .count-orders .ensures) in
+    room-served (c .before .before .before .before .before .before .before .before .before .before .before .before .before .args .t .now) (c .before .before .before .before .before .before .before .before .before .before .before .before .before .args .out .now) (ordersFrom (c .before .before .before .before .before .before .before .before .before .before .before .before .before .args .root) (c .before .before .before .before .before .before .before .before .before .before .before .before .before .args .f .now) (c .before .before .before .before .before .before .before .before .before .before .before .before .before .args .from)) (c .before .before .before .before .before .before .before .before .before .before .before .before .before .args .base) (c .before .before .before .before .before .before .before .before .before .before .before .before .before .args .n) (c .before .before .before .before .before .before .before .before .before .before .before .before .before .args .year) e (c .before .before .before .before .before .before .before .if1 .left) (c .before .before .before .before .serve-all .ensures .0) (c .before .before .before .before .serve-all .ensures .1) (c .before .before .before .before .serve-all .ensures .2)
 
 pub with-room-spec : {M : Type 1} → statement M
 with-room-spec =
