@@ -120,7 +120,7 @@ module _ (t : List ℕ) (ed : ℕ) (f out : List ℕ) (a : FlowAnswer) (t′ out
     by-length : tableOk t ≡ true → (u : Bool) → leb (length f) maxFlow ≡ u → Taken t ed f a t′ out′
     unfolding flowReads
     by-length ok true l = by-verdict ok l (verdictOf y f) refl
-    by-length ok false l = not-refused TooLong (λ q. omega arith) (rw (ok, l))
+    by-length ok false l = not-refused TooLong (λ q. omega arith) (rw (ok, num, l))
 
   by-edition : tableOk t ≡ true → (x : Edited) → editionOf ed ≡ x → Taken t ed f a t′ out′
   unfolding flowReads
