@@ -39,7 +39,7 @@
 extern "C" {
 #endif
 
-/* The codes: of calls (1 to 10, 16, 17, 20 to 22, 27, 28, 40, 41) and of orders (11 to 19). */
+/* The codes: of calls (1 to 10, 16, 17, 20 to 23, 27, 28, 40, 41) and of orders (11 to 19). */
 enum hondivole_code {
     HONDIVOLE_DONE = 0,                 /* nothing is refused */
     HONDIVOLE_TABLE_NOT_VALID = 1,      /* the table isn't valid */
@@ -64,6 +64,7 @@ enum hondivole_code {
     HONDIVOLE_NO_SUCH_LINE = 20,        /* the order has no such line */
     HONDIVOLE_ALREADY_EXECUTED = 21,    /* execution: the line is already executed */
     HONDIVOLE_NOT_EXECUTED = 22,        /* reversal: the line isn't executed */
+    HONDIVOLE_NO_SUCH_EDITION = 23,     /* the number names no edition of a flow */
     HONDIVOLE_NO_DATE_SERVED = 27,      /* no date, or outside the years 2002 to 2099 */
     HONDIVOLE_CLOSING_DAY = 28,         /* the date is no TARGET day */
     HONDIVOLE_BUFFER_TOO_SHORT = 40,    /* the buffer is shorter than the message or its values */
@@ -77,6 +78,12 @@ enum hondivole_cause {
     HONDIVOLE_LONG = 2,           /* longer than the longest allowed text */
     HONDIVOLE_MISFORMED = 3,      /* wrong form */
     HONDIVOLE_OUT_OF_RANGE = 4    /* right form but a value outside its range */
+};
+
+/* The editions of a flow. */
+enum {
+    HONDIVOLE_EDITION_OIL = 1, /* the flat header of OIL, no attributes, a creation time without zone */
+    HONDIVOLE_EDITION_OPI = 2  /* the header of OPI 1.2.2: testata_flusso; an Id may stand on the root; a creation time with its zone */
 };
 
 enum {
@@ -142,19 +149,19 @@ uint64_t hondivole_open(const uint8_t *request, size_t request_len, uint8_t *tab
 uint64_t hondivole_convert(const uint8_t *old, size_t old_len, uint8_t *table, size_t table_len);
 
 /*
- * Takes a body's flow. It answers 0 when the flow is taken: its orders are then served as written, each on the table the one before left;
+ * Takes a body's flow of the edition of that number, 1 or 2; a body may mix editions. It answers 0 when the flow is taken: its orders are then served as written, each on the table the one before left;
  * *orders is how many it holds (1 to 64) and *accepted how many of them got outcome code 0; *place and *cause are 0. *steps is how many
  * slots the searches for its orders looked at, together: each up to and including the slot found, or all the body's used slots when there is
  * none, and none for an order answered 11, 12 or 13; at most *orders times the body's slots. Each order has written
  * 16 outcome bytes: 0 kind, 1 operation (1 INSERIMENTO, 2 VARIAZIONE, 3 ANNULLO, 4 SOSTITUZIONE), 2 code (0, 11 to 19), 3 lines, 4-7
- * number, 8-15 total, numbers with the highest byte first. Otherwise it answers the first code of 1 to 8 that applies, with *orders, *accepted
+ * number, 8-15 total, numbers with the highest byte first. Otherwise it answers the first code of 1, 23 and 2 to 8 that applies, with *orders, *accepted
  * and *steps 0, and *place and *cause 0 but for code 5, where *place is the byte of `<` of the first element whose field breaks, counted
  * from 0, and *cause what is wrong with that field, 1 to 4: hondivole_cause_text says it in words. It never changes table or outcomes with
  * a code other than 0, never changes the record of a refused order or of another body, and never writes outcome bytes past the last
  * order's.
  */
-uint64_t hondivole_flow(uint8_t *table, size_t table_len, const uint8_t *flow, size_t flow_len, uint8_t *outcomes, size_t outcomes_len,
-                        uint64_t *place, uint64_t *orders, uint64_t *accepted, uint64_t *cause, uint64_t *steps);
+uint64_t hondivole_flow(uint8_t *table, size_t table_len, uint64_t edition, const uint8_t *flow, size_t flow_len, uint8_t *outcomes,
+                        size_t outcomes_len, uint64_t *place, uint64_t *orders, uint64_t *accepted, uint64_t *cause, uint64_t *steps);
 
 /*
  * Takes the bank's notice that a line is executed. It names the body by its code, the order by kind (1 mandato, 2 reversale), esercizio
@@ -277,6 +284,7 @@ static inline const char *hondivole_code_text(uint64_t code)
     case HONDIVOLE_NO_SUCH_LINE: return "the order has no such line";
     case HONDIVOLE_ALREADY_EXECUTED: return "the line is already executed";
     case HONDIVOLE_NOT_EXECUTED: return "the line isn't executed";
+    case HONDIVOLE_NO_SUCH_EDITION: return "there is no edition of this number";
     case HONDIVOLE_NO_DATE_SERVED: return "no date of the years 2002 to 2099";
     case HONDIVOLE_CLOSING_DAY: return "the date is no TARGET day";
     case HONDIVOLE_BUFFER_TOO_SHORT: return "the buffer is shorter than the message or its values";

@@ -18,7 +18,7 @@ uint64_t all(uint8_t *table, size_t length, const uint8_t *flow, uint64_t *numbe
     uint8_t request[HONDIVOLE_REQUEST_BYTES(2)];
     uint64_t code = hondivole_open(request, hondivole_request("01234", bodies, 2, request, sizeof request), table, length);
     code += hondivole_convert(flow, 0, table, length);
-    code += hondivole_flow(table, length, flow, 0, request, 0, numbers, numbers + 1, numbers + 2, numbers + 3, numbers + 4);
+    code += hondivole_flow(table, length, HONDIVOLE_EDITION_OPI, flow, 0, request, 0, numbers, numbers + 1, numbers + 2, numbers + 3, numbers + 4);
     code += hondivole_execute(table, length, flow, 0, HONDIVOLE_MANDATO, 2021, 1, 1, 2021, 3, 3, numbers);
     code += hondivole_reverse(table, length, flow, 0, HONDIVOLE_REVERSALE, 2021, 1, 1, 2021, 3, 3, numbers);
     code += hondivole_totals(table, length, flow, 0, numbers, numbers + 1, numbers + 2, balance);

@@ -39,8 +39,8 @@ static void order(const char *operation, unsigned number, size_t room, const cha
                           "<beneficiario><anagrafica_beneficiario>Rossi</anagrafica_beneficiario></beneficiario>"
                           "</informazioni_beneficiario></mandato></flusso_ordinativi>",
                           operation, number);
-    uint64_t code = hondivole_flow(table, sizeof table, (const uint8_t *)flow, (size_t)length, outcomes, room, &place, &orders, &accepted,
-                                   &cause, &steps);
+    uint64_t code = hondivole_flow(table, sizeof table, HONDIVOLE_EDITION_OIL, (const uint8_t *)flow, (size_t)length, outcomes, room, &place,
+                                   &orders, &accepted, &cause, &steps);
     print(code == HONDIVOLE_DONE ? outcomes[2] : code, what);
 }
 

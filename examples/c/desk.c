@@ -87,7 +87,7 @@ int main(void)
         return 1;
 
     /* A string literal ends with a zero that is no part of the flow. */
-    code = hondivole_flow(table, sizeof table, (const uint8_t *)flow, sizeof flow - 1, outcomes, sizeof outcomes, &place, &orders,
+    code = hondivole_flow(table, sizeof table, HONDIVOLE_EDITION_OIL, (const uint8_t *)flow, sizeof flow - 1, outcomes, sizeof outcomes, &place, &orders,
                           &accepted, &cause, &steps);
     printf("flow: code %" PRIu64 ", place %" PRIu64 ", orders %" PRIu64 ", accepted %" PRIu64 ", steps %" PRIu64 "\n", code, place, orders, accepted,
            steps);

@@ -131,10 +131,10 @@ uint64_t hondivole_convert(const uint8_t *old, size_t old_len, uint8_t *table, s
     return forward(&call, table, old, none).code;
 }
 
-uint64_t hondivole_flow(uint8_t *table, size_t table_len, const uint8_t *flow, size_t flow_len, uint8_t *outcomes, size_t outcomes_len,
-                        uint64_t *place, uint64_t *orders, uint64_t *accepted, uint64_t *cause, uint64_t *steps)
+uint64_t hondivole_flow(uint8_t *table, size_t table_len, uint64_t edition, const uint8_t *flow, size_t flow_len, uint8_t *outcomes,
+                        size_t outcomes_len, uint64_t *place, uint64_t *orders, uint64_t *accepted, uint64_t *cause, uint64_t *steps)
 {
-    struct call call = {.function = FLOW, .lengths = {table_len, flow_len, outcomes_len}};
+    struct call call = {.function = FLOW, .lengths = {table_len, flow_len, outcomes_len}, .numbers = {edition}};
     struct answer answer = forward(&call, table, flow, outcomes);
     *place = answer.results[0];
     *orders = answer.results[1];

@@ -167,7 +167,7 @@ static uint64_t make(const struct call *call)
     case CONVERT:
         return hondivole_convert(input, input_len, table, table_len);
     case FLOW:
-        return hondivole_flow(table, table_len, input, input_len, outcomes, outcomes_len, results[0], results[1], results[2],
+        return hondivole_flow(table, table_len, n[0], input, input_len, outcomes, outcomes_len, results[0], results[1], results[2],
                               results[3], results[4]);
     case EXECUTE:
         return hondivole_execute(table, table_len, input, input_len, n[0], n[1], n[2], n[3], n[4], n[5], n[6],

@@ -129,7 +129,7 @@ static void call_open(void) { code = hondivole_open(request, request_len, table,
 static void call_convert(void) { code = hondivole_convert(old, old_len, table, table_len); }
 static void call_flow(void)
 {
-    code = hondivole_flow(table, table_len, flow, flow_len, outcomes, sizeof outcomes, &results[0], &results[1], &results[2],
+    code = hondivole_flow(table, table_len, HONDIVOLE_EDITION_OIL, flow, flow_len, outcomes, sizeof outcomes, &results[0], &results[1], &results[2],
                           &results[3], &results[4]);
 }
 static void call_execute(void)

@@ -37,6 +37,7 @@ unsafe extern "C" {
     pub fn hondivole_flow(
         table: *mut u8,
         table_len: usize,
+        edition: u64,
         flow: *const u8,
         flow_len: usize,
         outcomes: *mut u8,

@@ -47,12 +47,12 @@ impl Refusal {
     /// The field that a flow was refused for; `None` for a refusal that names no field.
     ///
     /// ```
-    /// use hondivole::{Refusal, Table};
+    /// use hondivole::{Edition, Refusal, Table};
     ///
     /// # let run = include_str!("run.xml");
     /// let flow = run.replace("<importo_mandato>150.00", "<importo_mandato>00150.00");
     /// let mut table = Table::open("01234", &[("000471", 4)])?;
-    /// let refusal = table.flow(flow.as_bytes(), &mut [0; 32]).unwrap_err();
+    /// let refusal = table.flow(Edition::Oil, flow.as_bytes(), &mut [0; 32]).unwrap_err();
     /// let field = refusal.field(flow.as_bytes()).unwrap();
     /// assert_eq!((field.name, field.text), ("importo_mandato", "00150.00"));
     /// assert_eq!(Refusal::MarkupBreaks.field(flow.as_bytes()), None);
@@ -68,12 +68,12 @@ impl Refusal {
     /// The refusal in words, with the name, the text and the place of the field that the flow was refused for.
     ///
     /// ```
-    /// use hondivole::{Refusal, Table};
+    /// use hondivole::{Edition, Refusal, Table};
     ///
     /// # let run = include_str!("run.xml");
     /// let flow = run.replace("<importo_mandato>150.00", "<importo_mandato>00150.00");
     /// let mut table = Table::open("01234", &[("000471", 4)])?;
-    /// let refusal = table.flow(flow.as_bytes(), &mut [0; 32]).unwrap_err();
+    /// let refusal = table.flow(Edition::Oil, flow.as_bytes(), &mut [0; 32]).unwrap_err();
     /// let place = flow.find("<importo_mandato>").unwrap();
     /// assert_eq!(refusal.of_flow(flow.as_bytes()).to_string(), format!("importo_mandato \"00150.00\" at byte {place} breaks: wrong form"));
     /// assert_eq!(Refusal::MarkupBreaks.of_flow(flow.as_bytes()).to_string(), "the flow's markup breaks");

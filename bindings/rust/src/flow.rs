@@ -2,6 +2,22 @@
 
 use crate::Refusal;
 
+/// The edition of a flow; a body may mix them.
+///
+/// ```
+/// use hondivole::Edition;
+///
+/// assert_eq!(Edition::Oil as u64, 1);
+/// assert_eq!(Edition::Opi as u64, 2);
+/// ```
+#[derive(Clone, Copy, Debug, PartialEq, Eq, Hash)]
+pub enum Edition {
+    /// Edition 1: the flat header of OIL, no attributes, a creation time without zone.
+    Oil = 1,
+    /// Edition 2: the header of OPI 1.2.2 in `testata_flusso`, an Id that may stand on the root, a creation time with its zone.
+    Opi = 2,
+}
+
 /// A payment or a collection order.
 ///
 /// ```
@@ -109,13 +125,13 @@ impl OrderOutcome {
 /// each.
 ///
 /// ```
-/// use hondivole::{Refusal, Table, MOST_OUTCOME_BYTES};
+/// use hondivole::{Edition, Refusal, Table, MOST_OUTCOME_BYTES};
 ///
 /// # let flow = include_bytes!("run.xml").as_slice();
 /// let mut table = Table::open("01234", &[("000471", 4), ("471", 4)])?;
 /// let mut outcomes = [0; MOST_OUTCOME_BYTES];
 /// // Document 01's run: a mandato, and a reversale whose line doesn't sum to its total.
-/// let answer = table.flow(flow, &mut outcomes)?;
+/// let answer = table.flow(Edition::Oil, flow, &mut outcomes)?;
 /// assert_eq!((answer.orders(), answer.accepted()), (2, 1));
 /// let verdicts: Vec<_> = answer.outcomes().map(|outcome| outcome.verdict).collect();
 /// assert_eq!(verdicts, [Ok(()), Err(Refusal::LinesDontSum)]);
@@ -132,10 +148,10 @@ impl<'o> FlowAnswer<'o> {
     /// How many orders the flow holds.
     ///
     /// ```
-    /// # use hondivole::{Refusal, Table};
+    /// # use hondivole::{Edition, Refusal, Table};
     /// # let flow = include_bytes!("run.xml").as_slice();
     /// let mut table = Table::open("01234", &[("000471", 4)])?;
-    /// assert_eq!(table.flow(flow, &mut [0; 32])?.orders(), 2);
+    /// assert_eq!(table.flow(Edition::Oil, flow, &mut [0; 32])?.orders(), 2);
     /// # Ok::<(), Refusal>(())
     /// ```
     pub fn orders(&self) -> usize {
@@ -145,10 +161,10 @@ impl<'o> FlowAnswer<'o> {
     /// How many of them were accepted.
     ///
     /// ```
-    /// # use hondivole::{Refusal, Table};
+    /// # use hondivole::{Edition, Refusal, Table};
     /// # let flow = include_bytes!("run.xml").as_slice();
     /// let mut table = Table::open("01234", &[("000471", 4)])?;
-    /// assert_eq!(table.flow(flow, &mut [0; 32])?.accepted(), 1);
+    /// assert_eq!(table.flow(Edition::Oil, flow, &mut [0; 32])?.accepted(), 1);
     /// # Ok::<(), Refusal>(())
     /// ```
     pub fn accepted(&self) -> usize {
@@ -175,11 +191,11 @@ impl<'o> FlowAnswer<'o> {
     /// What became of each order, in the flow's order.
     ///
     /// ```
-    /// # use hondivole::{Kind, Refusal, Table};
+    /// # use hondivole::{Edition, Kind, Refusal, Table};
     /// # let flow = include_bytes!("run.xml").as_slice();
     /// let mut table = Table::open("01234", &[("000471", 4)])?;
     /// let mut outcomes = [0; 32];
-    /// let answer = table.flow(flow, &mut outcomes)?;
+    /// let answer = table.flow(Edition::Oil, flow, &mut outcomes)?;
     /// let first = answer.outcomes().next().unwrap();
     /// assert_eq!((first.kind, first.number, first.total), (Kind::Mandato, 12, 15_000));
     /// # Ok::<(), Refusal>(())

@@ -6,7 +6,7 @@
 //! [`Refusal`]. What became of a flow's orders is told to the body in an outcome message ([`write_message`], [`read_message`]).
 //!
 //! ```
-//! use hondivole::{Date, Kind, Notice, Refusal, Table};
+//! use hondivole::{Date, Edition, Kind, Notice, Refusal, Table};
 //!
 //! let mut table = Table::open("01234", &[("000471", 4), ("471", 4)])?;
 //!
@@ -24,7 +24,7 @@
 //!     "</flusso_ordinativi>",
 //! );
 //! let mut outcomes = [0; 16];
-//! let answer = table.flow(flow.as_bytes(), &mut outcomes)?;
+//! let answer = table.flow(Edition::Oil, flow.as_bytes(), &mut outcomes)?;
 //! assert_eq!(answer.accepted(), 1);
 //!
 //! let day = Date { year: 2021, month: 3, day: 3 };
@@ -45,7 +45,7 @@ mod table;
 
 pub use date::Date;
 pub use field::{Field, InWords, field_at};
-pub use flow::{FlowAnswer, Kind, Operation, OrderOutcome};
+pub use flow::{Edition, FlowAnswer, Kind, Operation, OrderOutcome};
 pub use message::{
     Entry, Given, MOST_VALUES_BYTES, MOST_WRITTEN_BYTES, Message, MessageValues, read_message, rewrite_message, write_message,
 };

@@ -126,6 +126,8 @@ pub enum Refusal {
     AlreadyExecuted,
     /// 22: a reversal of a line that isn't executed.
     NotExecuted,
+    /// 23: the number names no edition of a flow. (No [`Edition`](crate::Edition) gets it.)
+    NoSuchEdition,
     /// 27: no date, or outside the years 2002 to 2099.
     NoDateServed,
     /// 28: the date is no TARGET day.
@@ -173,6 +175,7 @@ impl Refusal {
             Refusal::NoSuchLine => 20,
             Refusal::AlreadyExecuted => 21,
             Refusal::NotExecuted => 22,
+            Refusal::NoSuchEdition => 23,
             Refusal::NoDateServed => 27,
             Refusal::ClosingDay => 28,
             Refusal::BufferTooShort => 40,
@@ -189,7 +192,7 @@ impl Refusal {
     /// assert_eq!(Refusal::from_code(5, 375, 3), Some(Refusal::FieldBreaks { place: 375, cause: Cause::Misformed }));
     /// assert_eq!(Refusal::from_code(5, 375, 0), None);
     /// assert_eq!(Refusal::from_code(0, 0, 0), None);
-    /// assert_eq!(Refusal::from_code(23, 0, 0), None);
+    /// assert_eq!(Refusal::from_code(99, 0, 0), None);
     /// ```
     pub fn from_code(code: u64, place: u64, cause: u64) -> Option<Refusal> {
         Refusal::of_code(code, place, cause)?.err()
@@ -221,6 +224,7 @@ impl Refusal {
             20 => Refusal::NoSuchLine,
             21 => Refusal::AlreadyExecuted,
             22 => Refusal::NotExecuted,
+            23 => Refusal::NoSuchEdition,
             27 => Refusal::NoDateServed,
             28 => Refusal::ClosingDay,
             40 => Refusal::BufferTooShort,
@@ -263,6 +267,7 @@ impl fmt::Display for Refusal {
             Refusal::NoSuchLine => "the order has no such line",
             Refusal::AlreadyExecuted => "the line is already executed",
             Refusal::NotExecuted => "the line isn't executed",
+            Refusal::NoSuchEdition => "there is no edition of this number",
             Refusal::NoDateServed => "no date of the years 2002 to 2099",
             Refusal::ClosingDay => "the date is no TARGET day",
             Refusal::BufferTooShort => "the buffer is shorter than the message or its values",

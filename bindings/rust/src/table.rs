@@ -1,6 +1,6 @@
 //! Order tables and the calls on them.
 
-use crate::{Date, FlowAnswer, Kind, Refusal, ffi};
+use crate::{Date, Edition, FlowAnswer, Kind, Refusal, ffi};
 
 /// What the bank's notice of an execution or a reversal names: one line of an order.
 ///
@@ -84,12 +84,12 @@ pub fn request(abi: &str, bodies: &[(&str, u16)]) -> Result<Vec<u8>, Refusal> {
 /// taken for one. A refused call changes no byte.
 ///
 /// ```
-/// use hondivole::{Date, Kind, Notice, Refusal, Table};
+/// use hondivole::{Date, Edition, Kind, Notice, Refusal, Table};
 ///
 /// # let flow = include_bytes!("run.xml").as_slice();
 /// let mut table = Table::open("01234", &[("000471", 4), ("471", 4)])?;
 /// let mut outcomes = [0; 32];
-/// assert_eq!(table.flow(flow, &mut outcomes)?.accepted(), 1);
+/// assert_eq!(table.flow(Edition::Oil, flow, &mut outcomes)?.accepted(), 1);
 ///
 /// let day = Date { year: 2021, month: 3, day: 3 };
 /// let line = Notice { body: "000471", kind: Kind::Mandato, esercizio: 2021, number: 12, line: 1, day };
@@ -236,7 +236,7 @@ impl<B: AsRef<[u8]>> Table<B> {
 }
 
 impl<B: AsMut<[u8]>> Table<B> {
-    /// Takes a body's flow: serves its orders one after another and writes 16 outcome bytes for each into the lent buffer;
+    /// Takes a body's flow of an edition: serves its orders one after another and writes 16 outcome bytes for each into the lent buffer;
     /// [`MOST_OUTCOME_BYTES`](crate::MOST_OUTCOME_BYTES) are enough for any flow. Bytes past the last order's stay as they are.
     ///
     /// # Errors
@@ -245,14 +245,14 @@ impl<B: AsMut<[u8]>> Table<B> {
     /// among the [outcomes](FlowAnswer::outcomes).
     ///
     /// ```
-    /// # use hondivole::{Refusal, Table};
+    /// # use hondivole::{Edition, Refusal, Table};
     /// # let flow = include_bytes!("run.xml").as_slice();
     /// let mut table = Table::open("01234", &[("000471", 4)])?;
-    /// assert_eq!(table.flow(flow, &mut [0; 31]), Err(Refusal::OutcomesTooShort));
-    /// assert_eq!(table.flow(flow, &mut [0; 32])?.orders(), 2);
+    /// assert_eq!(table.flow(Edition::Oil, flow, &mut [0; 31]), Err(Refusal::OutcomesTooShort));
+    /// assert_eq!(table.flow(Edition::Oil, flow, &mut [0; 32])?.orders(), 2);
     /// # Ok::<(), Refusal>(())
     /// ```
-    pub fn flow<'o>(&mut self, flow: &[u8], outcomes: &'o mut [u8]) -> Result<FlowAnswer<'o>, Refusal> {
+    pub fn flow<'o>(&mut self, edition: Edition, flow: &[u8], outcomes: &'o mut [u8]) -> Result<FlowAnswer<'o>, Refusal> {
         let table = self.bytes.as_mut();
         let (mut place, mut orders, mut accepted, mut cause, mut steps) = (0, 0, 0, 0, 0);
         // SAFETY: the pointers and lengths are those of slices that don't overlap and of numbers that live here.
@@ -260,6 +260,7 @@ impl<B: AsMut<[u8]>> Table<B> {
             ffi::hondivole_flow(
                 table.as_mut_ptr(),
                 table.len(),
+                edition as u64,
                 flow.as_ptr(),
                 flow.len(),
                 outcomes.as_mut_ptr(),
@@ -283,10 +284,10 @@ impl<B: AsMut<[u8]>> Table<B> {
     /// The refusals of codes 1, 27, 28, 7, 16, 17, 20 and 21; no byte changes then.
     ///
     /// ```
-    /// # use hondivole::{Date, Kind, Notice, Refusal, Table};
+    /// # use hondivole::{Date, Edition, Kind, Notice, Refusal, Table};
     /// # let flow = include_bytes!("run.xml").as_slice();
     /// let mut table = Table::open("01234", &[("000471", 4)])?;
-    /// table.flow(flow, &mut [0; 32])?;
+    /// table.flow(Edition::Oil, flow, &mut [0; 32])?;
     /// let day = Date { year: 2021, month: 3, day: 3 };
     /// let line = Notice { body: "000471", kind: Kind::Mandato, esercizio: 2021, number: 12, line: 2, day };
     /// assert_eq!(table.execute(&line), Ok(5_000));
@@ -304,10 +305,10 @@ impl<B: AsMut<[u8]>> Table<B> {
     /// The refusals of codes 1, 27, 28, 7, 16, 17, 20 and 22; no byte changes then.
     ///
     /// ```
-    /// # use hondivole::{Date, Kind, Notice, Refusal, Table};
+    /// # use hondivole::{Date, Edition, Kind, Notice, Refusal, Table};
     /// # let flow = include_bytes!("run.xml").as_slice();
     /// let mut table = Table::open("01234", &[("000471", 4)])?;
-    /// table.flow(flow, &mut [0; 32])?;
+    /// table.flow(Edition::Oil, flow, &mut [0; 32])?;
     /// let day = Date { year: 2021, month: 3, day: 3 };
     /// let line = Notice { body: "000471", kind: Kind::Mandato, esercizio: 2021, number: 12, line: 2, day };
     /// assert_eq!(table.reverse(&line), Err(Refusal::NotExecuted));

@@ -1,6 +1,6 @@
 //! The calls through the safe types: document 01's run, and a refusal of each kind.
 
-use hondivole::{Cause, Date, Field, Kind, MOST_OUTCOME_BYTES, Notice, Operation, Refusal, Table, Totals, field_at};
+use hondivole::{Cause, Date, Edition, Field, Kind, MOST_OUTCOME_BYTES, Notice, Operation, Refusal, Table, Totals, field_at};
 
 const RUN: &[u8] = include_bytes!("../src/run.xml");
 
@@ -19,7 +19,7 @@ const LINE: Notice = Notice { body: "000471", kind: Kind::Mandato, esercizio: 20
 fn the_run_whole() {
     let mut table = desk();
     let mut outcomes = [0; MOST_OUTCOME_BYTES];
-    let answer = table.flow(RUN, &mut outcomes).unwrap();
+    let answer = table.flow(Edition::Oil, RUN, &mut outcomes).unwrap();
     assert_eq!((answer.orders(), answer.accepted()), (2, 1));
     let read: Vec<_> =
         answer.outcomes().map(|order| (order.kind, order.operation, order.number, order.lines, order.total)).collect();
@@ -48,10 +48,10 @@ fn refused_flows_change_nothing() {
     ];
     for (flow, refusal) in flows {
         let mut outcomes = [7; 32];
-        assert_eq!(table.flow(&flow, &mut outcomes), Err(refusal));
+        assert_eq!(table.flow(Edition::Oil, &flow, &mut outcomes), Err(refusal));
         assert_eq!(outcomes, [7; 32]);
     }
-    assert_eq!(table.flow(RUN, &mut [0; 31]), Err(Refusal::OutcomesTooShort));
+    assert_eq!(table.flow(Edition::Oil, RUN, &mut [0; 31]), Err(Refusal::OutcomesTooShort));
     assert_eq!(table, desk());
 }
 
@@ -69,7 +69,7 @@ fn causes() {
         let flow = String::from_utf8(changed("<numero_mandato>0012</numero_mandato>", &number)).unwrap();
         let flow = flow.replace("<progressivo_versante>1<", "<progressivo_versante>x<");
         let place = flow.find("<numero_mandato>").unwrap();
-        let refusal = desk().flow(flow.as_bytes(), &mut [0; 32]).unwrap_err();
+        let refusal = desk().flow(Edition::Oil, flow.as_bytes(), &mut [0; 32]).unwrap_err();
         assert_eq!(refusal, Refusal::FieldBreaks { place, cause });
         assert_eq!(
             refusal.of_flow(flow.as_bytes()).to_string(),
@@ -82,7 +82,7 @@ fn causes() {
 fn bytes_that_are_no_table() {
     for bytes in [&mut [][..], &mut [0; 15], &mut [0xFF; 880]] {
         let mut table = Table::over(bytes);
-        assert_eq!(table.flow(RUN, &mut [0; 32]), Err(Refusal::TableNotValid));
+        assert_eq!(table.flow(Edition::Oil, RUN, &mut [0; 32]), Err(Refusal::TableNotValid));
         assert_eq!(table.execute(&LINE), Err(Refusal::TableNotValid));
         assert_eq!(table.reverse(&LINE), Err(Refusal::TableNotValid));
         let bytes: &[u8] = table.into_bytes();
@@ -94,7 +94,7 @@ fn bytes_that_are_no_table() {
 fn notices() {
     let mut table = desk();
     assert_eq!(table.execute(&LINE), Err(Refusal::NoSuchOrder));
-    table.flow(RUN, &mut [0; 32]).unwrap();
+    table.flow(Edition::Oil, RUN, &mut [0; 32]).unwrap();
     assert_eq!(table.reverse(&LINE), Err(Refusal::NotExecuted));
     assert_eq!(table.execute(&Notice { body: "0471", ..LINE }), Err(Refusal::NoSuchBody));
     assert_eq!(table.execute(&Notice { body: "", ..LINE }), Err(Refusal::NoSuchBody));
@@ -106,11 +106,11 @@ fn notices() {
     assert_eq!(table.execute(&LINE), Err(Refusal::AlreadyExecuted));
     let again = changed("INSERIMENTO", "ANNULLO");
     let mut outcomes = [0; 32];
-    let verdicts: Vec<_> = table.flow(&again, &mut outcomes).unwrap().outcomes().map(|order| order.verdict).collect();
+    let verdicts: Vec<_> = table.flow(Edition::Oil, &again, &mut outcomes).unwrap().outcomes().map(|order| order.verdict).collect();
     assert_eq!(verdicts, [Err(Refusal::LineExecuted), Err(Refusal::LinesDontSum)]);
     assert_eq!(table.totals("000471"), Ok(Totals { used: 1, paid: 10_000, collected: 0, balance: -10_000 }));
     assert_eq!(table.reverse(&LINE), Ok(10_000));
-    let answer = table.flow(&again, &mut outcomes).unwrap();
+    let answer = table.flow(Edition::Oil, &again, &mut outcomes).unwrap();
     assert_eq!((answer.accepted(), answer.steps()), (1, 1));
     assert_eq!(table.execute(&LINE), Err(Refusal::OrderAnnulled));
 }

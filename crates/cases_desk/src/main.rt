@@ -1,6 +1,6 @@
 // Cases of the desk, as a script of calls on one table. A line of the input has a call, a name, its arguments and what document 01 says it answers, by hand;
 // a line of the output has what the code answers beside it, and says `touched` where outcome bytes that should stay did not. Calls: open (request, length),
-// flow (flow, room), execute and reverse (body, kind, esercizio, number, line, year, month, day), totals (body), poke (place, byte: damages the table),
+// flow (of edition 1: flow, room), execute and reverse (body, kind, esercizio, number, line, year, month, day), totals (body), poke (place, byte: damages the table),
 // long (a flow of so many zero bytes), first (year, month, day).
 use calendar::Date;
 use casebook::number;

@@ -11,10 +11,13 @@ use Rattle.scan.proofs.Laws.{run-within}
 use Rattle.tokens.specs.Tokens.{whiteAt}
 use Rattle.words.specs.Numbers.{put}
 use Rattle.markup.specs.Noted.{Noted}
-use Rattle.rows.specs.declared.Parent.the-variants.{FlussoOrdinativi}
+use Rattle.rows.specs.declared.Parent.{Parent}
+use Rattle.editions.specs.declared.Edition.{Edition}
+use Rattle.editions.specs.declared.Edited.the-variants.{By, NoEdition}
+use Rattle.editions.specs.Editions.{editionOf}
 use Rattle.order.specs.Ordinativo.{Ordinativo, ordinativo}
 use Rattle.orders.specs.Shape.{Filled}
-use Rattle.orders.specs.Orders.{Header}
+use Rattle.header.specs.Header.{Header, rootOf}
 use Rattle.header.specs.declared.Heading.{Heading}
 use Rattle.header.specs.Heading.{rootRows, headingFrom, headerBy, Within}
 use Rattle.header.proofs.Laws.{heading-header, heading-within, heading-orders}
@@ -28,7 +31,7 @@ use Rattle.flow.specs.Flow.{verdictOf, headerOf, flowOrders}
 use Rattle.flow.proofs.Laws.{flow-stood}
 use Rattle.service.specs.Service.{allLeave, allOutcomes, allAccepted, allSteps}
 use Rattle.desk.specs.declared.FlowAnswer.{FlowAnswer}
-use Rattle.desk.specs.declared.FlowAnswer.the-variants.{InvalidTable, TooLong, OtherBank, NoRoom, Taken}
+use Rattle.desk.specs.declared.FlowAnswer.the-variants.{InvalidTable, UnknownEdition, TooLong, OtherBank, NoRoom, Taken}
 use Rattle.desk.specs.Desk.{maxFlow, withRoom, forBody, forBank, forFlow, flowReads, Gives, FlowPromise}
 use Rattle.serving.specs.Served.{ordersFrom, Rooted}
 use Rattle.desk.specs.Steps.{bodyFor}
@@ -57,39 +60,50 @@ module _ (t out : List ℕ) (h : Header) (os : List Ordinativo) where
     bank-own n k = rw (← c, ← e, n) k
 
 -- the root's children begin past the white space, and its orders past the header
-module _ (f : List ℕ) (at from : ℕ) (z : from ≡ whiteAt f at) (v : verdictOf f ≡ Stands at) where
-  pub bank-filled : Filled rootRows 3 FlussoOrdinativi f 0 from
+module _ (e : Edition) (f : List ℕ) (at from : ℕ) (z : from ≡ whiteAt f at) (v : verdictOf e f ≡ Stands at) where
+  pub bank-filled : Filled (rootRows e) 3 (rootOf e) f 0 from
   bank-filled =
-      let s = flow-stood f at v in
-      let b = fits-parts 3 FlussoOrdinativi f at (s .fits) in
+      let s = flow-stood e f at v in
+      let b = fits-parts 3 (rootOf e) f at (s .fits) in
       rw z (record { within = run-within isWhite f at (s .within); rows = b .0; each = b .1 })
 
-  module _ (h : Heading) (e : h ≡ headingFrom f from) where
+  module _ (h : Heading) (y : h ≡ headingFrom e f from) where
     pub bank-within : Within f h
-    bank-within = rw e (heading-within f from)
+    bank-within = rw y (heading-within e f from)
 
-    pub bank-rooted : (past : List ℕ) → Noted f past → Rooted FlussoOrdinativi f past (h .orders)
-    bank-rooted past n = let b = heading-orders f from bank-filled in rw e (record { within = b .within; holds = b .standing; noted = n })
+    module _ (root : Parent) (x : root ≡ rootOf e) where
+      pub bank-rooted : (past : List ℕ) → Noted f past → Rooted root f past (h .orders)
+      bank-rooted past n = let b = heading-orders e f from bank-filled in rw (x, y) (record { within = b .within; holds = b .standing; noted = n })
 
-    pub bank-from : (t out : List ℕ) {r : FlowAnswer} {t′ out′ : List ℕ} → Gives t out (forBank t (length out) (headerBy f h) (ordersFrom FlussoOrdinativi f (h .orders))) r t′ out′
-        → Gives t out (forBank t (length out) (headerOf f at) (flowOrders f at)) r t′ out′
-    bank-from t out {r} {t′} {out′} g =
-        let a : headerBy f h ≡ headerOf f at = rw (e, z) (heading-header f (whiteAt f at)) in
-        let b : ordersFrom FlussoOrdinativi f (h .orders) ≡ flowOrders f at = rw e (ap (map ordinativo) (heading-orders f from bank-filled .same) ∙ rw z) in
-        subst (λ (os : List Ordinativo). Gives t out (forBank t (length out) (headerOf f at) os) r t′ out′) b
-        (subst (λ (x : Header). Gives t out (forBank t (length out) x (ordersFrom FlussoOrdinativi f (h .orders))) r t′ out′) a g)
+      pub bank-orders : ordersFrom root f (h .orders) ≡ flowOrders e f at
+      bank-orders = rw (x, y) (ap (map ordinativo) (heading-orders e f from bank-filled .same) ∙ rw z)
 
-module _ (t f out : List ℕ) where
-  pub flow-invalid : tableOk t ≡ false → FlowPromise t f out InvalidTable t out
+    pub bank-from : (t out : List ℕ) (os : List Ordinativo) → os ≡ flowOrders e f at → {r : FlowAnswer} {t′ out′ : List ℕ} → Gives t out (forBank t (length out) (headerBy f h) os) r t′ out′
+        → Gives t out (forBank t (length out) (headerOf e f at) (flowOrders e f at)) r t′ out′
+    bank-from t out os b {r} {t′} {out′} g =
+        let a : headerBy f h ≡ headerOf e f at = rw (y, z) (heading-header e f (whiteAt f at)) in
+        subst (λ (os : List Ordinativo). Gives t out (forBank t (length out) (headerOf e f at) os) r t′ out′) b
+        (subst (λ (x : Header). Gives t out (forBank t (length out) x os) r t′ out′) a g)
+
+pub verdict-read : (e : Edition) (t f out : List ℕ) {v : Verdict} {r : FlowAnswer} {t′ out′ : List ℕ} → verdictOf e f ≡ v → Gives t out (forFlow e t f (length out) v) r t′ out′
+    → Gives t out (forFlow e t f (length out) (verdictOf e f)) r t′ out′
+verdict-read e t f out w g = rw w g
+
+module _ (t : List ℕ) (ed : ℕ) (f out : List ℕ) where
+  pub flow-invalid : tableOk t ≡ false → FlowPromise t ed f out InvalidTable t out
   unfolding flowReads
   flow-invalid e = rw e (refl, refl, refl)
 
   module _ (e : tableOk t ≡ true) where
-    pub flow-long : maxFlow < length f → FlowPromise t f out TooLong t out
+    pub flow-unknown : editionOf ed ≡ NoEdition → FlowPromise t ed f out UnknownEdition t out
     unfolding flowReads
-    flow-long l = rw (e, lt-leb (length f) maxFlow l) (refl, refl, refl)
+    flow-unknown n = rw (e, n) (refl, refl, refl)
 
-    pub flow-read : {v : Verdict} {r : FlowAnswer} {t′ out′ : List ℕ} → length f ≤ maxFlow → verdictOf f ≡ v → Gives t out (forFlow t f (length out) v) r t′ out′
-        → FlowPromise t f out r t′ out′
-    unfolding flowReads
-    flow-read l w g = rw (e, le-leb (length f) maxFlow l, w) g
+    module _ (y : Edition) (n : editionOf ed ≡ By y) where
+      pub flow-long : maxFlow < length f → FlowPromise t ed f out TooLong t out
+      unfolding flowReads
+      flow-long l = rw (e, n, lt-leb (length f) maxFlow l) (refl, refl, refl)
+
+      pub flow-read : {r : FlowAnswer} {t′ out′ : List ℕ} → length f ≤ maxFlow → Gives t out (forFlow y t f (length out) (verdictOf y f)) r t′ out′ → FlowPromise t ed f out r t′ out′
+      unfolding flowReads
+      flow-read l g = rw (e, n, le-leb (length f) maxFlow l) g

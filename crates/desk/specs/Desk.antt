@@ -10,7 +10,11 @@ use Rattle.words.specs.Numbers.{put}
 use Rattle.table.specs.Table.{tableOk, abiOf}
 use Rattle.fields.specs.Causes.{causeNumber}
 use Rattle.order.specs.Ordinativo.{Ordinativo}
-use Rattle.orders.specs.Orders.{Header}
+use Rattle.editions.specs.declared.Edition.{Edition}
+use Rattle.editions.specs.declared.Edited.{Edited}
+use Rattle.editions.specs.declared.Edited.the-variants.{By, NoEdition}
+use Rattle.editions.specs.Editions.{editionOf}
+use Rattle.header.specs.Header.{Header}
 use Rattle.flow.specs.declared.Verdict.{Verdict}
 use Rattle.flow.specs.declared.Verdict.the-variants.{MarkupBreaks, StructureBreaks, FieldBreaks, Stands}
 use Rattle.flow.specs.Flow.{verdictOf, headerOf, flowOrders}
@@ -20,7 +24,7 @@ use Rattle.address.specs.declared.Addressed.the-variants.{Invalid, Unknown, Bod
 use Rattle.address.specs.Address.{bodyNamed}
 use Rattle.desk.specs.declared.FlowReply.{FlowReply}
 use Rattle.desk.specs.declared.FlowAnswer.{FlowAnswer}
-use Rattle.desk.specs.declared.FlowAnswer.the-variants.{InvalidTable, TooLong, BrokenMarkup, BrokenStructure, BrokenField, OtherBank, UnknownBody, NoRoom, Taken}
+use Rattle.desk.specs.declared.FlowAnswer.the-variants.{InvalidTable, UnknownEdition, TooLong, BrokenMarkup, BrokenStructure, BrokenField, OtherBank, UnknownBody, NoRoom, Taken}
 
 -- A FLOW
 
@@ -43,21 +47,24 @@ forBody room year os Invalid = refused InvalidTable
 abbrev pub forBank : List ℕ → ℕ → Header → List Ordinativo → Reading
 forBank t room h os = cond (textIs (abiOf t) (h .abi)) (forBody room (h .esercizio) os (bodyNamed t (h .ente))) (refused OtherBank)
 
--- "3 the markup breaks; 4 the structure breaks; 5 a field breaks"
-abbrev pub forFlow : List ℕ → List ℕ → ℕ → Verdict → Reading
-forFlow t f room (MarkupBreaks p) = refused BrokenMarkup
-forFlow t f room StructureBreaks = refused BrokenStructure
-forFlow t f room (FieldBreaks p c) = refused (BrokenField p c)
-forFlow t f room (Stands at) = forBank t room (headerOf f at) (flowOrders f at)
+-- "3 the markup breaks; 4 the structure breaks; 5 a field breaks", of a flow of an edition
+abbrev pub forFlow : Edition → List ℕ → List ℕ → ℕ → Verdict → Reading
+forFlow e t f room (MarkupBreaks p) = refused BrokenMarkup
+forFlow e t f room StructureBreaks = refused BrokenStructure
+forFlow e t f room (FieldBreaks p c) = refused (BrokenField p c)
+forFlow e t f room (Stands at) = forBank t room (headerOf e f at) (flowOrders e f at)
 
 abbrev pub maxFlow : ℕ
 maxFlow = 32768
 
--- "1 the table isn't valid; 2 the flow is longer than 32,768 bytes"; "Checked in that order, each over the whole flow". room is the outcome
--- buffer's length
-unfoldable pub flowReads : List ℕ → List ℕ → ℕ → Reading
-flowReads t f room =
-    cond (tableOk t) (cond (leb (length f) maxFlow) (forFlow t f room (verdictOf f)) (refused TooLong)) (refused InvalidTable)
+-- "2 the flow is longer than 32,768 bytes"; document 02, Req 05: "Refusals: 23, no such edition, after 1 and before 2"
+abbrev pub byEdition : List ℕ → List ℕ → ℕ → Edited → Reading
+byEdition t f room (By e) = cond (leb (length f) maxFlow) (forFlow e t f room (verdictOf e f)) (refused TooLong)
+byEdition t f room NoEdition = refused UnknownEdition
+
+-- "1 the table isn't valid"; "Checked in that order, each over the whole flow". ed is the edition's number, room the outcome buffer's length
+unfoldable pub flowReads : List ℕ → ℕ → List ℕ → ℕ → Reading
+flowReads t ed f room = cond (tableOk t) (byEdition t f room (editionOf ed)) (refused InvalidTable)
 
 -- the answer
 abbrev pub flowAnswer : List ℕ → Reading → FlowAnswer
@@ -80,9 +87,9 @@ flowOutcomes t out (served base n year os) = put out 0 (allOutcomes t base n yea
 abbrev pub Gives : List ℕ → List ℕ → Reading → FlowAnswer → List ℕ → List ℕ → Type 0
 Gives t out g a t′ out′ = (a ≡ flowAnswer t g) × (t′ ≡ flowTable t g) × (out′ ≡ flowOutcomes t out g)
 
--- on the table t and the flow f, with the outcome buffer out lent: the answer a, and the two buffers afterwards
-abbrev pub FlowPromise : List ℕ → List ℕ → List ℕ → FlowAnswer → List ℕ → List ℕ → Type 0
-FlowPromise t f out a t′ out′ = Gives t out (flowReads t f (length out)) a t′ out′
+-- on the table t and the flow f, of the edition that ed names, with the outcome buffer out lent: the answer a, and the two buffers afterwards
+abbrev pub FlowPromise : List ℕ → ℕ → List ℕ → List ℕ → FlowAnswer → List ℕ → List ℕ → Type 0
+FlowPromise t ed f out a t′ out′ = Gives t out (flowReads t ed f (length out)) a t′ out′
 
 -- DOCUMENT 01'S NUMBERS of an answer: "A refusal gives orders and accepted 0; place is 0 but for code 5". Document 02, Req 03: "the flow's answer
 -- carries it: 1 empty, 2 longer than the longest allowed text, 3 wrong form, 4 right form but a value outside its range. .. All other answers carry
@@ -92,6 +99,7 @@ refusal c = record { code = c; place = 0; orders = 0; accepted = 0; cause = 0; s
 
 abbrev pub flowReply : FlowAnswer → FlowReply
 flowReply InvalidTable = refusal 1
+flowReply UnknownEdition = refusal 23
 flowReply TooLong = refusal 2
 flowReply BrokenMarkup = refusal 3
 flowReply BrokenStructure = refusal 4
@@ -110,5 +118,5 @@ SameReply m n =
     (m .code ≡ n .code) × (m .place ≡ n .place) × (m .orders ≡ n .orders) × (m .accepted ≡ n .accepted) × (m .cause ≡ n .cause) × (m .steps ≡ n .steps)
 
 -- the promise in these numbers
-abbrev pub FlowReplies : List ℕ → List ℕ → List ℕ → FlowReply → List ℕ → List ℕ → Type 0
-FlowReplies t f out n t′ out′ = (a : FlowAnswer) × FlowPromise t f out a t′ out′ × SameReply n (flowReply a)
+abbrev pub FlowReplies : List ℕ → ℕ → List ℕ → List ℕ → FlowReply → List ℕ → List ℕ → Type 0
+FlowReplies t ed f out n t′ out′ = (a : FlowAnswer) × FlowPromise t ed f out a t′ out′ × SameReply n (flowReply a)

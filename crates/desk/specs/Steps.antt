@@ -2,7 +2,7 @@
 use Prim.Native.Nat.{ℕ}
 use mathlib.Core.List.{List}
 use Rattle.order.specs.Ordinativo.{Ordinativo}
-use Rattle.orders.specs.Orders.{Header}
+use Rattle.header.specs.Header.{Header}
 use Rattle.address.specs.Address.{bodyNamed}
 use Rattle.desk.specs.Desk.{Reading, forBody}
 

@@ -1,6 +1,8 @@
-// A flow's call, on any bytes at all: the table is checked, then the flow's length, markup, structure and fields, then bank, body and room; then its
+// A flow's call, on any bytes at all: the table is checked, then the edition, the flow's length, markup, structure and fields, then bank, body and room; then its
 // orders are served.
 use address::Addressed;
+use editions::Edited;
+use editions::Edition;
 use fields::Cause;
 use flow::Verdict;
 use header::Heading;
@@ -13,17 +15,17 @@ ghost use Rattle.markup.specs.Noted.{Noted};
 ghost use Rattle.bounds.specs.Bounds.{maxSlots};
 ghost use Rattle.record.specs.Slot.{slotSize};
 ghost use Rattle.table.specs.Table.{tableOk};
-ghost use Rattle.rows.specs.declared.Parent.the-variants.{FlussoOrdinativi};
 ghost use Rattle.flow.specs.declared.Verdict.the-variants.{Stands};
 ghost use Rattle.header.specs.Heading.{headerBy, Within};
 ghost use Rattle.flow.specs.Flow.{verdictOf, headerOf, flowOrders};
-ghost use Rattle.desk.specs.Desk.{withRoom, forBank, maxFlow, Gives, FlowPromise, SameReply, flowReply};
+ghost use Rattle.desk.specs.Desk.{withRoom, forBank, forFlow, maxFlow, Gives, FlowPromise, SameReply, flowReply};
 ghost use Rattle.serving.specs.Served.{ordersFrom, Rooted};
 ghost use Rattle.desk.specs.Steps.{bodyFor};
 
 // What a flow's call answers.
 pub enum FlowAnswer {
     InvalidTable,
+    UnknownEdition,
     TooLong,
     BrokenMarkup,
     BrokenStructure,
@@ -48,6 +50,7 @@ pub struct FlowReply {
 fn with_room(
     t: &mut [u8],
     f: &[u8],
+    root: Parent,
     from: usize,
     year: u64,
     base: usize,
@@ -55,89 +58,108 @@ fn with_room(
     out: &mut [u8],
     past: &[u32],
 ) -> FlowAnswer
-    requires { ⌜ (base + slotSize * n ≤ length (now t)) × (n ≤ maxSlots) × Rooted FlussoOrdinativi (now f) (now past) from × (length (now f) ≤ maxFlow) ⌝ }
+    requires { ⌜ (base + slotSize * n ≤ length (now t)) × (n ≤ maxSlots) × Rooted root (now f) (now past) from × (length (now f) ≤ maxFlow) ⌝ }
     ensures { λ r. ⌜ Gives (now (t .entry)) (now (out .entry))
-        (withRoom (length (now (out .entry))) base n year (ordersFrom FlussoOrdinativi (now (f .entry)) from)) r (now (t .exit)) (now (out .exit)) ⌝ }
+        (withRoom (length (now (out .entry))) base n year (ordersFrom root (now (f .entry)) from)) r (now (t .exit)) (now (out .exit)) ⌝ }
 {
-    let count = orders::count_orders(f, from, Parent::FlussoOrdinativi, past);
+    let count = orders::count_orders(f, from, root, past);
     if out.len() < service::OUTCOME * count {
         return FlowAnswer::NoRoom;
     }
-    let s = serving::serve_all(
-        t,
-        f,
-        from,
-        Parent::FlussoOrdinativi,
-        base,
-        n,
-        year,
-        out,
-        past,
-    );
+    let s = serving::serve_all(t, f, from, root, base, n, year, out, past);
     FlowAnswer::Taken(count, s.accepted, s.steps)
 }
 
 // The orders of a flow, for the body with the flow's code: 7, or as the room says.
-fn for_body(t: &mut [u8], f: &[u8], h: Heading, out: &mut [u8], past: &[u32]) -> FlowAnswer
-    requires { ⌜ (tableOk (now t) ≡ true) × Within (now f) h × Rooted FlussoOrdinativi (now f) (now past) (h .orders) × (length (now f) ≤ maxFlow) ⌝ }
+fn for_body(
+    t: &mut [u8],
+    f: &[u8],
+    root: Parent,
+    h: Heading,
+    out: &mut [u8],
+    past: &[u32],
+) -> FlowAnswer
+    requires { ⌜ (tableOk (now t) ≡ true) × Within (now f) h × Rooted root (now f) (now past) (h .orders) × (length (now f) ≤ maxFlow) ⌝ }
     ensures { λ r. ⌜ Gives (now (t .entry)) (now (out .entry))
-        (bodyFor (now (t .entry)) (length (now (out .entry))) (headerBy (now (f .entry)) h) (ordersFrom FlussoOrdinativi (now (f .entry)) (h .orders))) r (now (t .exit)) (now (out .exit)) ⌝ }
+        (bodyFor (now (t .entry)) (length (now (out .entry))) (headerBy (now (f .entry)) h) (ordersFrom root (now (f .entry)) (h .orders))) r (now (t .exit)) (now (out .exit)) ⌝ }
 {
     let w = h.ente;
     let ente = header::part_at(f, w);
     match address::body_named(t, ente) {
-        Addressed::Body(_, base, n) => with_room(t, f, h.orders, h.esercizio, base, n, out, past),
+        Addressed::Body(_, base, n) => with_room(
+            t,
+            f,
+            root,
+            h.orders,
+            h.esercizio,
+            base,
+            n,
+            out,
+            past,
+        ),
         Addressed::Unknown => FlowAnswer::UnknownBody,
         Addressed::Invalid => FlowAnswer::InvalidTable,
     }
 }
 
-// A flow that stands, its root's content at a place: 6, or as its body says.
-fn for_bank(t: &mut [u8], f: &[u8], at: usize, out: &mut [u8], past: &[u32]) -> FlowAnswer
-    requires { ⌜ (tableOk (now t) ≡ true) × (verdictOf (now f) ≡ Stands at) × Noted (now f) (now past) × (length (now f) ≤ maxFlow) ⌝ }
+// A flow of an edition that stands, its root's content at a place: 6, or as its body says.
+fn for_bank(
+    t: &mut [u8],
+    e: Edition,
+    f: &[u8],
+    at: usize,
+    out: &mut [u8],
+    past: &[u32],
+) -> FlowAnswer
+    requires { ⌜ (tableOk (now t) ≡ true) × (verdictOf e (now f) ≡ Stands at) × Noted (now f) (now past) × (length (now f) ≤ maxFlow) ⌝ }
     ensures { λ r. ⌜ Gives (now (t .entry)) (now (out .entry))
-        (forBank (now (t .entry)) (length (now (out .entry))) (headerOf (now (f .entry)) at) (flowOrders (now (f .entry)) at)) r (now (t .exit)) (now (out .exit)) ⌝ }
+        (forBank (now (t .entry)) (length (now (out .entry))) (headerOf e (now (f .entry)) at) (flowOrders e (now (f .entry)) at)) r (now (t .exit)) (now (out .exit)) ⌝ }
 {
     let from = scan::white_end(f, at);
-    let h = header::header_from(f, from, past);
+    let h = header::header_from(f, e, from, past);
     let w = h.abi;
     let abi = header::part_at(f, w);
     if !scan::same(abi, &t[8..13]) {
         return FlowAnswer::OtherBank;
     }
-    for_body(t, f, h, out, past)
+    let root = header::root_of(e);
+    for_body(t, f, root, h, out, past)
 }
 
-// Reads a flow that is not too long, noting in `past` where its elements end, and serves it.
-fn take_noted(t: &mut [u8], f: &[u8], out: &mut [u8], past: &mut [u32]) -> FlowAnswer
+// Reads a flow of an edition that is not too long, noting in `past` where its elements end, and serves it.
+fn take_noted(t: &mut [u8], e: Edition, f: &[u8], out: &mut [u8], past: &mut [u32]) -> FlowAnswer
     requires { ⌜ (tableOk (now t) ≡ true) × (length (now f) ≤ maxFlow) × Noted (now f) (now past) ⌝ }
-    ensures { λ r. ⌜ FlowPromise (now (t .entry)) (now (f .entry)) (now (out .entry)) r (now (t .exit)) (now (out .exit)) ⌝ }
+    ensures { λ r. ⌜ Gives (now (t .entry)) (now (out .entry))
+        (forFlow e (now (t .entry)) (now (f .entry)) (length (now (out .entry))) (verdictOf e (now (f .entry)))) r (now (t .exit)) (now (out .exit)) ⌝ }
 {
-    match flow::verdict_of(f, past) {
+    match flow::verdict_of(f, e, past) {
         Verdict::MarkupBreaks(_) => FlowAnswer::BrokenMarkup,
         Verdict::StructureBreaks => FlowAnswer::BrokenStructure,
         Verdict::FieldBreaks(p, x) => FlowAnswer::BrokenField(p, x),
-        Verdict::Stands(at) => for_bank(t, f, at, out, past),
+        Verdict::Stands(at) => for_bank(t, e, f, at, out, past),
     }
 }
 
-// Takes a flow. Every byte of table and outcomes is determined, and none changes where the flow is refused. A short flow needs few notes, and
+// Takes a flow of the edition of a number. Every byte of table and outcomes is determined, and none changes where the flow is refused. A short flow needs few notes, and
 // their zeros are a good part of its time.
-pub fn take_flow(t: &mut [u8], f: &[u8], out: &mut [u8]) -> FlowAnswer
-    ensures { λ r. ⌜ FlowPromise (now (t .entry)) (now (f .entry)) (now (out .entry)) r (now (t .exit)) (now (out .exit)) ⌝ }
+pub fn take_flow(t: &mut [u8], edition: u64, f: &[u8], out: &mut [u8]) -> FlowAnswer
+    ensures { λ r. ⌜ FlowPromise (now (t .entry)) edition (now (f .entry)) (now (out .entry)) r (now (t .exit)) (now (out .exit)) ⌝ }
 {
     if !table::table_ok(t) {
         return FlowAnswer::InvalidTable;
     }
+    let Edited::By(e) = editions::edition_of(edition) else {
+        return FlowAnswer::UnknownEdition;
+    };
     if 32768 < f.len() {
         return FlowAnswer::TooLong;
     }
     if f.len() < 4096 {
         let mut few = [0u32; 1024];
-        return take_noted(t, f, out, &mut few);
+        return take_noted(t, e, f, out, &mut few);
     }
     let mut past = [0u32; 8193];
-    take_noted(t, f, out, &mut past)
+    take_noted(t, e, f, out, &mut past)
 }
 
 fn refusal(code: u64) -> FlowReply
@@ -159,6 +181,7 @@ pub fn reply_of(a: FlowAnswer) -> FlowReply
 {
     match a {
         FlowAnswer::InvalidTable => refusal(1),
+        FlowAnswer::UnknownEdition => refusal(23),
         FlowAnswer::TooLong => refusal(2),
         FlowAnswer::BrokenMarkup => refusal(3),
         FlowAnswer::BrokenStructure => refusal(4),

@@ -35,10 +35,10 @@ fn say_flow(a: FlowAnswer, out: &[u8]) {
 fn run_within(t: &mut [u8], flow: &[u8], room: u64, out: &mut [u8]) {
     let all = out.len() as u64;
     if all <= room {
-        let a = desk::take_flow(t, flow, out);
+        let a = desk::take_flow(t, 1, flow, out);
         return say_flow(a, out);
     }
-    let a = desk::take_flow(t, flow, &mut out[..room as usize]);
+    let a = desk::take_flow(t, 1, flow, &mut out[..room as usize]);
     say_flow(a, out)
 }
 

@@ -12,9 +12,10 @@ use Rattle.markup.specs.Markup.{markupOf}
 use Rattle.markup.proofs.Laws.{markup-parts, root-placed}
 use Rattle.fields.specs.declared.Cause.{Cause}
 use Rattle.rows.specs.declared.Parent.{Parent}
-use Rattle.rows.specs.declared.Parent.the-variants.{FlussoOrdinativi}
 use Rattle.rows.specs.Table.{nameIs}
 use Rattle.structure.specs.Structure.{fitsAt}
+use Rattle.editions.specs.declared.Edition.{Edition}
+use Rattle.header.specs.Header.{rootOf}
 use Rattle.standing.specs.declared.Standing.{Standing}
 use Rattle.standing.specs.declared.Standing.the-variants as standing
 use Rattle.standing.specs.Readings.{Bad, Place, Nowhere, fieldsAt, firstBad}
@@ -23,7 +24,7 @@ use Rattle.standing.specs.Shown.{Shown}
 use Rattle.standing.proofs.Shown.{bad-shown}
 use Rattle.flow.specs.declared.Verdict.{Verdict}
 use Rattle.flow.specs.declared.Verdict.the-variants.{MarkupBreaks, StructureBreaks, FieldBreaks, Stands}
-use Rattle.flow.specs.Flow.{byFields, byRoot, byMarkup, verdictBy, verdictOf}
+use Rattle.flow.specs.Flow.{byFields, byRoot, byMarkup, verdictBy, idAllowed, verdictOf}
 
 -- the root's places lie in the document
 pub record Lies (s : List ℕ) (lt e at : ℕ) : Type 0 where
@@ -109,8 +110,11 @@ module _ (x : List ℕ) (p : Parent) (ids : Bool) (s : List ℕ) where
       walk (Breaks r) h = let z : _≡_ {A = ℕ} 0 1 = cc in absurd (omega arith)
 
 -- A FLOW
-pub flow-stood : (s : List ℕ) (at : ℕ) → verdictOf s ≡ Stands at → Stood FlussoOrdinativi s at
-flow-stood = document-stood (bytes "flusso_ordinativi") FlussoOrdinativi false
+pub flow-stood : (e : Edition) (s : List ℕ) (at : ℕ) → verdictOf e s ≡ Stands at → Stood (rootOf e) s at
+flow-stood e = document-stood (bytes "flusso_ordinativi") (rootOf e) (idAllowed e)
 
-pub flow-shown : (s : List ℕ) (q : ℕ) (y : Cause) → verdictOf s ≡ FieldBreaks q y → Shown s q y
-flow-shown = document-shown (bytes "flusso_ordinativi") FlussoOrdinativi false
+pub flow-shown : (e : Edition) (s : List ℕ) (q : ℕ) (y : Cause) → verdictOf e s ≡ FieldBreaks q y → Shown s q y
+flow-shown e = document-shown (bytes "flusso_ordinativi") (rootOf e) (idAllowed e)
+
+pub flow-by : (e : Edition) (s : List ℕ) {v : Verdict} {p : Parent} {b : Bool} → p ≡ rootOf e → b ≡ idAllowed e → v ≡ verdictBy (bytes "flusso_ordinativi") p b s → v ≡ verdictOf e s
+flow-by e s x y z = z ∙ (λ i. verdictBy (bytes "flusso_ordinativi") (x i) (y i) s)

@@ -15,7 +15,7 @@ use Rattle.tokens.specs.Tokens.{whiteAt}
 use Rattle.calendar.specs.Calendar.{isDate}
 use Rattle.fields.specs.declared.Cause.{Cause}
 use Rattle.fields.specs.declared.Form.{Form}
-use Rattle.fields.specs.declared.Form.the-variants.{CodiceAbi, Identificativo, DataOra, CodiceEnte, Esercizio, TipoOperazione, Numero, Data, Importo, Progressivo}
+use Rattle.fields.specs.declared.Form.the-variants.{CodiceAbi, Identificativo, DataOra, CodiceEnte, Esercizio, TipoOperazione, Numero, Data, Importo, Progressivo, DataOraZona}
 use Rattle.fields.specs.declared.Judged.the-variants.{Stands}
 use Rattle.fields.specs.declared.Reading.{Reading}
 use Rattle.fields.specs.declared.Reading.the-variants as reading
@@ -31,7 +31,7 @@ use Rattle.fields.proofs.Laws.{stands-holds}
 use Rattle.digits.proofs.Laws.{esercizio-range, numero-range, importo-range}
 use Rattle.dates.proofs.Laws.{data-real}
 use Rattle.rows.specs.declared.Parent.{Parent}
-use Rattle.rows.specs.declared.Parent.the-variants.{FlussoOrdinativi, Mandato, Reversale, InformazioniBeneficiario, InformazioniVersante}
+use Rattle.rows.specs.declared.Parent.the-variants.{FlussoOrdinativi, Mandato, Reversale, InformazioniBeneficiario, InformazioniVersante, FlussoOpi, TestataFlusso}
 use Rattle.rows.specs.declared.Holds.{Holds}
 use Rattle.rows.specs.declared.Holds.the-variants.{Text, Rows}
 use Rattle.rows.specs.declared.Kept.{Kept}
@@ -48,7 +48,12 @@ use Rattle.standing.proofs.Readings.{orBad, bad-append}
 use Rattle.order.specs.declared.Line.{Line}
 use Rattle.order.specs.Ordinativo.{Ordinativo, ordinativo}
 use Rattle.orders.specs.Shape.{orderRows, lineRows, Shaped, Filled}
-use Rattle.orders.specs.Orders.{those, ofRow, inRow, textIn, valueOf, dateOf, lineOf, linesOf, noLine, eight, linesIn, kindOf, orderBy, orderOf, ordersOf, holdsOrder, isOrder, ordersIn, Header, headerIn}
+use Rattle.orders.specs.Orders.{those, ofRow, inRow, textIn, valueOf, dateOf, lineOf, linesOf, noLine, eight, linesIn, kindOf, orderBy, orderOf, ordersOf, holdsOrder, isOrder, ordersIn}
+use Rattle.editions.specs.declared.Edition.{Edition}
+use Rattle.editions.specs.declared.Edition.the-variants.{Oil, Opi}
+use Rattle.header.specs.Header.{Header, rootOf, testataOf, headerIn}
+use Rattle.header.specs.Heading.{fourThen, rootRows}
+use Rattle.header.proofs.Laws.{nested}
 use Rattle.orders.proofs.Laws.{one, held-at, those-at, those-done, those-other, those-one, those-all, found, found-some, shaped-inside, Standing, order-held, order-at, orders-end, standing, lines-length}
 use Rattle.flow.specs.Flow.{headerOf, flowOrders}
 use Rattle.bounds.specs.Bounds.{maxCents}
@@ -252,18 +257,18 @@ order-ok s k p q t h v w e =
     rw (shaped-inside orderRows 2 s k p h w .named, h) (order-by s p q t i (a .0) (b .0) (c .0) (d .0) (a .1) (b .1) (c .1) (d .1) (kindOf (Rows p)) v)
 
 -- ORDERS, as the walk goes
-pub record Sound (s : List ℕ) (i : ℕ) : Type 0 where
-  pub standing : Standing FlussoOrdinativi s i
-  pub fields : allKept (standsIn 3 s) (keptFrom FlussoOrdinativi s i) ≡ true
+pub record Sound (p : Parent) (s : List ℕ) (i : ℕ) : Type 0 where
+  pub standing : Standing p s i
+  pub fields : allKept (standsIn 3 s) (keptFrom p s i) ≡ true
 
-pub sound : (s : List ℕ) (at : ℕ) → Stood FlussoOrdinativi s at → Sound s (whiteAt s at)
+pub sound : (p : Parent) (s : List ℕ) (at : ℕ) → Stood p s at → Sound p s (whiteAt s at)
 unfolding fieldsAt
-sound s at h = record { standing = standing FlussoOrdinativi s at (h .fits); fields = each-stands 3 s (keptFrom FlussoOrdinativi s (whiteAt s at)) (h .fields) }
+sound p s at h = record { standing = standing p s at (h .fits); fields = each-stands 3 s (keptFrom p s (whiteAt s at)) (h .fields) }
 
-pub sound-next : (s : List ℕ) (i : ℕ) (k : Kept) → Sound s i → nextOf (those isOrder (keptFrom FlussoOrdinativi s i)) ≡ Named k → OrderOk (ordinativo (orderOf s k)) × Sound s (k .child .after)
-sound-next s i k h e =
-    let a = order-at FlussoOrdinativi s i k (h .standing) e in
-    let r = those-at isOrder FlussoOrdinativi s i k e in
+pub sound-next : (p : Parent) (s : List ℕ) (i : ℕ) (k : Kept) → Sound p s i → nextOf (those isOrder (keptFrom p s i)) ≡ Named k → OrderOk (ordinativo (orderOf s k)) × Sound p s (k .child .after)
+sound-next p s i k h e =
+    let a = order-at p s i k (h .standing) e in
+    let r = those-at isOrder p s i k e in
     let b = r .every (standsIn 3 s) (h .fields) in (
       ⊎-elim
           (λ m. order-ok s k Mandato InformazioniBeneficiario mandato (sym m) (omega arith) (a .shaped) (b .0))
@@ -277,101 +282,167 @@ abbrev pub Each : (Ordinativo → Type 0) → List Ordinativo → Type 0
 Each f [] = Unit
 Each f (o ∷ os) = f o × Each f os
 
-each-ok : (n : ℕ) (s : List ℕ) (i : ℕ) → length s - i < n → Sound s i → Each OrderOk (map ordinativo (ordersIn s (keptFrom FlussoOrdinativi s i)))
-each-ok zero s i h w = absurd (omega arith)
-each-ok (suc n) s i h w = go (nextOf (those isOrder (keptFrom FlussoOrdinativi s i))) refl (each-ok n s)
+each-ok : (n : ℕ) (p : Parent) (s : List ℕ) (i : ℕ) → length s - i < n → Sound p s i → Each OrderOk (map ordinativo (ordersIn s (keptFrom p s i)))
+each-ok zero p s i h w = absurd (omega arith)
+each-ok (suc n) p s i h w = go (nextOf (those isOrder (keptFrom p s i))) refl (each-ok n p s)
   where
-    go : (x : Next) → nextOf (those isOrder (keptFrom FlussoOrdinativi s i)) ≡ x → ((j : ℕ) → length s - j < n → Sound s j → Each OrderOk (map ordinativo (ordersIn s (keptFrom FlussoOrdinativi s j)))) → Each OrderOk (map ordinativo (ordersIn s (keptFrom FlussoOrdinativi s i)))
-    go Done e ih = rw (orders-end FlussoOrdinativi s i e) tt
+    go : (x : Next) → nextOf (those isOrder (keptFrom p s i)) ≡ x → ((j : ℕ) → length s - j < n → Sound p s j → Each OrderOk (map ordinativo (ordersIn s (keptFrom p s j)))) → Each OrderOk (map ordinativo (ordersIn s (keptFrom p s i)))
+    go Done e ih = rw (orders-end p s i e) tt
     go (Named k) e ih =
-        let a = order-at FlussoOrdinativi s i k (w .standing) e in
+        let a = order-at p s i k (w .standing) e in
         let l = a .lies in
-        let b = sound-next s i k w e in
+        let b = sound-next p s i k w e in
         rw (a .rest) (b .0, ih (k .child .after) (omega arith) (b .1))
 
-pub orders-ok : (s : List ℕ) (at : ℕ) → Stood FlussoOrdinativi s at → Each OrderOk (flowOrders s at)
-orders-ok s at h = each-ok (suc (length s - whiteAt s at)) s (whiteAt s at) (omega arith) (sound s at h)
+pub orders-ok : (e : Edition) (s : List ℕ) (at : ℕ) → Stood (rootOf e) s at → Each OrderOk (flowOrders e s at)
+orders-ok e s at h = each-ok (suc (length s - whiteAt s at)) (rootOf e) s (whiteAt s at) (omega arith) (sound (rootOf e) s at h)
 
 orders-length : (s : List ℕ) (ks : List Kept) → length (ordersOf s ks) ≡ length ks
 unfolding ordersOf
 orders-length s [] = refl
 orders-length s (k ∷ ks) = ap suc (orders-length s ks)
 
--- THE ORDERS ARE ROW 5 of the root's table
-row-held : (n : ℕ) (h : Holds) → HeldIn (table FlussoOrdinativi) n h → holdsOrder h ≡ eqb n 5
-row-held zero h w = rw (only h w)
-row-held (suc zero) h w = rw (only h w)
-row-held (suc (suc zero)) h w = rw (only h w)
-row-held (suc (suc (suc zero))) h w = rw (only h w)
-row-held (suc (suc (suc (suc zero)))) h w = rw (only h w)
-row-held (suc (suc (suc (suc (suc zero))))) h w = ⊎-elim (λ e. rw (← e)) (⊎-elim (λ e. rw (← e)) (λ e. absurd e)) w
-row-held (suc (suc (suc (suc (suc (suc n)))))) h w = absurd w
+-- THE ORDERS ARE ONE ROW of the root's table, the last
+abbrev pub ordersRow : Edition → ℕ
+ordersRow Oil = 5
+ordersRow Opi = 2
 
-module _ (s : List ℕ) where
+row-held : (e : Edition) (n : ℕ) (h : Holds) → HeldIn (table (rootOf e)) n h → holdsOrder h ≡ eqb n (ordersRow e)
+row-held Oil zero h w = rw (only h w)
+row-held Oil (suc zero) h w = rw (only h w)
+row-held Oil (suc (suc zero)) h w = rw (only h w)
+row-held Oil (suc (suc (suc zero))) h w = rw (only h w)
+row-held Oil (suc (suc (suc (suc zero)))) h w = rw (only h w)
+row-held Oil (suc (suc (suc (suc (suc zero))))) h w = ⊎-elim (λ e. rw (← e)) (⊎-elim (λ e. rw (← e)) (λ e. absurd e)) w
+row-held Oil (suc (suc (suc (suc (suc (suc n)))))) h w = absurd w
+row-held Opi zero h w = rw (only h w)
+row-held Opi (suc zero) h w = rw (only h w)
+row-held Opi (suc (suc zero)) h w = ⊎-elim (λ e. rw (← e)) (⊎-elim (λ e. rw (← e)) (λ e. absurd e)) w
+row-held Opi (suc (suc (suc n))) h w = absurd w
+
+module _ (e : Edition) (s : List ℕ) where
+  abbrev root : Parent
+  root = rootOf e
+
+  abbrev last : ℕ
+  last = ordersRow e
+
   abbrev kids : ℕ → List Kept
-  kids i = keptFrom FlussoOrdinativi s i
+  kids i = keptFrom root s i
 
-  row-by : (n i : ℕ) → length s - i < n → those isOrder (kids i) ≡ inRow 5 (kids i)
+  row-by : (n i : ℕ) → length s - i < n → those isOrder (kids i) ≡ inRow last (kids i)
   row-by zero i h = absurd (omega arith)
   row-by (suc n) i h = go (nextOf (kids i)) refl (row-by n)
     where
-      go : (x : Next) → nextOf (kids i) ≡ x → ((j : ℕ) → length s - j < n → those isOrder (kids j) ≡ inRow 5 (kids j)) → those isOrder (kids i) ≡ inRow 5 (kids i)
-      go Done e ih = those-done isOrder FlussoOrdinativi s i e ∙ sym (those-done (ofRow 5) FlussoOrdinativi s i e)
-      go (Named k) e ih = at (ofRow 5 k) refl
+      go : (x : Next) → nextOf (kids i) ≡ x → ((j : ℕ) → length s - j < n → those isOrder (kids j) ≡ inRow last (kids j)) → those isOrder (kids i) ≡ inRow last (kids i)
+      go Done z ih = those-done isOrder root s i z ∙ sym (those-done (ofRow last) root s i z)
+      go (Named k) z ih = at (ofRow last k) refl
         where
           l : Lies s i (k .child)
-          l = next-at FlussoOrdinativi s i k e .lies
+          l = next-at root s i k z .lies
 
-          same : isOrder k ≡ ofRow 5 k
-          same = row-held (k .row) (k .holds) (held-at FlussoOrdinativi s i k e)
+          same : isOrder k ≡ ofRow last k
+          same = row-held e (k .row) (k .holds) (held-at root s i k z)
 
-          rest : those isOrder (kids (k .child .after)) ≡ inRow 5 (kids (k .child .after))
+          rest : those isOrder (kids (k .child .after)) ≡ inRow last (kids (k .child .after))
           rest = ih (k .child .after) (omega (arith, l))
 
-          at : (b : Bool) → ofRow 5 k ≡ b → those isOrder (kids i) ≡ inRow 5 (kids i)
-          at true g = those-one isOrder FlussoOrdinativi s i k e (same ∙ g) ∙ ap (λ t. k ∷ t) rest ∙ sym (those-one (ofRow 5) FlussoOrdinativi s i k e g)
-          at false g = those-other isOrder FlussoOrdinativi s i k e (same ∙ g) ∙ rest ∙ sym (those-other (ofRow 5) FlussoOrdinativi s i k e g)
+          at : (b : Bool) → ofRow last k ≡ b → those isOrder (kids i) ≡ inRow last (kids i)
+          at true g = those-one isOrder root s i k z (same ∙ g) ∙ ap (λ t. k ∷ t) rest ∙ sym (those-one (ofRow last) root s i k z g)
+          at false g = those-other isOrder root s i k z (same ∙ g) ∙ rest ∙ sym (those-other (ofRow last) root s i k z g)
 
-  pub orders-row : (i : ℕ) → those isOrder (kids i) ≡ inRow 5 (kids i)
+  pub orders-row : (i : ℕ) → those isOrder (kids i) ≡ inRow last (kids i)
   orders-row i = row-by (suc (length s - i)) i (omega arith)
 
--- THE HEADER, and how many orders there are
-abbrev flowRows : List Range
-flowRows = ranges (table FlussoOrdinativi)
-
-abbrev Header-at : Form → List Range → List ℕ → ℕ → ℕ → ℕ → Type 0
-Header-at f rs s n i j = Field-at f rs 3 FlussoOrdinativi s n i j
-
-module _ (s : List ℕ) (i j1 j2 j3 j4 j5 : ℕ) (a : Header-at CodiceAbi (drop 1 flowRows) s 0 i j1) (b : Header-at Identificativo (drop 2 flowRows) s 1 j1 j2)
-    (c : Header-at DataOra (drop 3 flowRows) s 2 j2 j3) (d : Header-at CodiceEnte (drop 4 flowRows) s 3 j3 j4) (e : Header-at Esercizio (drop 5 flowRows) s 4 j4 j5) where
-  header-by : HeaderOk (headerIn s (keptFrom FlussoOrdinativi s i))
-  unfolding fieldStands
-  header-by =
-      let p = FlussoOrdinativi in
-      record {
-        abi = judged-true (codiceAbi (textIn 0 s (keptFrom p s i))) (a .stands);
-        ente = rw (a .texts 3 (omega arith), b .texts 3 (omega arith), c .texts 3 (omega arith)) (judged-true (codiceEnte (textIn 3 s (keptFrom p s j3))) (d .stands));
-        esercizio = rw (a .texts 4 (omega arith), b .texts 4 (omega arith), c .texts 4 (omega arith), d .texts 4 (omega arith)) (esercizio-range (textIn 4 s (keptFrom p s j4)) (number-there (esercizio (textIn 4 s (keptFrom p s j4))) (e .stands)));
-      }
-
-  number-by : (1 ≤ length (map ordinativo (ordersIn s (keptFrom FlussoOrdinativi s i)))) × (length (map ordinativo (ordersIn s (keptFrom FlussoOrdinativi s i))) ≤ 64)
-  number-by =
-      let ks = keptFrom FlussoOrdinativi s i in
-      let js = keptFrom FlussoOrdinativi s j5 in
-      let o = order-last (record { least = 1; most = 64 }) 5 js (e .on .filled .rows) in
-      let z : inRow 5 ks ≡ js = a .later 5 (omega arith) ∙ b .later 5 (omega arith) ∙ c .later 5 (omega arith) ∙ d .later 5 (omega arith) ∙ e .later 5 (omega arith) ∙ those-all (ofRow 5) js (o .rows) in
-      let m : length (map ordinativo (ordersIn s ks)) ≡ length js = length-map (ordersIn s ks) ordinativo ∙ orders-length s (those isOrder ks) ∙ ap length (orders-row s i ∙ z) in
+  -- how many there are, where those of that row begin at j
+  number-by : (i j : ℕ) → inRow last (kids i) ≡ inRow last (kids j) → Filled (record { least = 1; most = 64 } ∷ []) 3 root s last j
+      → (1 ≤ length (map ordinativo (ordersIn s (kids i)))) × (length (map ordinativo (ordersIn s (kids i))) ≤ 64)
+  number-by i j l f =
+      let o = order-last (record { least = 1; most = 64 }) last (kids j) (f .rows) in
+      let z : inRow last (kids i) ≡ kids j = l ∙ those-all (ofRow last) (kids j) (o .rows) in
+      let m : length (map ordinativo (ordersIn s (kids i))) ≡ length (kids j) = length-map (ordersIn s (kids i)) ordinativo ∙ orders-length s (those isOrder (kids i)) ∙ ap length (orders-row i ∙ z) in
       (omega (arith, o .least), omega (arith, o .most))
 
-pub header-ok : (s : List ℕ) (at : ℕ) → Stood FlussoOrdinativi s at → HeaderOk (headerOf s at) × ((1 ≤ length (flowOrders s at)) × (length (flowOrders s at) ≤ 64))
-header-ok s at h =
+  well : (at : ℕ) → Stood root s at → Well (rootRows e) 3 root s 0 (whiteAt s at)
+  well at h =
+      let f = fits-parts 3 root s at (h .fits) in
+      record { filled = record { within = run-within isWhite s at (h .within); rows = f .0; each = f .1 }; fields = sound root s at h .fields }
+
+-- THE FOUR FIELDS that stand first in both editions, and what comes after them
+record Four-at (rs : List Range) (d : ℕ) (p : Parent) (s : List ℕ) (i j : ℕ) : Type 0 where
+  abi : codiceAbi (textIn 0 s (keptFrom p s i)) ≡ true
+  ente : codiceEnte (textIn 3 s (keptFrom p s i)) ≡ true
+  on : Well rs d p s 4 j
+  later : (m : ℕ) → 3 < m → inRow m (keptFrom p s i) ≡ inRow m (keptFrom p s j)
+  texts : (m : ℕ) → 3 < m → textIn m s (keptFrom p s i) ≡ textIn m s (keptFrom p s j)
+
+four-at : {rs : List Range} (d : ℕ) (p : Parent) (s : List ℕ) (i : ℕ) (f : Form) → IsText p 0 CodiceAbi → IsText p 1 Identificativo → IsText p 2 f → IsText p 3 CodiceEnte
+    → Well (fourThen rs) d p s 0 i → (j : ℕ) × Four-at rs d p s i j
+unfolding fieldStands
+four-at d p s i f ta tb tc td w =
+    let a = field-at d p s 0 i CodiceAbi ta w in
+    let b = field-at d p s 1 (a .0) Identificativo tb (a .1 .on) in
+    let c = field-at d p s 2 (b .0) f tc (b .1 .on) in
+    let e = field-at d p s 3 (c .0) CodiceEnte td (c .1 .on) in (
+      e .0,
+      record {
+        abi = judged-true (codiceAbi (textIn 0 s (keptFrom p s i))) (a .1 .stands);
+        ente = rw (a .1 .texts 3 (omega arith), b .1 .texts 3 (omega arith), c .1 .texts 3 (omega arith)) (judged-true (codiceEnte (textIn 3 s (keptFrom p s (c .0)))) (e .1 .stands));
+        on = e .1 .on;
+        later = λ m l. a .1 .later m (omega arith) ∙ b .1 .later m (omega arith) ∙ c .1 .later m (omega arith) ∙ e .1 .later m (omega arith);
+        texts = λ m l. a .1 .texts m (omega arith) ∙ b .1 .texts m (omega arith) ∙ c .1 .texts m (omega arith) ∙ e .1 .texts m (omega arith);
+      },
+    )
+
+-- testata_flusso, and what comes after it
+record Nest-at (s : List ℕ) (i : ℕ) (k : Kept) : Type 0 where
+  own : testataOf Opi s (keptFrom FlussoOpi s i) ≡ keptFrom TestataFlusso s (whiteAt s (k .child .gt + 1))
+  inner : Well (ranges (table TestataFlusso)) 2 TestataFlusso s 0 (whiteAt s (k .child .gt + 1))
+  on : Well (drop 1 (rootRows Opi)) 3 FlussoOpi s 1 (k .child .after)
+  later : (m : ℕ) → 0 < m → inRow m (keptFrom FlussoOpi s i) ≡ inRow m (keptFrom FlussoOpi s (k .child .after))
+  texts : (m : ℕ) → 0 < m → textIn m s (keptFrom FlussoOpi s i) ≡ textIn m s (keptFrom FlussoOpi s (k .child .after))
+
+nest-at : (s : List ℕ) (i : ℕ) → Well (rootRows Opi) 3 FlussoOpi s 0 i → (k : Kept) × Nest-at s i k
+nest-at s i w = go (nextOf (keptFrom FlussoOpi s i)) refl
+  where
+    go : (x : Next) → nextOf (keptFrom FlussoOpi s i) ≡ x → (k : Kept) × Nest-at s i k
+    go Done e = absurd (found-some 3 FlussoOpi s 0 i (w .filled) e)
+    go (Named k) e =
+        let o = found 3 FlussoOpi s 0 i (w .filled) k e in
+        let n = nested s i k (w .filled) e in
+        let a = all-next FlussoOpi s i k e (standsIn 3 s) (w .fields) in (
+          k,
+          record {
+            own = n .own;
+            inner = well-inside (ranges (table TestataFlusso)) 2 s k TestataFlusso (n .holds) (n .shaped) (a .0);
+            on = record { filled = o .on; fields = a .1 };
+            later = o .later;
+            texts = o .texts;
+          },
+        )
+
+-- THE HEADER, and how many orders there are
+year-ok : (t : List ℕ) → fieldStands Esercizio t ≡ Stands → (2000 ≤ valueOf (esercizio t)) × (valueOf (esercizio t) ≤ 2099)
+unfolding fieldStands
+year-ok t h = esercizio-range t (number-there (esercizio t) h)
+
+pub header-ok : (e : Edition) (s : List ℕ) (at : ℕ) → Stood (rootOf e) s at → HeaderOk (headerOf e s at) × ((1 ≤ length (flowOrders e s at)) × (length (flowOrders e s at) ≤ 64))
+header-ok Oil s at h =
     let i = whiteAt s at in
     let p = FlussoOrdinativi in
-    let f = fits-parts 3 p s at (h .fits) in
-    let g : Well flowRows 3 p s 0 i = record { filled = record { within = run-within isWhite s at (h .within); rows = f .0; each = f .1 }; fields = sound s at h .fields } in
-    let a = field-at 3 p s 0 i CodiceAbi only g in
-    let b = field-at 3 p s 1 (a .0) Identificativo only (a .1 .on) in
-    let c = field-at 3 p s 2 (b .0) DataOra only (b .1 .on) in
-    let d = field-at 3 p s 3 (c .0) CodiceEnte only (c .1 .on) in
-    let e = field-at 3 p s 4 (d .0) Esercizio only (d .1 .on) in
-    (header-by s i (a .0) (b .0) (c .0) (d .0) (e .0) (a .1) (b .1) (c .1) (d .1) (e .1), number-by s i (a .0) (b .0) (c .0) (d .0) (e .0) (a .1) (b .1) (c .1) (d .1) (e .1))
+    let a = four-at 3 p s i DataOra only only only only (well Oil s at h) in
+    let e = field-at 3 p s 4 (a .0) Esercizio only (a .1 .on) in (
+      record { abi = a .1 .abi; ente = a .1 .ente; esercizio = rw (a .1 .texts 4 (omega arith)) (year-ok (textIn 4 s (keptFrom p s (a .0))) (e .1 .stands)) },
+      number-by Oil s i (e .0) (a .1 .later 5 (omega arith) ∙ e .1 .later 5 (omega arith)) (e .1 .on .filled),
+    )
+header-ok Opi s at h =
+    let i = whiteAt s at in
+    let p = FlussoOpi in
+    let n = nest-at s i (well Opi s at h) in
+    let z = n .1 .own in
+    let a = four-at 2 TestataFlusso s (whiteAt s (n .0 .child .gt + 1)) DataOraZona only only only only (n .1 .inner) in
+    let j = n .0 .child .after in
+    let e = field-at 3 p s 1 j Esercizio only (n .1 .on) in (
+      record { abi = rw z (a .1 .abi); ente = rw z (a .1 .ente); esercizio = rw (n .1 .texts 1 (omega arith)) (year-ok (textIn 1 s (keptFrom p s j)) (e .1 .stands)) },
+      number-by Opi s i (e .0) (n .1 .later 2 (omega arith) ∙ e .1 .later 2 (omega arith)) (e .1 .on .filled),
+    )

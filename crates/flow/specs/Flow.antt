@@ -2,21 +2,23 @@
 use Prim.Native.Nat.{ℕ, _+_}
 use mathlib.Core.List.{List, map}
 use Prim.Native.String.{String}
-use mathlib.Core.Bool.{Bool, false, cond, _&&_}
+use mathlib.Core.Bool.{Bool, true, false, cond, _&&_}
 use Rattle.scan.specs.Bytes.{bytes}
 use Rattle.tokens.specs.Tokens.{whiteAt}
 use Rattle.markup.specs.declared.Markup.{Markup}
 use Rattle.markup.specs.declared.Markup.the-variants.{Root, Breaks}
 use Rattle.markup.specs.Markup.{markupOf}
 use Rattle.rows.specs.declared.Parent.{Parent}
-use Rattle.rows.specs.declared.Parent.the-variants.{FlussoOrdinativi}
 use Rattle.rows.specs.declared.Kept.{Kept}
 use Rattle.rows.specs.Table.{nameIs}
 use Rattle.rows.specs.Kept.{keptFrom}
 use Rattle.structure.specs.Structure.{fitsAt, levels}
 use Rattle.standing.specs.Readings.{Bad, Place, Nowhere, fieldsAt, firstBad}
 use Rattle.order.specs.Ordinativo.{Ordinativo, ordinativo}
-use Rattle.orders.specs.Orders.{Header, headerIn, ordersIn}
+use Rattle.orders.specs.Orders.{ordersIn}
+use Rattle.editions.specs.declared.Edition.{Edition}
+use Rattle.editions.specs.declared.Edition.the-variants.{Oil, Opi}
+use Rattle.header.specs.Header.{Header, rootOf, headerIn}
 use Rattle.flow.specs.declared.Verdict.{Verdict}
 use Rattle.flow.specs.declared.Verdict.the-variants.{MarkupBreaks, StructureBreaks, FieldBreaks, Stands}
 
@@ -46,23 +48,27 @@ pub record Kind : Type 0 where
 abbrev pub documentVerdict : Kind → List ℕ → Verdict
 documentVerdict k = verdictBy (bytes (k .name)) (k .parent) (k .ids)
 
--- A FLOW: "flusso_ordinativi (root)", and "No attributes"
-abbrev pub flusso : Kind
-flusso = record { name = "flusso_ordinativi"; parent = FlussoOrdinativi; ids = false }
+-- A FLOW: "flusso_ordinativi (root)", and "No attributes"; edition 2 "allows one Id attribute on the root" (document 02, Req 05)
+abbrev pub idAllowed : Edition → Bool
+idAllowed Oil = false
+idAllowed Opi = true
 
-abbrev pub verdictOf : List ℕ → Verdict
-verdictOf = documentVerdict flusso
+abbrev pub flowKind : Edition → Kind
+flowKind e = record { name = "flusso_ordinativi"; parent = rootOf e; ids = idAllowed e }
+
+abbrev pub verdictOf : Edition → List ℕ → Verdict
+verdictOf e = documentVerdict (flowKind e)
 
 -- OF A FLOW THAT STANDS, its root's content beginning at `at`
 
 -- the root's named children
-abbrev pub namedIn : List ℕ → ℕ → List Kept
-namedIn s at = keptFrom FlussoOrdinativi s (whiteAt s at)
+abbrev pub namedIn : Edition → List ℕ → ℕ → List Kept
+namedIn e s at = keptFrom (rootOf e) s (whiteAt s at)
 
 -- codice_ABI_BT, codice_ente_BT and esercizio
-abbrev pub headerOf : List ℕ → ℕ → Header
-headerOf s at = headerIn s (namedIn s at)
+abbrev pub headerOf : Edition → List ℕ → ℕ → Header
+headerOf e s at = headerIn e s (namedIn e s at)
 
 -- the orders as written
-abbrev pub flowOrders : List ℕ → ℕ → List Ordinativo
-flowOrders s at = map ordinativo (ordersIn s (namedIn s at))
+abbrev pub flowOrders : Edition → List ℕ → ℕ → List Ordinativo
+flowOrders e s at = map ordinativo (ordersIn s (namedIn e s at))

@@ -1,4 +1,5 @@
 // A whole flow, or another document of rows: markup, then structure, then fields, each over all of it.
+use editions::Edition;
 use fields::Cause;
 use markup::Markup;
 use rows::Parent;
@@ -7,7 +8,7 @@ ghost use mathlib.Core.Path.{_≡_};
 ghost use Prim.Native.Nat.{_+_, _≤_};
 ghost use lib.ListN.{length};
 ghost use Rattle.markup.specs.Noted.{Noted};
-ghost use Rattle.flow.specs.Flow.{byRoot, verdictBy, verdictOf};
+ghost use Rattle.flow.specs.Flow.{byRoot, verdictBy, idAllowed, verdictOf};
 
 // What a document's reading comes to: what breaks, with its place and a field's cause, or where the root's content begins.
 pub enum Verdict {
@@ -52,24 +53,30 @@ pub fn verdict_by(s: &[u8], name: &[u8], root: Parent, ids: bool, past: &mut [u3
     }
 }
 
-// A flow's verdict.
-pub fn verdict_of(s: &[u8], past: &mut [u32]) -> Verdict
-    requires { ⌜ Noted (now s) (now past) ⌝ }
-    ensures { λ r. ⌜ (r ≡ verdictOf (now (s .entry))) × Noted (now (s .entry)) (now (past .exit)) ⌝ }
+// Whether an Id may stand on the root of a flow.
+fn id_allowed(e: Edition) -> bool
+    ensures { λ r. ⌜ r ≡ idAllowed e ⌝ }
 {
-    verdict_by(
-        s,
-        b"flusso_ordinativi",
-        Parent::FlussoOrdinativi,
-        false,
-        past,
-    )
+    match e {
+        Edition::Oil => false,
+        Edition::Opi => true,
+    }
+}
+
+// The verdict of a flow of an edition.
+pub fn verdict_of(s: &[u8], e: Edition, past: &mut [u32]) -> Verdict
+    requires { ⌜ Noted (now s) (now past) ⌝ }
+    ensures { λ r. ⌜ (r ≡ verdictOf e (now (s .entry))) × Noted (now (s .entry)) (now (past .exit)) ⌝ }
+{
+    let root = header::root_of(e);
+    let ids = id_allowed(e);
+    verdict_by(s, b"flusso_ordinativi", root, ids, past)
 }
 
 // The verdict of any bytes at all.
-pub fn verdict_alone(s: &[u8]) -> Verdict
-    ensures { λ r. ⌜ r ≡ verdictOf (now (s .entry)) ⌝ }
+pub fn verdict_alone(s: &[u8], e: Edition) -> Verdict
+    ensures { λ r. ⌜ r ≡ verdictOf e (now (s .entry)) ⌝ }
 {
     let mut none = [0u32; 1];
-    verdict_of(s, &mut none)
+    verdict_of(s, e, &mut none)
 }

@@ -27,10 +27,11 @@ pub extern "C" fn hondivole_convert(old: &[u8], table: &mut [u8]) -> u64
     convert::code_of(convert::convert(old, table))
 }
 
-// Takes a flow.
+// Takes a flow of the edition of a number.
 #[no_mangle]
 pub extern "C" fn hondivole_flow(
     table: &mut [u8],
+    edition: u64,
     flow: &[u8],
     outcomes: &mut [u8],
     place: &mut u64,
@@ -39,7 +40,7 @@ pub extern "C" fn hondivole_flow(
     cause: &mut u64,
     steps: &mut u64,
 ) -> u64
-    ensures { λ r. ⌜ FlowReplies (now (table .entry)) (now (flow .entry)) (now (outcomes .entry))
+    ensures { λ r. ⌜ FlowReplies (now (table .entry)) edition (now (flow .entry)) (now (outcomes .entry))
         (record {
           code = r;
           place = now (place .exit);
@@ -50,7 +51,7 @@ pub extern "C" fn hondivole_flow(
         })
         (now (table .exit)) (now (outcomes .exit)) ⌝ }
 {
-    let a = desk::reply_of(desk::take_flow(table, flow, outcomes));
+    let a = desk::reply_of(desk::take_flow(table, edition, flow, outcomes));
     *place = a.place;
     *orders = a.orders;
     *accepted = a.accepted;

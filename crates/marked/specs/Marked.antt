@@ -47,9 +47,9 @@ abbrev isBody : Found → ℕ → Bool
 isBody (At b) n = eqb b n
 isBody Nothing n = false
 
--- what a flow with room for n outcomes is read as, and what it leaves
+-- what a flow of edition 1 with room for n outcomes is read as, and what it leaves
 abbrev readOn : List ℕ → ℕ → Reading
-readOn f n = flowReads sampleTable f (length (room n))
+readOn f n = flowReads sampleTable 1 f (length (room n))
 
 abbrev outcomesOf : List ℕ → ℕ → List ℕ
 outcomesOf f n = flowOutcomes sampleTable (room n) (readOn f n)

@@ -1,4 +1,4 @@
--- The header and the orders of a flow as values: everything after this speaks of them, and no longer of the flow's bytes.
+-- The orders of a flow as values: everything after this speaks of them, and no longer of the flow's bytes.
 use Prim.Native.Nat.{ℕ, _+_}
 use mathlib.Core.List.{List, [], _∷_, _++_}
 use mathlib.Core.Bool.{Bool, cond}
@@ -16,9 +16,9 @@ use Rattle.codes.specs.declared.Operation.the-variants.{Sostituzione}
 use Rattle.codes.specs.declared.Asked.{Asked}
 use Rattle.codes.specs.declared.Asked.the-variants.{Operazione, NoOperation}
 use Rattle.codes.specs.Codes.{tipoOperazione}
-use Rattle.digits.specs.Digits.{esercizio, numero, importo, progressivo}
+use Rattle.digits.specs.Digits.{numero, importo, progressivo}
 use Rattle.dates.specs.Dates.{dataOf}
-use Rattle.rows.specs.declared.Parent.the-variants.{FlussoOrdinativi, Mandato, Reversale, InformazioniBeneficiario, InformazioniVersante, Beneficiario, Versante, MessaggiEsito, TestataMessaggio, EsitoReversali, EsitoMandati, ErroriReversali, ErroriMandati}
+use Rattle.rows.specs.declared.Parent.the-variants.{FlussoOrdinativi, Mandato, Reversale, InformazioniBeneficiario, InformazioniVersante, Beneficiario, Versante, MessaggiEsito, TestataMessaggio, EsitoReversali, EsitoMandati, ErroriReversali, ErroriMandati, FlussoOpi, TestataFlusso}
 use Rattle.rows.specs.declared.Holds.{Holds}
 use Rattle.rows.specs.declared.Holds.the-variants.{Text, Rows}
 use Rattle.rows.specs.declared.Kept.{Kept}
@@ -109,6 +109,8 @@ kindOf (Rows EsitoReversali) = 0
 kindOf (Rows EsitoMandati) = 0
 kindOf (Rows ErroriReversali) = 0
 kindOf (Rows ErroriMandati) = 0
+kindOf (Rows FlussoOpi) = 0
+kindOf (Rows TestataFlusso) = 0
 
 abbrev pub orderBy : ℕ → List ℕ → List Kept → Order
 orderBy kind s ks = record {
@@ -136,12 +138,3 @@ isOrder k = holdsOrder (k .holds)
 
 abbrev pub ordersIn : List ℕ → List Kept → List Order
 ordersIn s ks = ordersOf s (those isOrder ks)
-
--- THE HEADER: codice_ABI_BT, codice_ente_BT and esercizio are rows 0, 3 and 4 of the root's table
-pub record Header : Type 0 where
-  pub abi : List ℕ
-  pub ente : List ℕ
-  pub esercizio : ℕ
-
-abbrev pub headerIn : List ℕ → List Kept → Header
-headerIn s ks = record { abi = textIn 0 s ks; ente = textIn 3 s ks; esercizio = valueOf (esercizio (textIn 4 s ks)) }

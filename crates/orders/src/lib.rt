@@ -194,6 +194,8 @@ fn kind_of(parent: Parent) -> u8
         Parent::EsitoMandati => 0,
         Parent::ErroriReversali => 0,
         Parent::ErroriMandati => 0,
+        Parent::FlussoOpi => 0,
+        Parent::TestataFlusso => 0,
     }
 }
 

@@ -8,7 +8,7 @@ use lib.Dec.{eqb}
 use Rattle.scan.specs.Bytes.{bytes, hasAt}
 use Rattle.fields.specs.declared.Form.the-variants.{CodiceAbi, Identificativo, DataOra, CodiceEnte, Esercizio, TipoOperazione, Numero, Data, Importo, Progressivo, Anagrafica, DataOraZona, Testo, EsitoOperazione, CodiceErrore, Descrizione, Elemento}
 use Rattle.rows.specs.declared.Parent.{Parent}
-use Rattle.rows.specs.declared.Parent.the-variants.{FlussoOrdinativi, Mandato, Reversale, InformazioniBeneficiario, InformazioniVersante, Beneficiario, Versante, MessaggiEsito, TestataMessaggio, EsitoReversali, EsitoMandati, ErroriReversali, ErroriMandati}
+use Rattle.rows.specs.declared.Parent.the-variants.{FlussoOrdinativi, Mandato, Reversale, InformazioniBeneficiario, InformazioniVersante, Beneficiario, Versante, MessaggiEsito, TestataMessaggio, EsitoReversali, EsitoMandati, ErroriReversali, ErroriMandati, FlussoOpi, TestataFlusso}
 use Rattle.rows.specs.declared.Holds.{Holds}
 use Rattle.rows.specs.declared.Holds.the-variants.{Text, Rows}
 use Rattle.rows.specs.declared.Spot.{Spot}
@@ -123,6 +123,19 @@ table EsitoReversali = entryRows "numero_reversale" "progressivo_versante" "data
 table EsitoMandati = entryRows "numero_mandato" "progressivo_beneficiario" "data_mandato" ErroriMandati
 table ErroriReversali = errorRows "progressivo_versante"
 table ErroriMandati = errorRows "progressivo_beneficiario"
+-- Document 02, Req 05: "Edition 2 has the header of document 000, 9.2.1, with its own nesting .. and takes the creation time with a zone"; "Only document
+-- 01's five header fields are read"
+table FlussoOpi =
+    once ("testata_flusso" is Rows TestataFlusso)
+    ∷ once ("esercizio" is Text Esercizio)
+    ∷ many 1 64 (("mandato" is Rows Mandato) ∷ ("reversale" is Rows Reversale) ∷ [])
+    ∷ []
+table TestataFlusso =
+    once ("codice_ABI_BT" is Text CodiceAbi)
+    ∷ once ("identificativo_flusso" is Text Identificativo)
+    ∷ once ("data_ora_creazione_flusso" is Text DataOraZona)
+    ∷ once ("codice_ente_BT" is Text CodiceEnte)
+    ∷ []
 
 -- the name that stands from a up to e is x
 unfoldable pub nameIs : List ℕ → List ℕ → ℕ → ℕ → Bool

@@ -13,7 +13,7 @@ ghost use Rattle.rows.specs.Table.{nameIs, table, spotIn};
 ghost use Rattle.rows.specs.Kept.{keptFrom, nextOf};
 ghost use Rattle.rows.specs.Read.{fieldRead};
 
-// The parents of document 01's table; then those of outcome messages.
+// The parents of document 01's table; then those of outcome messages, and edition 2's root and header.
 pub enum Parent {
     FlussoOrdinativi,
     Mandato,
@@ -28,6 +28,8 @@ pub enum Parent {
     EsitoMandati,
     ErroriReversali,
     ErroriMandati,
+    FlussoOpi,
+    TestataFlusso,
 }
 
 // What a named child holds.
@@ -354,6 +356,44 @@ fn errori_mandati_spot(s: &[u8], a: usize, e: usize) -> Spot
     Spot::Passed
 }
 
+fn opi_spot(s: &[u8], a: usize, e: usize) -> Spot
+    requires { ⌜ (a ≤ e) × (e ≤ length (now s)) ⌝ }
+    ensures { λ r. ⌜ r ≡ spotIn (table Parent.FlussoOpi) 0 (now (s .entry)) a e ⌝ }
+{
+    if is(s, a, e, b"testata_flusso") {
+        return Spot::At(0, Holds::Rows(Parent::TestataFlusso));
+    }
+    if is(s, a, e, b"esercizio") {
+        return Spot::At(1, Holds::Text(Form::Esercizio));
+    }
+    if is(s, a, e, b"mandato") {
+        return Spot::At(2, Holds::Rows(Parent::Mandato));
+    }
+    if is(s, a, e, b"reversale") {
+        return Spot::At(2, Holds::Rows(Parent::Reversale));
+    }
+    Spot::Passed
+}
+
+fn testata_flusso_spot(s: &[u8], a: usize, e: usize) -> Spot
+    requires { ⌜ (a ≤ e) × (e ≤ length (now s)) ⌝ }
+    ensures { λ r. ⌜ r ≡ spotIn (table Parent.TestataFlusso) 0 (now (s .entry)) a e ⌝ }
+{
+    if is(s, a, e, b"codice_ABI_BT") {
+        return Spot::At(0, Holds::Text(Form::CodiceAbi));
+    }
+    if is(s, a, e, b"identificativo_flusso") {
+        return Spot::At(1, Holds::Text(Form::Identificativo));
+    }
+    if is(s, a, e, b"data_ora_creazione_flusso") {
+        return Spot::At(2, Holds::Text(Form::DataOraZona));
+    }
+    if is(s, a, e, b"codice_ente_BT") {
+        return Spot::At(3, Holds::Text(Form::CodiceEnte));
+    }
+    Spot::Passed
+}
+
 // Where a name stands in its parent's table.
 pub fn spot_of(s: &[u8], a: usize, e: usize, parent: Parent) -> Spot
     requires { ⌜ (a ≤ e) × (e ≤ length (now s)) ⌝ }
@@ -373,6 +413,8 @@ pub fn spot_of(s: &[u8], a: usize, e: usize, parent: Parent) -> Spot
         Parent::EsitoMandati => esito_mandati_spot(s, a, e),
         Parent::ErroriReversali => errori_reversali_spot(s, a, e),
         Parent::ErroriMandati => errori_mandati_spot(s, a, e),
+        Parent::FlussoOpi => opi_spot(s, a, e),
+        Parent::TestataFlusso => testata_flusso_spot(s, a, e),
     }
 }
 

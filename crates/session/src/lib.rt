@@ -65,6 +65,7 @@ fn run(flow: &[u8], explaining: bool) -> bool {
     );
     let code = hondivole::hondivole_flow(
         &mut table,
+        1,
         flow,
         &mut outcomes,
         &mut place,

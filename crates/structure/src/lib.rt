@@ -39,6 +39,10 @@ const ERRORI_REVERSALI: [u8; 8] = *b"\x00\x00\x01\x01\x01\x01\x01\x01";
 
 const ERRORI_MANDATI: [u8; 8] = *b"\x00\x00\x01\x01\x01\x01\x01\x01";
 
+const FLUSSO_OPI: [u8; 6] = *b"\x01\x01\x01\x01\x01\x40";
+
+const TESTATA_FLUSSO: [u8; 8] = *b"\x01\x01\x01\x01\x01\x01\x01\x01";
+
 // A byte as a number.
 fn wide(b: u8) -> usize
     ensures { λ r. ⌜ r ≡ b ⌝ }
@@ -78,6 +82,8 @@ pub fn rows(parent: Parent) -> usize
         Parent::EsitoMandati => 9,
         Parent::ErroriReversali => 4,
         Parent::ErroriMandati => 4,
+        Parent::FlussoOpi => 3,
+        Parent::TestataFlusso => 4,
     }
 }
 
@@ -118,6 +124,8 @@ pub fn filled(parent: Parent, row: usize, n: usize, to: usize) -> bool
         Parent::EsitoMandati => filled_in(row, n, to, &ESITO_MANDATI),
         Parent::ErroriReversali => filled_in(row, n, to, &ERRORI_REVERSALI),
         Parent::ErroriMandati => filled_in(row, n, to, &ERRORI_MANDATI),
+        Parent::FlussoOpi => filled_in(row, n, to, &FLUSSO_OPI),
+        Parent::TestataFlusso => filled_in(row, n, to, &TESTATA_FLUSSO),
     }
 }
 

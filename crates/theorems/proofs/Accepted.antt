@@ -46,8 +46,8 @@ module _ (base n year : ℕ) where
       ap (λ (m : ℕ). cond (eqb (orderCode (judgeOrder n year o (recordsAt t base n))) 0) 1 0 + m) (counted (orderLeaves t base n year o) os)
 
 -- THE THEOREMS, about what keeps the promise of a flow
-module _ (t f out : List ℕ) (a : FlowAnswer) (t′ out′ : List ℕ) (p : FlowPromise t f out a t′ out′) where
-  pub orders-in-turn : (base n year : ℕ) (os : List Ordinativo) → flowReads t f (length out) ≡ served base n year os
+module _ (t : List ℕ) (ed : ℕ) (f out : List ℕ) (a : FlowAnswer) (t′ out′ : List ℕ) (p : FlowPromise t ed f out a t′ out′) where
+  pub orders-in-turn : (base n year : ℕ) (os : List Ordinativo) → flowReads t ed f (length out) ≡ served base n year os
       → (flowReply a .orders ≡ length os) × (outcomeCodes (length os) out′ ≡ codesOn t base n year os)
   unfolding put
   orders-in-turn base n year os e =
@@ -57,10 +57,10 @@ module _ (t f out : List ℕ) (a : FlowAnswer) (t′ out′ : List ℕ) (p : Flo
       )
 
   -- a flow taken was served
-  pub taken : {P : Type 0} → flowCode a ≡ 0 → ((base n year : ℕ) (os : List Ordinativo) → flowReads t f (length out) ≡ served base n year os → P) → P
-  taken {P} z k = go (flowReads t f (length out)) refl (read t f (length out) .coding) (p .0)
+  pub taken : {P : Type 0} → flowCode a ≡ 0 → ((base n year : ℕ) (os : List Ordinativo) → flowReads t ed f (length out) ≡ served base n year os → P) → P
+  taken {P} z k = go (flowReads t ed f (length out)) refl (read t f (length out) ed .coding) (p .0)
     where
-      go : (g : Reading) → flowReads t f (length out) ≡ g → Coding g → a ≡ flowAnswer t (flowReads t f (length out)) → P
+      go : (g : Reading) → flowReads t ed f (length out) ≡ g → Coding g → a ≡ flowAnswer t (flowReads t ed f (length out)) → P
       go (refused b) e h q = absurd (h (sym (ap flowCode (q ∙ ap (flowAnswer t) e)) ∙ z))
       go (served base n year os) e h q = k base n year os e
 

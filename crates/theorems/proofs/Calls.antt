@@ -137,23 +137,23 @@ module _ (t₀ : List ℕ) (r : tableOk t₀ ≡ true) where
       (λ t g. rw (n t g) (checked-one (λ c. oneOf journalCodes c ≡ true) refl refl refl refl refl refl (recordsAt t (base t₀ b) (size t₀ b)) m))
 
   -- A FLOW
-  module _ (f out : List ℕ) where
-    answered : (t : List ℕ) (x : Reading) → flowReads t f (length out) ≡ x → answer (flow f out) t ≡ ofFlow (flowAnswer t x) (flowOutcomes t out x)
+  module _ (ed : ℕ) (f out : List ℕ) where
+    answered : (t : List ℕ) (x : Reading) → flowReads t ed f (length out) ≡ x → answer (flow ed f out) t ≡ ofFlow (flowAnswer t x) (flowOutcomes t out x)
     answered t x e = ap (λ (y : Reading). ofFlow (flowAnswer t y) (flowOutcomes t out y)) e
 
-    flow-serves : {w : Option ℕ} → Reads t₀ f out w → Serves t₀ (strayCodes (flow f out)) (bodyCodes (flow f out)) (answer (flow f out)) (after (flow f out)) w
+    flow-serves : {w : Option ℕ} → Reads t₀ ed f out w → Serves t₀ (strayCodes (flow ed f out)) (bodyCodes (flow ed f out)) (answer (flow ed f out)) (after (flow ed f out)) w
     flow-serves (refuses a n e) = record {
       still = λ t g. ap (flowTable t) (e t g);
       same = λ s t g h. answered s (refused a) (e s g) ∙ sym (answered t (refused a) (e t h));
       code = λ t g. rw (e t g) n;
     }
     flow-serves (shuts b l e) =
-        in-slots (bodyCodes (flow f out)) b l (answer (flow f out)) (after (flow f out))
+        in-slots (bodyCodes (flow ed f out)) b l (answer (flow ed f out)) (after (flow ed f out))
         (λ t g. rw (e t g) (unchanged t (base t₀ b) (size t₀ b) (ready t₀ r t g b l .1)))
         (λ s t g h a. (answered s (refused NoRoom) (e s g) ∙ sym (answered t (refused NoRoom) (e t h)), rw (e s g, e t h) (a .slots)))
         (λ t g. rw (e t g))
     flow-serves (serves b l year os w y e) =
-        in-slots (bodyCodes (flow f out)) b l (answer (flow f out)) (after (flow f out))
+        in-slots (bodyCodes (flow ed f out)) b l (answer (flow ed f out)) (after (flow ed f out))
         (λ t g. let z = ready t₀ r t g b l in rw (e t g) (all-kept t (base t₀ b) (size t₀ b) year os (z .0) (z .1) w y))
         (λ s t g h a.
         let x : Reading = served (base t₀ b) (size t₀ b) year os in
@@ -165,7 +165,7 @@ module _ (t₀ : List ℕ) (r : tableOk t₀ ≡ true) where
 
   -- EVERY CALL
   pub every : (c : Call) → Serves t₀ (strayCodes c) (bodyCodes c) (answer c) (after c) (who t₀ c)
-  every (flow f out) = flow-serves f out (reads t₀ r f out)
+  every (flow ed f out) = flow-serves ed f out (reads t₀ r ed f out)
   every (execute code k line d) = dated-serves true code k line (targetCode d) (date-codes d)
   every (reverse code k line d) = dated-serves false code k line (targetCode d) (date-codes d)
   every (totals code) = totals-serves code (names t₀ r code)

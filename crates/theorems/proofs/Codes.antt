@@ -43,7 +43,7 @@ use Rattle.opening.specs.declared.Opened.{Opened}
 use Rattle.opening.specs.declared.Opened.the-variants.{Open, WrongRequest, WrongLength}
 use Rattle.opening.specs.Opening.{openCode}
 use Rattle.desk.specs.declared.FlowAnswer.{FlowAnswer}
-use Rattle.desk.specs.declared.FlowAnswer.the-variants.{InvalidTable, TooLong, BrokenMarkup, BrokenStructure, BrokenField, OtherBank, UnknownBody, NoRoom, Taken}
+use Rattle.desk.specs.declared.FlowAnswer.the-variants.{InvalidTable, UnknownEdition, TooLong, BrokenMarkup, BrokenStructure, BrokenField, OtherBank, UnknownBody, NoRoom, Taken}
 use Rattle.desk.specs.Desk.{flowReply, flowCode}
 use Rattle.journal.specs.Journal.{checked, journalBy, journalOf}
 use Rattle.journal.proofs.Laws.{checked-one}
@@ -236,19 +236,21 @@ dated-codes t executing k line b (suc c) (inr e) = go (tableOk t)
     go true = more (eqb (suc c) 7) (eqb (suc c) 27) (eqb (suc c) 28) (eqb (suc c) 1) e
     go false = refl
 
-flow-codes : (f out : List ℕ) (a : FlowAnswer) → oneOf (callCodes (flow f out)) (flowReply a .code) ≡ true
-flow-codes f out InvalidTable = refl
-flow-codes f out TooLong = refl
-flow-codes f out BrokenMarkup = refl
-flow-codes f out BrokenStructure = refl
-flow-codes f out (BrokenField p c) = refl
-flow-codes f out OtherBank = refl
-flow-codes f out UnknownBody = refl
-flow-codes f out NoRoom = refl
-flow-codes f out (Taken n m k) = refl
+flow-codes : (ed : ℕ) (f out : List ℕ) (a : FlowAnswer) → oneOf (callCodes (flow ed f out)) (flowReply a .code) ≡ true
+flow-codes ed f out InvalidTable = refl
+flow-codes ed f out UnknownEdition = refl
+flow-codes ed f out TooLong = refl
+flow-codes ed f out BrokenMarkup = refl
+flow-codes ed f out BrokenStructure = refl
+flow-codes ed f out (BrokenField p c) = refl
+flow-codes ed f out OtherBank = refl
+flow-codes ed f out UnknownBody = refl
+flow-codes ed f out NoRoom = refl
+flow-codes ed f out (Taken n m k) = refl
 
 pub flow-causes : (a : FlowAnswer) → oneOf (causesWith (flowCode a)) (flowReply a .cause) ≡ true
 flow-causes InvalidTable = refl
+flow-causes UnknownEdition = refl
 flow-causes TooLong = refl
 flow-causes BrokenMarkup = refl
 flow-causes BrokenStructure = refl
@@ -274,7 +276,7 @@ journal-codes t code s (Body e base n) = checked-one (λ c. oneOf (callCodes (jo
 
 pub call-codes : (c : Call) (t : List ℕ) (a : Answer) (t′ : List ℕ) → Step c t a t′ → oneOf (callCodes c) (answerCode a) ≡ true
 unfolding totalsOf journalOf
-call-codes (flow f out) t a t′ s = ap (λ (x : Answer). oneOf (callCodes (flow f out)) (answerCode x)) (s .3) ∙ flow-codes f out (s .0)
+call-codes (flow ed f out) t a t′ s = ap (λ (x : Answer). oneOf (callCodes (flow ed f out)) (answerCode x)) (s .3) ∙ flow-codes ed f out (s .0)
 call-codes (execute code k line d) t a t′ s =
     ap (λ (x : Answer). oneOf (callCodes (execute code k line d)) (answerCode x)) (s .2)
     ∙ ap (λ (x : NoticeAnswer). oneOf (callCodes (execute code k line d)) (noticeCodeOf x)) (s .1 .0)

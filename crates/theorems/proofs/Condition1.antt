@@ -72,9 +72,9 @@ condition1 = record {
   conversion-numbered = λ o t a t′ p. convert-codes a;
   call-numbered = call-codes;
   orders-numbered = outcomes-coded;
-  cause-numbered = λ t f out a t′ out′ p. flow-causes a;
+  cause-numbered = λ t ed f out a t′ out′ p. flow-causes a;
   answered = λ c t. (answer c t, after c t, steps c t);
-  refused-flow = λ t f out a t′ out′ p h. code-keeps t f out h p;
+  refused-flow = λ t ed f out a t′ out′ p h. code-keeps t ed f out h p;
   refused-order = λ t base n year o. stored t base year o (orderComes t base n year o);
   refused-notice = λ t executing code k line d a t′ p f.
       p .1 ∙ dated-keeps t executing k line (addressed t code) (targetCode d) (λ e. f (ap noticeCodeOf (p .0) ∙ e));

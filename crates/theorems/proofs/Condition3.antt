@@ -17,6 +17,10 @@ use Rattle.opening.specs.declared.Opened.{Opened}
 use Rattle.opening.specs.declared.Opened.the-variants.{Open, WrongRequest, WrongLength}
 use Rattle.opening.specs.Opening.{opened, openOf, openCode, openTable, OpenReplies}
 use Rattle.opening.proofs.Valid.{opened-valid}
+use Rattle.editions.specs.declared.Edition.{Edition}
+use Rattle.editions.specs.declared.Edited.{Edited}
+use Rattle.editions.specs.declared.Edited.the-variants.{By, NoEdition}
+use Rattle.editions.specs.Editions.{editionOf}
 use Rattle.flow.specs.declared.Verdict.{Verdict}
 use Rattle.flow.specs.declared.Verdict.the-variants.{MarkupBreaks, StructureBreaks, FieldBreaks, Stands}
 use Rattle.flow.specs.Flow.{verdictOf, headerOf}
@@ -25,7 +29,7 @@ use Rattle.isolation.specs.Machine.{Laws}
 use Rattle.isolation.proofs.OrderLaws.{mine-by-body, strays-by-body}
 use Rattle.isolation.proofs.Runs.{good-run}
 use Rattle.isolation.proofs.Isolated.{isolated}
-use Rattle.theorems.specs.Engine.{Call, flow, execute, reverse, totals, journal, Answer, Engine, answerCode, namesIn, names, whichBody, position, who, machine, tableAfter}
+use Rattle.theorems.specs.Engine.{Call, flow, execute, reverse, totals, journal, Answer, Engine, answerCode, namesIn, names, whichBody, position, who, machine, tableAfter, namesBy}
 use Rattle.theorems.specs.Condition3.{FromValid, FromOpening}
 use Rattle.theorems.specs.Codes.{oneOf, strayCodes, bodyCodes}
 use Rattle.theorems.proofs.Steps.{answer, after, one-step}
@@ -34,7 +38,7 @@ use Rattle.theorems.proofs.Calls.{Owned, Serves, every}
 
 -- 1 is no code of a call on a valid table
 no-one : (c : Call) → (oneOf (strayCodes c) 1 ≡ false) × (oneOf (bodyCodes c) 1 ≡ false)
-no-one (flow f out) = (refl, refl)
+no-one (flow ed f out) = (refl, refl)
 no-one (execute code k line d) = (refl, refl)
 no-one (reverse code k line d) = (refl, refl)
 no-one (totals code) = (refl, refl)
@@ -95,14 +99,18 @@ module _ (E : Engine) (t₀ : List ℕ) (r : tableOk t₀ ≡ true) where
         go (some b) e = false≢true (sym (no-one c .1) ∙ sym (ap (oneOf (bodyCodes c)) z) ∙ body-code c b e)
 
     -- who is named: the same read from this table
-    by-verdict : (f : List ℕ) (v : Verdict) → namesIn now f v ≡ namesIn t₀ f v
-    by-verdict f (MarkupBreaks p) = refl
-    by-verdict f StructureBreaks = refl
-    by-verdict f (FieldBreaks p c) = refl
-    by-verdict f (Stands at) = ap (λ (a : List ℕ). cond (textIs a (headerOf f at .abi)) (some (headerOf f at .ente)) none) (abi-is t₀ r now good)
+    by-verdict : (e : Edition) (f : List ℕ) (v : Verdict) → namesIn e now f v ≡ namesIn e t₀ f v
+    by-verdict e f (MarkupBreaks p) = refl
+    by-verdict e f StructureBreaks = refl
+    by-verdict e f (FieldBreaks p c) = refl
+    by-verdict e f (Stands at) = ap (λ (a : List ℕ). cond (textIs a (headerOf e f at .abi)) (some (headerOf e f at .ente)) none) (abi-is t₀ r now good)
+
+    by-edition : (f : List ℕ) (x : Edited) → namesBy now f x ≡ namesBy t₀ f x
+    by-edition f (By e) = ap (λ (x : Option (List ℕ)). cond (leb (length f) maxFlow) x none) (by-verdict e f (verdictOf e f))
+    by-edition f NoEdition = refl
 
     named : (c : Call) → names now c ≡ names t₀ c
-    named (flow f out) = ap (λ (x : Option (List ℕ)). cond (leb (length f) maxFlow) x none) (by-verdict f (verdictOf f))
+    named (flow ed f out) = by-edition f (editionOf ed)
     named (execute code k line d) = refl
     named (reverse code k line d) = refl
     named (totals code) = refl

@@ -138,20 +138,22 @@ conversion E o t t₀ p = record {
     only : areBytes o ≡ true → (u : List ℕ) → areBytes u ≡ true → Same o u → u ≡ t₀
     only bo u bu U = one-table u t₀ bu (ap areBytes (F .filled) ∙ converted-bytes o bo) (U .valid) (S .valid) (matching o u t₀ U S)
 
-    flows : (f out : List ℕ) (a : FlowAnswer) (t′ out′ : List ℕ) → FlowPromise t₀ f out a t′ out′ → flowCode a ≡ 0 → TakenOld o t₀ f t′ out′
-    flows f out a t′ out′ q z =
-        let T = condition2 .taken t₀ f out a t′ out′ q z in
-        let h = headerOf f (T .at) in
+    flows : (ed : ℕ) (f out : List ℕ) (a : FlowAnswer) (t′ out′ : List ℕ) → FlowPromise t₀ ed f out a t′ out′ → flowCode a ≡ 0 → TakenOld o t₀ ed f t′ out′
+    flows ed f out a t′ out′ q z =
+        let T = condition2 .taken t₀ ed f out a t′ out′ q z in
+        let h = headerOf (T .edition) f (T .at) in
         let l = low (h .ente) (T .body) (T .named) in
         let s = S .slots (T .body) l in
         let r = S .records (T .body) l in
         record {
+          edition = T .edition;
+          numbered = T .numbered;
           at = T .at;
           stands = T .stands;
           bank = (λ i. textIs (sym (S .bank) i) (h .abi)) ∙ T .bank;
           body = T .body;
           named = (λ i. findCode (sym (S .codes) i) 0 (h .ente)) ∙ T .named;
-          codes = T .codes ∙ (λ i. codesInTurn (s i) (h .esercizio) (flowOrders f (T .at)) (r i));
+          codes = T .codes ∙ (λ i. codesInTurn (s i) (h .esercizio) (flowOrders (T .edition) f (T .at)) (r i));
           records = (λ i. recordsAt t′ (placeOf t₀ (entryOf (T .body))) (sym s i)) ∙ T .records
-              ∙ (λ i. allRecords (s i) (h .esercizio) (flowOrders f (T .at)) (r i));
+              ∙ (λ i. allRecords (s i) (h .esercizio) (flowOrders (T .edition) f (T .at)) (r i));
         }

@@ -13,15 +13,19 @@ use Rattle.ranges.specs.declared.Found.the-variants.{At, Nothing}
 use Rattle.entries.specs.Entry.{slotsOf, placeOf}
 use Rattle.table.specs.Table.{tableOk, abiOf, bodyOf, entryOf}
 use Rattle.order.specs.Ordinativo.{Ordinativo}
-use Rattle.orders.specs.Orders.{Header}
+use Rattle.editions.specs.declared.Edition.{Edition}
+use Rattle.editions.specs.declared.Edited.{Edited}
+use Rattle.editions.specs.declared.Edited.the-variants.{By, NoEdition}
+use Rattle.editions.specs.Editions.{editionOf}
+use Rattle.header.specs.Header.{Header}
 use Rattle.flow.specs.declared.Verdict.{Verdict}
 use Rattle.flow.specs.declared.Verdict.the-variants.{MarkupBreaks, StructureBreaks, FieldBreaks, Stands}
 use Rattle.flow.specs.Flow.{verdictOf, headerOf, flowOrders}
 use Rattle.address.specs.Address.{bodyAt}
 use Rattle.desk.specs.declared.FlowAnswer.{FlowAnswer}
-use Rattle.desk.specs.declared.FlowAnswer.the-variants.{InvalidTable, TooLong, OtherBank, NoRoom}
-use Rattle.desk.specs.Desk.{Reading, refused, served, forBody, forFlow, maxFlow, flowReads, flowAnswer, FlowPromise, flowReply, flowCode}
-use Rattle.theorems.specs.Given.{breaksAt, breaksBy, flowRefusals, firstOf}
+use Rattle.desk.specs.declared.FlowAnswer.the-variants.{InvalidTable, UnknownEdition, TooLong, OtherBank, NoRoom}
+use Rattle.desk.specs.Desk.{Reading, refused, served, forBody, forFlow, byEdition, maxFlow, flowReads, flowAnswer, FlowPromise, flowReply, flowCode}
+use Rattle.theorems.specs.Given.{breaksAt, breaksBy, verdictAs, flowRefusals, firstOf}
 
 -- a reading that refuses has a code other than 0
 abbrev pub Coding : Reading → Type 0
@@ -52,26 +56,36 @@ module _ (t f : List ℕ) (room : ℕ) where
   by-bank h os false = record { code = refl; place = refl; cause = refl; coding = λ e. omega arith }
 
   -- on a table that is valid or not, of a flow that is short or not
-  abbrev Read : Bool → Bool → Verdict → Type 0
-  Read u w v = tableOk t ≡ u → leb (length f) maxFlow ≡ w
-      → Given (firstOf (flowRefusals t f room v)) (breaksAt v) (breaksBy v) (cond u (cond w (forFlow t f room v) (refused TooLong)) (refused InvalidTable))
+  abbrev Read : Edition → Bool → Bool → Verdict → Type 0
+  Read y u w v = tableOk t ≡ u → leb (length f) maxFlow ≡ w
+      → Given (firstOf (flowRefusals t (By y) f room v)) (breaksAt v) (breaksBy v) (cond u (cond w (forFlow y t f room v) (refused TooLong)) (refused InvalidTable))
 
-  by-verdict : (v : Verdict) → Read true true v
-  by-verdict (MarkupBreaks p) e d = rw (e, d) (record { code = refl; place = refl; cause = refl; coding = λ z. omega arith })
-  by-verdict StructureBreaks e d = rw (e, d) (record { code = refl; place = refl; cause = refl; coding = λ z. omega arith })
-  by-verdict (FieldBreaks p c) e d = rw (e, d) (record { code = refl; place = refl; cause = refl; coding = λ z. omega arith })
-  by-verdict (Stands at) e d = rw (e, d) (by-bank (headerOf f at) (flowOrders f at) (textIs (abiOf t) (headerOf f at .abi)))
+  by-verdict : (y : Edition) (v : Verdict) → Read y true true v
+  by-verdict y (MarkupBreaks p) e d = rw (e, d) (record { code = refl; place = refl; cause = refl; coding = λ z. omega arith })
+  by-verdict y StructureBreaks e d = rw (e, d) (record { code = refl; place = refl; cause = refl; coding = λ z. omega arith })
+  by-verdict y (FieldBreaks p c) e d = rw (e, d) (record { code = refl; place = refl; cause = refl; coding = λ z. omega arith })
+  by-verdict y (Stands at) e d = rw (e, d) (by-bank (headerOf y f at) (flowOrders y f at) (textIs (abiOf t) (headerOf y f at .abi)))
 
-  by-table : (u w : Bool) (v : Verdict) → Read u w v
-  by-table false w v e d = rw e (record { code = refl; place = refl; cause = refl; coding = λ z. omega arith })
-  by-table true false v e d = rw (e, d) (record { code = refl; place = refl; cause = refl; coding = λ z. omega arith })
-  by-table true true v e d = by-verdict v e d
+  by-table : (y : Edition) (u w : Bool) (v : Verdict) → Read y u w v
+  by-table y false w v e d = rw e (record { code = refl; place = refl; cause = refl; coding = λ z. omega arith })
+  by-table y true false v e d = rw (e, d) (record { code = refl; place = refl; cause = refl; coding = λ z. omega arith })
+  by-table y true true v e d = by-verdict y v e d
 
-  pub read : Given (firstOf (flowRefusals t f room (verdictOf f))) (breaksAt (verdictOf f)) (breaksBy (verdictOf f)) (flowReads t f room)
+  -- where the number names no edition
+  unknown : (v : Verdict) (u : Bool) → tableOk t ≡ u → Given (firstOf (flowRefusals t NoEdition f room v)) (breaksAt v) (breaksBy v) (cond u (refused UnknownEdition) (refused InvalidTable))
+  unknown v true e = rw e (record { code = refl; place = refl; cause = refl; coding = λ z. omega arith })
+  unknown v false e = rw e (record { code = refl; place = refl; cause = refl; coding = λ z. omega arith })
+
+  by-edition : (x : Edited) → Given (firstOf (flowRefusals t x f room (verdictAs x f))) (breaksAt (verdictAs x f)) (breaksBy (verdictAs x f)) (cond (tableOk t) (byEdition t f room x) (refused InvalidTable))
+  by-edition (By y) = by-table y (tableOk t) (leb (length f) maxFlow) (verdictOf y f) refl refl
+  by-edition NoEdition = unknown (verdictAs NoEdition f) (tableOk t) refl
+
+  pub read : (ed : ℕ) → let v = verdictAs (editionOf ed) f in Given (firstOf (flowRefusals t (editionOf ed) f room v)) (breaksAt v) (breaksBy v) (flowReads t ed f room)
   unfolding flowReads
-  read = by-table (tableOk t) (leb (length f) maxFlow) (verdictOf f) refl refl
+  read ed = by-edition (editionOf ed)
 
-pub given-when : (t f out : List ℕ) (a : FlowAnswer) (t′ out′ : List ℕ) → FlowPromise t f out a t′ out′
-    → (flowCode a ≡ firstOf (flowRefusals t f (length out) (verdictOf f))) × (flowReply a .place ≡ cond (eqb (flowCode a) 5) (breaksAt (verdictOf f)) 0)
-    × (flowReply a .cause ≡ cond (eqb (flowCode a) 5) (breaksBy (verdictOf f)) 0)
-given-when t f out a t′ out′ p = let g = read t f (length out) in rw (p .0) (g .code, g .place, g .cause)
+pub given-when : (t : List ℕ) (ed : ℕ) (f out : List ℕ) (a : FlowAnswer) (t′ out′ : List ℕ) → FlowPromise t ed f out a t′ out′
+    → let v = verdictAs (editionOf ed) f in
+    (flowCode a ≡ firstOf (flowRefusals t (editionOf ed) f (length out) v)) × (flowReply a .place ≡ cond (eqb (flowCode a) 5) (breaksAt v) 0)
+    × (flowReply a .cause ≡ cond (eqb (flowCode a) 5) (breaksBy v) 0)
+given-when t ed f out a t′ out′ p = let g = read t f (length out) ed in rw (p .0) (g .code, g .place, g .cause)

@@ -73,10 +73,10 @@ module _ (t₀ : List ℕ) (r : tableOk t₀ ≡ true) (w : Weight) (h : List Re
   Moves c t (some a) = held a (after c t) + ofReversal w c (answer c t) ≡ held a t + ofExecution w c (answer c t)
 
   module _ (t : List ℕ) (g : Good t₀ t) where
-    flow-moves : (f out : List ℕ) {o : Option ℕ} → Reads t₀ f out o → Moves (flow f out) t o
-    flow-moves f out (refuses a n e) = tt
-    flow-moves f out (shuts a l e) = rw (e t g) refl
-    flow-moves f out (serves a l year os ws y e) =
+    flow-moves : (ed : ℕ) (f out : List ℕ) {o : Option ℕ} → Reads t₀ ed f out o → Moves (flow ed f out) t o
+    flow-moves ed f out (refuses a n e) = tt
+    flow-moves ed f out (shuts a l e) = rw (e t g) refl
+    flow-moves ed f out (serves a l year os ws y e) =
         let z = ready t₀ r t g a l in
         rw (e t g)
         (ap (λ (x : ℕ). x + 0) (ap h (all-records t (base t₀ a) (size t₀ a) year os (z .0) (z .1) ws y) ∙ W .orders (size t₀ a) year os (recordsAt t (base t₀ a) (size t₀ a))))
@@ -116,7 +116,7 @@ module _ (t₀ : List ℕ) (r : tableOk t₀ ≡ true) (w : Weight) (h : List Re
     on-date c code d (suc n) q f = tt
 
     moves : (c : Call) → Moves c t (who t₀ c)
-    moves (flow f out) = flow-moves f out (reads t₀ r f out)
+    moves (flow ed f out) = flow-moves ed f out (reads t₀ r ed f out)
     moves (execute code k line d) = on-date (execute code k line d) code d (targetCode d) refl (λ q. execute-moves code k line d q (names t₀ r code))
     moves (reverse code k line d) = on-date (reverse code k line d) code d (targetCode d) refl (λ q. reverse-moves code k line d q (names t₀ r code))
     moves (totals code) = totals-moves code (names t₀ r code)

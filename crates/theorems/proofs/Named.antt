@@ -13,7 +13,11 @@ use Rattle.ranges.specs.declared.Found.the-variants.{At, Nothing}
 use Rattle.table.specs.Table.{bodies, abiOf, tableOk, bodyOf, entryOf}
 use Rattle.table.proofs.Bodies.{found-body}
 use Rattle.order.specs.Ordinativo.{Ordinativo}
-use Rattle.orders.specs.Orders.{Header}
+use Rattle.editions.specs.declared.Edition.{Edition}
+use Rattle.editions.specs.declared.Edited.{Edited}
+use Rattle.editions.specs.declared.Edited.the-variants.{By, NoEdition}
+use Rattle.editions.specs.Editions.{editionOf}
+use Rattle.header.specs.Header.{Header}
 use Rattle.flow.specs.declared.Verdict.{Verdict}
 use Rattle.flow.specs.declared.Verdict.the-variants.{MarkupBreaks, StructureBreaks, FieldBreaks, Stands}
 use Rattle.flow.specs.Flow.{verdictOf, headerOf, flowOrders}
@@ -24,9 +28,9 @@ use Rattle.service.proofs.Kept.{Writables, none, more}
 use Rattle.address.specs.declared.Addressed.the-variants.{Unknown, Body}
 use Rattle.address.specs.Address.{bodyAt, bodyNamed, addressed}
 use Rattle.desk.specs.declared.FlowAnswer.{FlowAnswer}
-use Rattle.desk.specs.declared.FlowAnswer.the-variants.{TooLong, BrokenMarkup, BrokenStructure, BrokenField, OtherBank, UnknownBody, NoRoom}
+use Rattle.desk.specs.declared.FlowAnswer.the-variants.{UnknownEdition, TooLong, BrokenMarkup, BrokenStructure, BrokenField, OtherBank, UnknownBody, NoRoom}
 use Rattle.desk.specs.Desk.{Reading, refused, served, forBody, forFlow, maxFlow, flowReads, flowCode}
-use Rattle.theorems.specs.Engine.{flow, namesIn, whichBody, position, who}
+use Rattle.theorems.specs.Engine.{flow, namesIn, namesBy, whichBody, position, who}
 use Rattle.theorems.specs.Codes.{oneOf, strayCodes}
 use Rattle.theorems.proofs.Good.{Good, base, size, abi-is, find-is, place-is, slots-is}
 
@@ -36,17 +40,17 @@ pub data Names (t₀ code : List ℕ) : Option ℕ → Type 0 where
   body : (b : ℕ) → b < bodies t₀ → ((t : List ℕ) → Good t₀ t → addressed t code ≡ Body (entryOf b) (base t₀ b) (size t₀ b)) → Names t₀ code (some b)
 
 -- what a flow reads, on every good table
-abbrev pub Always : List ℕ → List ℕ → List ℕ → Reading → Type 0
-Always t₀ f out x = (t : List ℕ) → Good t₀ t → flowReads t f (length out) ≡ x
+abbrev pub Always : List ℕ → ℕ → List ℕ → List ℕ → Reading → Type 0
+Always t₀ ed f out x = (t : List ℕ) → Good t₀ t → flowReads t ed f (length out) ≡ x
 
-pub data Reads (t₀ f out : List ℕ) : Option ℕ → Type 0 where
+pub data Reads (t₀ : List ℕ) (ed : ℕ) (f out : List ℕ) : Option ℕ → Type 0 where
   -- refused before a body is found
-  refuses : (a : FlowAnswer) → oneOf (strayCodes (flow f out)) (flowCode a) ≡ true → Always t₀ f out (refused a) → Reads t₀ f out none
+  refuses : (a : FlowAnswer) → oneOf (strayCodes (flow ed f out)) (flowCode a) ≡ true → Always t₀ ed f out (refused a) → Reads t₀ ed f out none
   -- body b's, with no room for its outcomes
-  shuts : (b : ℕ) → b < bodies t₀ → Always t₀ f out (refused NoRoom) → Reads t₀ f out (some b)
+  shuts : (b : ℕ) → b < bodies t₀ → Always t₀ ed f out (refused NoRoom) → Reads t₀ ed f out (some b)
   -- body b's, served
-  serves : (b : ℕ) → b < bodies t₀ → (year : ℕ) (os : List Ordinativo) → Writables os → (2000 ≤ year) × (year ≤ 2099) → Always t₀ f out (served (base t₀ b) (size t₀ b) year os)
-      → Reads t₀ f out (some b)
+  serves : (b : ℕ) → b < bodies t₀ → (year : ℕ) (os : List Ordinativo) → Writables os → (2000 ≤ year) × (year ≤ 2099) → Always t₀ ed f out (served (base t₀ b) (size t₀ b) year os)
+      → Reads t₀ ed f out (some b)
 
 -- THE ORDERS OF A FLOW THAT STANDS
 writable : (o : Ordinativo) → OrderOk o → Writable o
@@ -80,68 +84,77 @@ module _ (t₀ : List ℕ) (r : tableOk t₀ ≡ true) where
       go (At b) e = let l = low code b e in body b l (λ t g. addressed-is t g code ∙ body-some t g code b e l)
 
   -- A FLOW
-  module _ (f out : List ℕ) where
+  module _ (ed : ℕ) (f out : List ℕ) where
     -- what the call reads on a good table, as far as it goes
-    long-reads : leb (length f) maxFlow ≡ false → Always t₀ f out (refused TooLong)
+    unknown-reads : editionOf ed ≡ NoEdition → Always t₀ ed f out (refused UnknownEdition)
     unfolding flowReads
-    long-reads e t g = rw (g .ok, e)
+    unknown-reads n t g = rw (g .ok, n)
 
-    module _ (short : leb (length f) maxFlow ≡ true) where
-      verdict-reads : (v : Verdict) → verdictOf f ≡ v → (t : List ℕ) → Good t₀ t → flowReads t f (length out) ≡ forFlow t f (length out) v
+    module _ (y : Edition) (n : editionOf ed ≡ By y) where
+      long-reads : leb (length f) maxFlow ≡ false → Always t₀ ed f out (refused TooLong)
       unfolding flowReads
-      verdict-reads v e t g = rw (g .ok, short, e)
+      long-reads e t g = rw (g .ok, n, e)
 
-      module _ (at : ℕ) (stands : verdictOf f ≡ Stands at) where
-        abbrev h : Header
-        h = headerOf f at
+      module _ (short : leb (length f) maxFlow ≡ true) where
+        verdict-reads : (v : Verdict) → verdictOf y f ≡ v → (t : List ℕ) → Good t₀ t → flowReads t ed f (length out) ≡ forFlow y t f (length out) v
+        unfolding flowReads
+        verdict-reads v e t g = rw (g .ok, n, short, e)
 
-        abbrev os : List Ordinativo
-        os = flowOrders f at
+        module _ (at : ℕ) (stands : verdictOf y f ≡ Stands at) where
+          abbrev h : Header
+          h = headerOf y f at
 
-        bank-reads : (u : Bool) → textIs (abiOf t₀) (h .abi) ≡ u → (t : List ℕ) → Good t₀ t
-            → flowReads t f (length out) ≡ cond u (forBody (length out) (h .esercizio) os (bodyNamed t (h .ente))) (refused OtherBank)
-        bank-reads u e t g =
-            verdict-reads (Stands at) stands t g
-            ∙ ap (λ (y : Bool). cond y (forBody (length out) (h .esercizio) os (bodyNamed t (h .ente))) (refused OtherBank))
-            (ap (λ (a : List ℕ). textIs a (h .abi)) (abi-is t₀ r t g) ∙ e)
+          abbrev os : List Ordinativo
+          os = flowOrders y f at
 
-        module _ (bank : textIs (abiOf t₀) (h .abi) ≡ true) where
-          by-room : (b : ℕ) → bodyOf t₀ (h .ente) ≡ At b → (u : Bool) → leb (16 * length os) (length out) ≡ u → Reads t₀ f out (some b)
-          by-room b e u k = go u k
-            where
-              l : b < bodies t₀
-              l = low (h .ente) b e
+          bank-reads : (u : Bool) → textIs (abiOf t₀) (h .abi) ≡ u → (t : List ℕ) → Good t₀ t
+              → flowReads t ed f (length out) ≡ cond u (forBody (length out) (h .esercizio) os (bodyNamed t (h .ente))) (refused OtherBank)
+          bank-reads u e t g =
+              verdict-reads (Stands at) stands t g
+              ∙ ap (λ (y : Bool). cond y (forBody (length out) (h .esercizio) os (bodyNamed t (h .ente))) (refused OtherBank))
+              (ap (λ (a : List ℕ). textIs a (h .abi)) (abi-is t₀ r t g) ∙ e)
 
-              reads : (u : Bool) → leb (16 * length os) (length out) ≡ u → Always t₀ f out (cond u (served (base t₀ b) (size t₀ b) (h .esercizio) os) (refused NoRoom))
-              reads u k t g =
-                  bank-reads true bank t g
-                  ∙ ap (forBody (length out) (h .esercizio) os) (body-some t g (h .ente) b e l)
-                  ∙ ap (λ (y : Bool). cond y (served (base t₀ b) (size t₀ b) (h .esercizio) os) (refused NoRoom)) k
+          module _ (bank : textIs (abiOf t₀) (h .abi) ≡ true) where
+            by-room : (b : ℕ) → bodyOf t₀ (h .ente) ≡ At b → (u : Bool) → leb (16 * length os) (length out) ≡ u → Reads t₀ ed f out (some b)
+            by-room b e u k = go u k
+              where
+                l : b < bodies t₀
+                l = low (h .ente) b e
 
-              go : (u : Bool) → leb (16 * length os) (length out) ≡ u → Reads t₀ f out (some b)
-              go false k = shuts b l (reads false k)
-              go true k =
-                  let d = flow-stood f at stands in
-                  serves b l (h .esercizio) os (writables os (orders-ok f at d)) (header-ok f at d .0 .esercizio) (reads true k)
+                reads : (u : Bool) → leb (16 * length os) (length out) ≡ u → Always t₀ ed f out (cond u (served (base t₀ b) (size t₀ b) (h .esercizio) os) (refused NoRoom))
+                reads u k t g =
+                    bank-reads true bank t g
+                    ∙ ap (forBody (length out) (h .esercizio) os) (body-some t g (h .ente) b e l)
+                    ∙ ap (λ (y : Bool). cond y (served (base t₀ b) (size t₀ b) (h .esercizio) os) (refused NoRoom)) k
 
-          by-body : (x : Found) → bodyOf t₀ (h .ente) ≡ x → Reads t₀ f out (whichBody x)
-          by-body Nothing e =
-              refuses UnknownBody refl (λ t g. bank-reads true bank t g ∙ ap (forBody (length out) (h .esercizio) os) (body-none t g (h .ente) e))
-          by-body (At b) e = by-room b e (leb (16 * length os) (length out)) refl
+                go : (u : Bool) → leb (16 * length os) (length out) ≡ u → Reads t₀ ed f out (some b)
+                go false k = shuts b l (reads false k)
+                go true k =
+                    let d = flow-stood y f at stands in
+                    serves b l (h .esercizio) os (writables os (orders-ok y f at d)) (header-ok y f at d .0 .esercizio) (reads true k)
 
-        by-bank : (u : Bool) → textIs (abiOf t₀) (h .abi) ≡ u → Reads t₀ f out (position t₀ (cond u (some (h .ente)) none))
-        by-bank false e = refuses OtherBank refl (bank-reads false e)
-        by-bank true e = by-body e (bodyOf t₀ (h .ente)) refl
+            by-body : (x : Found) → bodyOf t₀ (h .ente) ≡ x → Reads t₀ ed f out (whichBody x)
+            by-body Nothing e =
+                refuses UnknownBody refl (λ t g. bank-reads true bank t g ∙ ap (forBody (length out) (h .esercizio) os) (body-none t g (h .ente) e))
+            by-body (At b) e = by-room b e (leb (16 * length os) (length out)) refl
 
-      by-verdict : (v : Verdict) → verdictOf f ≡ v → Reads t₀ f out (position t₀ (namesIn t₀ f v))
-      by-verdict (MarkupBreaks p) e = refuses BrokenMarkup refl (verdict-reads (MarkupBreaks p) e)
-      by-verdict StructureBreaks e = refuses BrokenStructure refl (verdict-reads StructureBreaks e)
-      by-verdict (FieldBreaks p c) e = refuses (BrokenField p c) refl (verdict-reads (FieldBreaks p c) e)
-      by-verdict (Stands at) e = by-bank at e (textIs (abiOf t₀) (headerOf f at .abi)) refl
+          by-bank : (u : Bool) → textIs (abiOf t₀) (h .abi) ≡ u → Reads t₀ ed f out (position t₀ (cond u (some (h .ente)) none))
+          by-bank false e = refuses OtherBank refl (bank-reads false e)
+          by-bank true e = by-body e (bodyOf t₀ (h .ente)) refl
 
-    by-length : (u : Bool) → leb (length f) maxFlow ≡ u → Reads t₀ f out (position t₀ (cond u (namesIn t₀ f (verdictOf f)) none))
-    by-length false e = refuses TooLong refl (long-reads e)
-    by-length true e = by-verdict e (verdictOf f) refl
+        by-verdict : (v : Verdict) → verdictOf y f ≡ v → Reads t₀ ed f out (position t₀ (namesIn y t₀ f v))
+        by-verdict (MarkupBreaks p) e = refuses BrokenMarkup refl (verdict-reads (MarkupBreaks p) e)
+        by-verdict StructureBreaks e = refuses BrokenStructure refl (verdict-reads StructureBreaks e)
+        by-verdict (FieldBreaks p c) e = refuses (BrokenField p c) refl (verdict-reads (FieldBreaks p c) e)
+        by-verdict (Stands at) e = by-bank at e (textIs (abiOf t₀) (headerOf y f at .abi)) refl
 
-    pub reads : Reads t₀ f out (who t₀ (flow f out))
-    reads = by-length (leb (length f) maxFlow) refl
+      by-length : (u : Bool) → leb (length f) maxFlow ≡ u → Reads t₀ ed f out (position t₀ (cond u (namesIn y t₀ f (verdictOf y f)) none))
+      by-length false e = refuses TooLong refl (long-reads e)
+      by-length true e = by-verdict e (verdictOf y f) refl
+
+    by-edition : (x : Edited) → editionOf ed ≡ x → Reads t₀ ed f out (position t₀ (namesBy t₀ f x))
+    by-edition (By y) n = by-length y n (leb (length f) maxFlow) refl
+    by-edition NoEdition n = refuses UnknownEdition refl (unknown-reads n)
+
+    pub reads : Reads t₀ ed f out (who t₀ (flow ed f out))
+    reads = by-edition (editionOf ed) refl

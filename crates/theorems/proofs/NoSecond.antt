@@ -30,7 +30,7 @@ pub no-second : NoSecond
 no-second = record {
   opening = one-open;
   conversion = one-convert;
-  flow = λ t f out a b u v x y m n. (one (m .0) (n .0), one (m .1) (n .1), one (m .2) (n .2));
+  flow = λ t ed f out a b u v x y m n. (one (m .0) (n .0), one (m .1) (n .1), one (m .2) (n .2));
   notice = λ t executing code k line d a b u v m n. (one (m .0) (n .0), one (m .1) (n .1));
   totals = λ t code a b m n. one m n;
   journal = λ t code s a b m n. one m n;
@@ -41,7 +41,7 @@ no-second = record {
   first-day = λ d x y m n. one m n;
   open-replies = λ q t m n u v x y. let e = one-open q t (x .0) (y .0) u v (x .1) (y .1) in (same openCode (e .0) (x .2) (y .2), e .1);
   convert-replies = λ o t m n u v x y. let e = one-convert o t (x .0) (y .0) u v (x .1) (y .1) in (same convertCode (e .0) (x .2) (y .2), e .1);
-  flow-replies = λ t f out m n u v x y p q.
+  flow-replies = λ t ed f out m n u v x y p q.
       let e = ap flowReply (one (p .1 .0) (q .1 .0)) in
       let code = same (λ (r : FlowReply). r .code) e (p .2 .0) (q .2 .0) in
       let place = same (λ (r : FlowReply). r .place) e (p .2 .1) (q .2 .1) in

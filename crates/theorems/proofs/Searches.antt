@@ -125,6 +125,6 @@ searches = record {
   found = λ slots year o rs n i e. looked-told (order-told slots year o rs) n ∙ ap (lookedAt rs) e;
   absent = λ slots year o rs n e. looked-told (order-told slots year o rs) n ∙ ap (lookedAt rs) e;
   unsearched = λ slots year o rs h. none-told (order-told slots year o rs) (inr h);
-  refused-none = λ t f out a t′ out′ p h. code-zeros a h .2;
+  refused-none = λ t ed f out a t′ out′ p h. code-zeros a h .2;
   unserved = λ slots year o rs h. none-told (order-told slots year o rs) (inl h);
 }

@@ -12,28 +12,28 @@ use Rattle.theorems.specs.Condition3.{AnyRun}
 use Rattle.isolation.specs.Machine.{stateAfter, log}
 
 abbrev pub answer : Call → List ℕ → Answer
-answer (flow f out) t = ofFlow (flowAnswer t (flowReads t f (length out))) (flowOutcomes t out (flowReads t f (length out)))
+answer (flow ed f out) t = ofFlow (flowAnswer t (flowReads t ed f (length out))) (flowOutcomes t out (flowReads t ed f (length out)))
 answer (execute code k line d) t = ofNotice (noticeAnswer t true code k line d)
 answer (reverse code k line d) t = ofNotice (noticeAnswer t false code k line d)
 answer (totals code) t = ofTotals (totalsOf t code)
 answer (journal code s) t = ofJournal (journalOf t code s)
 
 abbrev pub after : Call → List ℕ → List ℕ
-after (flow f out) t = flowTable t (flowReads t f (length out))
+after (flow ed f out) t = flowTable t (flowReads t ed f (length out))
 after (execute code k line d) t = noticeTable t true code k line d
 after (reverse code k line d) t = noticeTable t false code k line d
 after (totals code) t = t
 after (journal code s) t = t
 
 pub steps : (c : Call) (t : List ℕ) → Step c t (answer c t) (after c t)
-steps (flow f out) t = (flowAnswer t (flowReads t f (length out)), flowOutcomes t out (flowReads t f (length out)), (refl, refl, refl), refl)
+steps (flow ed f out) t = (flowAnswer t (flowReads t ed f (length out)), flowOutcomes t out (flowReads t ed f (length out)), (refl, refl, refl), refl)
 steps (execute code k line d) t = (noticeAnswer t true code k line d, (refl, refl), refl)
 steps (reverse code k line d) t = (noticeAnswer t false code k line d, (refl, refl), refl)
 steps (totals code) t = (totalsOf t code, refl, refl, refl)
 steps (journal code s) t = (journalOf t code s, refl, refl, refl)
 
 pub one-step : (c : Call) (t : List ℕ) (a : Answer) (t′ : List ℕ) → Step c t a t′ → (a ≡ answer c t) × (t′ ≡ after c t)
-one-step (flow f out) t a t′ s = (s .3 ∙ (λ i. ofFlow (s .2 .0 i) (s .2 .2 i)), s .2 .1)
+one-step (flow ed f out) t a t′ s = (s .3 ∙ (λ i. ofFlow (s .2 .0 i) (s .2 .2 i)), s .2 .1)
 one-step (execute code k line d) t a t′ s = (s .2 ∙ ap ofNotice (s .1 .0), s .1 .1)
 one-step (reverse code k line d) t a t′ s = (s .2 ∙ ap ofNotice (s .1 .0), s .1 .1)
 one-step (totals code) t a t′ s = (s .2 ∙ ap ofTotals (s .1), s .3)

@@ -16,6 +16,10 @@ use Rattle.entries.specs.Entry.{slotsOf, placeOf}
 use Rattle.table.specs.Table.{tableOk, abiOf, bodyOf, entryOf}
 use Rattle.table.proofs.Bodies.{body-at, found-body}
 use Rattle.order.specs.Ordinativo.{Ordinativo}
+use Rattle.editions.specs.declared.Edition.{Edition}
+use Rattle.editions.specs.declared.Edited.{Edited}
+use Rattle.editions.specs.declared.Edited.the-variants.{By, NoEdition}
+use Rattle.editions.specs.Editions.{editionOf}
 use Rattle.flow.specs.declared.Verdict.{Verdict}
 use Rattle.flow.specs.declared.Verdict.the-variants.{MarkupBreaks, StructureBreaks, FieldBreaks, Stands}
 use Rattle.flow.specs.Flow.{verdictOf, headerOf, flowOrders}
@@ -29,7 +33,7 @@ use Rattle.service.specs.Service.{orderComes, orderLeaves, outcomeSize, allLeav
 use Rattle.service.proofs.Searches.{all-most}
 use Rattle.service.proofs.Kept.{Writables, none, more, order-kept, order-records, all-kept, all-records}
 use Rattle.desk.specs.declared.FlowAnswer.{FlowAnswer}
-use Rattle.desk.specs.declared.FlowAnswer.the-variants.{InvalidTable, TooLong, BrokenMarkup, BrokenStructure, BrokenField, OtherBank, UnknownBody, NoRoom}
+use Rattle.desk.specs.declared.FlowAnswer.the-variants.{InvalidTable, UnknownEdition, TooLong, BrokenMarkup, BrokenStructure, BrokenField, OtherBank, UnknownBody, NoRoom}
 use Rattle.desk.specs.Desk.{Reading, refused, served, maxFlow, flowReads, flowAnswer, FlowPromise, flowCode, flowReply}
 use Rattle.theorems.specs.Engine.{bodyRecords}
 use Rattle.theorems.specs.Codes.{outcomeCodes}
@@ -68,72 +72,80 @@ module _ (base n year : ℕ) (y : (2000 ≤ year) × (year ≤ 2099)) where
       let k = all-kept t base n year before fits ok ws y in
       rw (← all-records t base n year before fits ok ws y) (order-exactly (allLeave t base n year before) base n (k .ok) year o)
 
-module _ (t f out : List ℕ) (a : FlowAnswer) (t′ out′ : List ℕ) (p : FlowPromise t f out a t′ out′) (z : flowCode a ≡ 0) where
-  not-refused : {A : Type 0} (x : FlowAnswer) → (flowCode x ≡ 0 → ⊥) → flowReads t f (length out) ≡ refused x → A
+module _ (t : List ℕ) (ed : ℕ) (f out : List ℕ) (a : FlowAnswer) (t′ out′ : List ℕ) (p : FlowPromise t ed f out a t′ out′) (z : flowCode a ≡ 0) where
+  not-refused : {A : Type 0} (x : FlowAnswer) → (flowCode x ≡ 0 → ⊥) → flowReads t ed f (length out) ≡ refused x → A
   not-refused x n e = absurd (n (sym (ap flowCode (p .0 ∙ ap (flowAnswer t) e)) ∙ z))
 
-  is-taken : (at b : ℕ) → tableOk t ≡ true → verdictOf f ≡ Stands at → textIs (abiOf t) (headerOf f at .abi) ≡ true → bodyOf t (headerOf f at .ente) ≡ At b
-      → flowReads t f (length out) ≡ served (placeOf t (entryOf b)) (slotsOf t (entryOf b)) (headerOf f at .esercizio) (flowOrders f at) → Taken t f a t′ out′
-  is-taken at b ok s k e d =
-      let v = body-at t ok b (found-body t ok (headerOf f at .ente) b e) in
-      let h = flow-stood f at s in
-      let y = header-ok f at h .0 .esercizio in
-      let os = flowOrders f at in
-      let ws = writables os (orders-ok f at h) in
-      let base = placeOf t (entryOf b) in
-      let n = slotsOf t (entryOf b) in
-      let year = headerOf f at .esercizio in
-      let x = orders-in-turn t f out a t′ out′ p base n year os d in
-      let q = ap (λ (r : FlowAnswer). flowReply r .steps) ((rw d at p) .0) in
-      let m = all-most t base n year os in
-      record {
-        valid = ok;
-        at = at;
-        stands = s;
-        bank = k;
-        body = b;
-        named = e;
-        orders = x .0;
-        codes = x .1 ∙ codes-over base n year y t os (v .inside) (v .holds .body) ws;
-        records = ap (λ (u : List ℕ). recordsAt u base n) ((rw d at p) .1) ∙ all-records t base n year os (v .inside) (v .holds .body) ws y;
-        steps = q ∙ steps-over base n year y t os (v .inside) (v .holds .body) ws;
-        steps-bound = rw (q, x .0) m;
-        exactly = λ before o after q. exactly-then base n year y t before o (v .inside) (v .holds .body) (front-writable before (o ∷ after) (rw q at ws));
-      }
+  module _ (y : Edition) (num : editionOf ed ≡ By y) where
+    is-taken : (at b : ℕ) → tableOk t ≡ true → verdictOf y f ≡ Stands at → textIs (abiOf t) (headerOf y f at .abi) ≡ true → bodyOf t (headerOf y f at .ente) ≡ At b
+        → flowReads t ed f (length out) ≡ served (placeOf t (entryOf b)) (slotsOf t (entryOf b)) (headerOf y f at .esercizio) (flowOrders y f at) → Taken t ed f a t′ out′
+    is-taken at b ok s k e d =
+        let v = body-at t ok b (found-body t ok (headerOf y f at .ente) b e) in
+        let h = flow-stood y f at s in
+        let g = header-ok y f at h .0 .esercizio in
+        let os = flowOrders y f at in
+        let ws = writables os (orders-ok y f at h) in
+        let base = placeOf t (entryOf b) in
+        let n = slotsOf t (entryOf b) in
+        let year = headerOf y f at .esercizio in
+        let x = orders-in-turn t ed f out a t′ out′ p base n year os d in
+        let q = ap (λ (r : FlowAnswer). flowReply r .steps) ((rw d at p) .0) in
+        let m = all-most t base n year os in
+        record {
+          valid = ok;
+          edition = y;
+          numbered = num;
+          at = at;
+          stands = s;
+          bank = k;
+          body = b;
+          named = e;
+          orders = x .0;
+          codes = x .1 ∙ codes-over base n year g t os (v .inside) (v .holds .body) ws;
+          records = ap (λ (u : List ℕ). recordsAt u base n) ((rw d at p) .1) ∙ all-records t base n year os (v .inside) (v .holds .body) ws g;
+          steps = q ∙ steps-over base n year g t os (v .inside) (v .holds .body) ws;
+          steps-bound = rw (q, x .0) m;
+          exactly = λ before o after q. exactly-then base n year g t before o (v .inside) (v .holds .body) (front-writable before (o ∷ after) (rw q at ws));
+        }
 
-  by-room : (at b : ℕ) → tableOk t ≡ true → leb (length f) maxFlow ≡ true → verdictOf f ≡ Stands at → textIs (abiOf t) (headerOf f at .abi) ≡ true
-      → bodyOf t (headerOf f at .ente) ≡ At b → (u : Bool) → leb (outcomeSize * length (flowOrders f at)) (length out) ≡ u → Taken t f a t′ out′
-  unfolding flowReads
-  by-room at b ok l s k e true d = is-taken at b ok s k e (rw (ok, l, s, k, e, d))
-  by-room at b ok l s k e false d = not-refused NoRoom (λ q. omega arith) (rw (ok, l, s, k, e, d))
+    by-room : (at b : ℕ) → tableOk t ≡ true → leb (length f) maxFlow ≡ true → verdictOf y f ≡ Stands at → textIs (abiOf t) (headerOf y f at .abi) ≡ true
+        → bodyOf t (headerOf y f at .ente) ≡ At b → (u : Bool) → leb (outcomeSize * length (flowOrders y f at)) (length out) ≡ u → Taken t ed f a t′ out′
+    unfolding flowReads
+    by-room at b ok l s k e true d = is-taken at b ok s k e (rw (ok, num, l, s, k, e, d))
+    by-room at b ok l s k e false d = not-refused NoRoom (λ q. omega arith) (rw (ok, num, l, s, k, e, d))
 
-  by-body : (at : ℕ) → tableOk t ≡ true → leb (length f) maxFlow ≡ true → verdictOf f ≡ Stands at → textIs (abiOf t) (headerOf f at .abi) ≡ true
-      → (x : Found) → bodyOf t (headerOf f at .ente) ≡ x → Taken t f a t′ out′
-  unfolding flowReads
-  by-body at ok l s k (At b) e = by-room at b ok l s k e (leb (outcomeSize * length (flowOrders f at)) (length out)) refl
-  by-body at ok l s k Nothing e = not-refused UnknownBody (λ q. omega arith) (rw (ok, l, s, k, e))
+    by-body : (at : ℕ) → tableOk t ≡ true → leb (length f) maxFlow ≡ true → verdictOf y f ≡ Stands at → textIs (abiOf t) (headerOf y f at .abi) ≡ true
+        → (x : Found) → bodyOf t (headerOf y f at .ente) ≡ x → Taken t ed f a t′ out′
+    unfolding flowReads
+    by-body at ok l s k (At b) e = by-room at b ok l s k e (leb (outcomeSize * length (flowOrders y f at)) (length out)) refl
+    by-body at ok l s k Nothing e = not-refused UnknownBody (λ q. omega arith) (rw (ok, num, l, s, k, e))
 
-  by-bank : (at : ℕ) → tableOk t ≡ true → leb (length f) maxFlow ≡ true → verdictOf f ≡ Stands at → (u : Bool) → textIs (abiOf t) (headerOf f at .abi) ≡ u → Taken t f a t′ out′
-  unfolding flowReads
-  by-bank at ok l s true k = by-body at ok l s k (bodyOf t (headerOf f at .ente)) refl
-  by-bank at ok l s false k = not-refused OtherBank (λ q. omega arith) (rw (ok, l, s, k))
+    by-bank : (at : ℕ) → tableOk t ≡ true → leb (length f) maxFlow ≡ true → verdictOf y f ≡ Stands at → (u : Bool) → textIs (abiOf t) (headerOf y f at .abi) ≡ u → Taken t ed f a t′ out′
+    unfolding flowReads
+    by-bank at ok l s true k = by-body at ok l s k (bodyOf t (headerOf y f at .ente)) refl
+    by-bank at ok l s false k = not-refused OtherBank (λ q. omega arith) (rw (ok, num, l, s, k))
 
-  by-verdict : tableOk t ≡ true → leb (length f) maxFlow ≡ true → (v : Verdict) → verdictOf f ≡ v → Taken t f a t′ out′
-  unfolding flowReads
-  by-verdict ok l (MarkupBreaks q) s = not-refused BrokenMarkup (λ q. omega arith) (rw (ok, l, s))
-  by-verdict ok l StructureBreaks s = not-refused BrokenStructure (λ q. omega arith) (rw (ok, l, s))
-  by-verdict ok l (FieldBreaks q c) s = not-refused (BrokenField q c) (λ q. omega arith) (rw (ok, l, s))
-  by-verdict ok l (Stands at) s = by-bank at ok l s (textIs (abiOf t) (headerOf f at .abi)) refl
+    by-verdict : tableOk t ≡ true → leb (length f) maxFlow ≡ true → (v : Verdict) → verdictOf y f ≡ v → Taken t ed f a t′ out′
+    unfolding flowReads
+    by-verdict ok l (MarkupBreaks q) s = not-refused BrokenMarkup (λ q. omega arith) (rw (ok, num, l, s))
+    by-verdict ok l StructureBreaks s = not-refused BrokenStructure (λ q. omega arith) (rw (ok, num, l, s))
+    by-verdict ok l (FieldBreaks q c) s = not-refused (BrokenField q c) (λ q. omega arith) (rw (ok, num, l, s))
+    by-verdict ok l (Stands at) s = by-bank at ok l s (textIs (abiOf t) (headerOf y f at .abi)) refl
 
-  by-length : tableOk t ≡ true → (u : Bool) → leb (length f) maxFlow ≡ u → Taken t f a t′ out′
-  unfolding flowReads
-  by-length ok true l = by-verdict ok l (verdictOf f) refl
-  by-length ok false l = not-refused TooLong (λ q. omega arith) (rw (ok, l))
+    by-length : tableOk t ≡ true → (u : Bool) → leb (length f) maxFlow ≡ u → Taken t ed f a t′ out′
+    unfolding flowReads
+    by-length ok true l = by-verdict ok l (verdictOf y f) refl
+    by-length ok false l = not-refused TooLong (λ q. omega arith) (rw (ok, num, l))
 
-  by-table : (u : Bool) → tableOk t ≡ u → Taken t f a t′ out′
+  by-edition : tableOk t ≡ true → (x : Edited) → editionOf ed ≡ x → Taken t ed f a t′ out′
   unfolding flowReads
-  by-table true ok = by-length ok (leb (length f) maxFlow) refl
+  by-edition ok (By y) n = by-length y n ok (leb (length f) maxFlow) refl
+  by-edition ok NoEdition n = not-refused UnknownEdition (λ q. omega arith) (rw (ok, n))
+
+  by-table : (u : Bool) → tableOk t ≡ u → Taken t ed f a t′ out′
+  unfolding flowReads
+  by-table true ok = by-edition ok (editionOf ed) refl
   by-table false ok = not-refused InvalidTable (λ q. omega arith) (rw ok)
 
-  pub flow-taken : Taken t f a t′ out′
+  pub flow-taken : Taken t ed f a t′ out′
   flow-taken = by-table (tableOk t) refl

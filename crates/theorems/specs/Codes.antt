@@ -24,9 +24,9 @@ abbrev pub convertCodes : List ℕ
 convertCodes = 0 ∷ 1 ∷ 10 ∷ []
 
 -- A CALL THAT NAMES NO BODY of a valid table. A flow: "2 the flow is longer than 32,768 bytes; 3 the markup breaks; 4 the structure breaks; 5 a field
--- breaks; 6 codice_ABI_BT isn't the table's; 7 no body has this code". A notice: 7, or "27 no date or outside the years, 28 closing day" (Req 08). Totals and a journal: 7
+-- breaks; 6 codice_ABI_BT isn't the table's; 7 no body has this code", or "23, no such edition" (document 02, Req 05). A notice: 7, or "27 no date or outside the years, 28 closing day" (Req 08). Totals and a journal: 7
 abbrev pub strayCodes : Call → List ℕ
-strayCodes (flow f out) = 2 ∷ 3 ∷ 4 ∷ 5 ∷ 6 ∷ 7 ∷ []
+strayCodes (flow ed f out) = 2 ∷ 3 ∷ 4 ∷ 5 ∷ 6 ∷ 7 ∷ 23 ∷ []
 strayCodes (execute code k line d) = 7 ∷ 27 ∷ 28 ∷ []
 strayCodes (reverse code k line d) = 7 ∷ 27 ∷ 28 ∷ []
 strayCodes (totals code) = 7 ∷ []
@@ -44,7 +44,7 @@ journalCodes = 0 ∷ 29 ∷ 30 ∷ 31 ∷ 32 ∷ 33 ∷ []
 
 -- A CALL THAT NAMES A BODY. A flow: "8 the outcome buffer has under 16 bytes per order .. Otherwise the code is 0"
 abbrev pub bodyCodes : Call → List ℕ
-bodyCodes (flow f out) = 0 ∷ 8 ∷ []
+bodyCodes (flow ed f out) = 0 ∷ 8 ∷ []
 bodyCodes (execute code k line d) = noticeCodes true
 bodyCodes (reverse code k line d) = noticeCodes false
 bodyCodes (totals code) = 0 ∷ []

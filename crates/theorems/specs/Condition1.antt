@@ -25,14 +25,14 @@ pub record Condition1 : Type 0 where
   pub conversion-numbered : (o t : List ℕ) (a : Converted) (t′ : List ℕ) → ConvertPromise o t a t′ → oneOf convertCodes (convertCode a) ≡ true
   pub call-numbered : (c : Call) (t : List ℕ) (a : Answer) (t′ : List ℕ) → Step c t a t′ → oneOf (callCodes c) (answerCode a) ≡ true
   -- and so does every order of a flow taken
-  pub orders-numbered : (t f out : List ℕ) (a : FlowAnswer) (t′ out′ : List ℕ) → FlowPromise t f out a t′ out′ → flowCode a ≡ 0
+  pub orders-numbered : (t : List ℕ) (ed : ℕ) (f out : List ℕ) (a : FlowAnswer) (t′ out′ : List ℕ) → FlowPromise t ed f out a t′ out′ → flowCode a ≡ 0
       → each (oneOf orderCodes) (outcomeCodes (flowReply a .orders) out′) ≡ true
   -- a flow's cause is a numbered one too: 1 to 4 with code 5, and 0 with every other
-  pub cause-numbered : (t f out : List ℕ) (a : FlowAnswer) (t′ out′ : List ℕ) → FlowPromise t f out a t′ out′ → oneOf (causesWith (flowCode a)) (flowReply a .cause) ≡ true
+  pub cause-numbered : (t : List ℕ) (ed : ℕ) (f out : List ℕ) (a : FlowAnswer) (t′ out′ : List ℕ) → FlowPromise t ed f out a t′ out′ → oneOf (causesWith (flowCode a)) (flowReply a .cause) ≡ true
   -- "It checks its own inputs." There is an answer for every input
   pub answered : (c : Call) (t : List ℕ) → (a : Answer) × (t′ : List ℕ) × Step c t a t′
   -- "A refused flow changes neither table nor outcome buffer;"
-  pub refused-flow : (t f out : List ℕ) (a : FlowAnswer) (t′ out′ : List ℕ) → FlowPromise t f out a t′ out′ → (flowCode a ≡ 0 → ⊥) → (t′ ≡ t) × (out′ ≡ out)
+  pub refused-flow : (t : List ℕ) (ed : ℕ) (f out : List ℕ) (a : FlowAnswer) (t′ out′ : List ℕ) → FlowPromise t ed f out a t′ out′ → (flowCode a ≡ 0 → ⊥) → (t′ ≡ t) × (out′ ≡ out)
   -- "a refused order or notice changes no record." No byte of the table
   pub refused-order : (t : List ℕ) (base n year : ℕ) (o : Ordinativo) → (orderCode (orderComes t base n year o) ≡ 0 → ⊥) → orderLeaves t base n year o ≡ t
   pub refused-notice : (t : List ℕ) (executing : Bool) (code : List ℕ) (k : Key) (line : ℕ) (d : Date) (a : NoticeAnswer) (t′ : List ℕ)

@@ -17,6 +17,9 @@ use Rattle.entries.specs.Entry.{slotsOf, placeOf}
 use Rattle.scan.specs.Bytes.{textIs}
 use Rattle.table.specs.Table.{tableOk, bodies, bodyOf, entryOf, abiOf}
 use Rattle.record.specs.declared.Record.{Record}
+use Rattle.editions.specs.declared.Edition.{Edition}
+use Rattle.editions.specs.declared.Edited.the-variants.{By}
+use Rattle.editions.specs.Editions.{editionOf}
 use Rattle.flow.specs.declared.Verdict.the-variants.{Stands}
 use Rattle.flow.specs.Flow.{verdictOf, headerOf, flowOrders}
 use Rattle.order.specs.Ordinativo.{Ordinativo}
@@ -37,7 +40,7 @@ use Rattle.opening.specs.Opening.{openCode, OpenPromise}
 use Rattle.desk.specs.declared.FlowAnswer.{FlowAnswer}
 use Rattle.desk.specs.Desk.{FlowPromise, flowCode, flowReply}
 use Rattle.theorems.specs.Engine.{bodyRecords}
-use Rattle.theorems.specs.Given.{breaksAt, breaksBy, flowRefusals, firstOf}
+use Rattle.theorems.specs.Given.{breaksAt, breaksBy, flowRefusals, firstOf, verdictAs}
 use Rattle.theorems.specs.Codes.{outcomeCodes, zeroCodes}
 
 -- the codes that the rules give a flow's orders, "each on the table the one before left", over a body's records
@@ -82,40 +85,43 @@ EachNotice P = (t : List ℕ) → tableOk t ≡ true → (code : List ℕ) (b : 
     → P t b executing k line a t′
 
 -- A FLOW THAT IS TAKEN, on a table t with the outcome buffer out′ and the table t′ afterwards
-pub record Taken (t f : List ℕ) (a : FlowAnswer) (t′ out′ : List ℕ) : Type 0 where
-  -- the table is valid; the flow stands, its codice_ABI_BT is the table's, and its codice_ente_BT is the code of this body
+pub record Taken (t : List ℕ) (ed : ℕ) (f : List ℕ) (a : FlowAnswer) (t′ out′ : List ℕ) : Type 0 where
+  -- the table is valid; its number names an edition, by which the flow stands, its codice_ABI_BT is the table's, and its codice_ente_BT is the code of this body
   pub valid : tableOk t ≡ true
+  pub edition : Edition
+  pub numbered : editionOf ed ≡ By edition
   pub at : ℕ
-  pub stands : verdictOf f ≡ Stands at
-  pub bank : textIs (abiOf t) (headerOf f at .abi) ≡ true
+  pub stands : verdictOf edition f ≡ Stands at
+  pub bank : textIs (abiOf t) (headerOf edition f at .abi) ≡ true
   pub body : ℕ
-  pub named : bodyOf t (headerOf f at .ente) ≡ At body
+  pub named : bodyOf t (headerOf edition f at .ente) ≡ At body
   -- its orders, for the flow's esercizio, get the rules' codes over the body's records, and leave the records that the rules give (rules/specs/Effects)
-  pub orders : flowReply a .orders ≡ length (flowOrders f at)
-  pub codes : outcomeCodes (length (flowOrders f at)) out′
-      ≡ codesInTurn (slotsOf t (entryOf body)) (headerOf f at .esercizio) (flowOrders f at) (bodyRecords body t)
+  pub orders : flowReply a .orders ≡ length (flowOrders edition f at)
+  pub codes : outcomeCodes (length (flowOrders edition f at)) out′
+      ≡ codesInTurn (slotsOf t (entryOf body)) (headerOf edition f at .esercizio) (flowOrders edition f at) (bodyRecords body t)
   pub records : recordsAt t′ (placeOf t (entryOf body)) (slotsOf t (entryOf body))
-      ≡ allRecords (slotsOf t (entryOf body)) (headerOf f at .esercizio) (flowOrders f at) (bodyRecords body t)
+      ≡ allRecords (slotsOf t (entryOf body)) (headerOf edition f at .esercizio) (flowOrders edition f at) (bodyRecords body t)
   -- "The flow's answer carries their sum, shown to be at most orders times the body's slots" (document 02, Req 09)
-  pub steps : flowReply a .steps ≡ stepsInTurn (slotsOf t (entryOf body)) (headerOf f at .esercizio) (flowOrders f at) (bodyRecords body t)
+  pub steps : flowReply a .steps ≡ stepsInTurn (slotsOf t (entryOf body)) (headerOf edition f at .esercizio) (flowOrders edition f at) (bodyRecords body t)
   pub steps-bound : flowReply a .steps ≤ flowReply a .orders * slotsOf t (entryOf body)
   -- "An order is accepted exactly when no listed refusal applies", on what the orders before it left
-  pub exactly : (before : List Ordinativo) (o : Ordinativo) (after : List Ordinativo) → flowOrders f at ≡ before ++ (o ∷ after)
-      → let rs = allRecords (slotsOf t (entryOf body)) (headerOf f at .esercizio) before (bodyRecords body t) in
-      Exactly (orderCode (judgeOrder (slotsOf t (entryOf body)) (headerOf f at .esercizio) o rs) ≡ 0) (None (Applies (slotsOf t (entryOf body)) (headerOf f at .esercizio) o rs))
+  pub exactly : (before : List Ordinativo) (o : Ordinativo) (after : List Ordinativo) → flowOrders edition f at ≡ before ++ (o ∷ after)
+      → let rs = allRecords (slotsOf t (entryOf body)) (headerOf edition f at .esercizio) before (bodyRecords body t) in
+      Exactly (orderCode (judgeOrder (slotsOf t (entryOf body)) (headerOf edition f at .esercizio) o rs) ≡ 0) (None (Applies (slotsOf t (entryOf body)) (headerOf edition f at .esercizio) o rs))
 
 pub record Condition2 : Type 0 where
-  -- "A flow is read as the profile in document 01 says": of any bytes, by grammar, tree, schema and fields alone (crates/tree/specs/Flow)
-  pub reading : (s : List ℕ) → Answered s
+  -- "A flow is read as the profile in document 01 says": of any bytes and either edition, by grammar, tree, schema and fields alone (crates/tree/specs/Flow)
+  pub reading : (e : Edition) (s : List ℕ) → Answered e s
   -- and each refusal of a flow is given exactly when document 01 says, with "place .. 0 but for code 5"; document 02, Req 03: "All other answers
   -- carry cause 0"
-  pub refusals : (t f out : List ℕ) (a : FlowAnswer) (t′ out′ : List ℕ) → FlowPromise t f out a t′ out′
-      → (flowCode a ≡ firstOf (flowRefusals t f (length out) (verdictOf f))) × (flowReply a .place ≡ cond (eqb (flowCode a) 5) (breaksAt (verdictOf f)) 0)
-      × (flowReply a .cause ≡ cond (eqb (flowCode a) 5) (breaksBy (verdictOf f)) 0)
+  pub refusals : (t : List ℕ) (ed : ℕ) (f out : List ℕ) (a : FlowAnswer) (t′ out′ : List ℕ) → FlowPromise t ed f out a t′ out′
+      → let v = verdictAs (editionOf ed) f in
+      (flowCode a ≡ firstOf (flowRefusals t (editionOf ed) f (length out) v)) × (flowReply a .place ≡ cond (eqb (flowCode a) 5) (breaksAt v) 0)
+      × (flowReply a .cause ≡ cond (eqb (flowCode a) 5) (breaksBy v) 0)
   -- "each order .. is answered by the step table", and accepted "exactly when no listed refusal applies": of a flow with code 0
-  pub taken : (t f out : List ℕ) (a : FlowAnswer) (t′ out′ : List ℕ) → FlowPromise t f out a t′ out′ → flowCode a ≡ 0 → Taken t f a t′ out′
+  pub taken : (t : List ℕ) (ed : ℕ) (f out : List ℕ) (a : FlowAnswer) (t′ out′ : List ℕ) → FlowPromise t ed f out a t′ out′ → flowCode a ≡ 0 → Taken t ed f a t′ out′
   -- and `accepted` is "how many of them got outcome code 0"
-  pub accepted : (t f out : List ℕ) (a : FlowAnswer) (t′ out′ : List ℕ) → FlowPromise t f out a t′ out′ → flowCode a ≡ 0
+  pub accepted : (t : List ℕ) (ed : ℕ) (f out : List ℕ) (a : FlowAnswer) (t′ out′ : List ℕ) → FlowPromise t ed f out a t′ out′ → flowCode a ≡ 0
       → flowReply a .accepted ≡ zeroCodes (outcomeCodes (flowReply a .orders) out′)
   -- "execution and reversal is answered by the .. notice rules there": by those over the records of the body with that code
   pub notices : EachNotice (λ t b executing k line a t′. a ≡ noticed (judgeNotice executing k line (bodyRecords b t)))

@@ -18,6 +18,10 @@ use Rattle.record.specs.declared.Record.{Record}
 use Rattle.slots.specs.Slots.{recordsAt}
 use Rattle.entries.specs.Entry.{entrySize, entryFixed, slotsOf, placeOf}
 use Rattle.table.specs.Table.{headSize, bodies, abiOf, bodyOf, entryOf}
+use Rattle.editions.specs.declared.Edition.{Edition}
+use Rattle.editions.specs.declared.Edited.{Edited}
+use Rattle.editions.specs.declared.Edited.the-variants.{By, NoEdition}
+use Rattle.editions.specs.Editions.{editionOf}
 use Rattle.flow.specs.declared.Verdict.{Verdict}
 use Rattle.flow.specs.declared.Verdict.the-variants.{MarkupBreaks, StructureBreaks, FieldBreaks, Stands}
 use Rattle.flow.specs.Flow.{verdictOf, headerOf}
@@ -31,8 +35,8 @@ use Rattle.isolation.specs.Machine.{Machine, stateAfter}
 
 -- THE CALLS
 pub data Call : Type 0 where
-  -- a flow's bytes, and those of the outcome buffer that it lends
-  flow : List ℕ → List ℕ → Call
+  -- an edition's number, a flow's bytes, and those of the outcome buffer that it lends. "a body may mix editions" (document 02, Req 05): each flow has its own
+  flow : ℕ → List ℕ → List ℕ → Call
   -- a notice of execution or reversal: body code; kind, esercizio and number; line; date
   execute : List ℕ → Key → ℕ → Date → Call
   reverse : List ℕ → Key → ℕ → Date → Call
@@ -50,7 +54,7 @@ pub data Answer : Type 0 where
 
 -- what each call promises: on the table t, the answer a and the table t′ afterwards
 abbrev pub Step : Call → List ℕ → Answer → List ℕ → Type 0
-Step (flow f out) t a t′ = (r : FlowAnswer) × (out′ : List ℕ) × FlowPromise t f out r t′ out′ × (a ≡ ofFlow r out′)
+Step (flow ed f out) t a t′ = (r : FlowAnswer) × (out′ : List ℕ) × FlowPromise t ed f out r t′ out′ × (a ≡ ofFlow r out′)
 Step (execute code k line d) t a t′ = (r : NoticeAnswer) × NoticePromise t true code k line d r t′ × (a ≡ ofNotice r)
 Step (reverse code k line d) t a t′ = (r : NoticeAnswer) × NoticePromise t false code k line d r t′ × (a ≡ ofNotice r)
 Step (totals code) t a t′ = (r : TotalsAnswer) × TotalsPromise t code r × (a ≡ ofTotals r) × (t′ ≡ t)
@@ -76,12 +80,17 @@ answerCode (ofJournal c) = c
 
 -- WHICH BODY A CALL NAMES, read from the call and from t₀, the table that the calls start from: its ABI digits and its bodies' codes.
 
--- a flow names a body when it stands and its codice_ABI_BT is the table's: by its codice_ente_BT
-abbrev pub namesIn : List ℕ → List ℕ → Verdict → Option (List ℕ)
-namesIn t₀ f (MarkupBreaks p) = none
-namesIn t₀ f StructureBreaks = none
-namesIn t₀ f (FieldBreaks p c) = none
-namesIn t₀ f (Stands at) = cond (textIs (abiOf t₀) (headerOf f at .abi)) (some (headerOf f at .ente)) none
+-- a flow of an edition names a body when it stands and its codice_ABI_BT is the table's: by its codice_ente_BT
+abbrev pub namesIn : Edition → List ℕ → List ℕ → Verdict → Option (List ℕ)
+namesIn e t₀ f (MarkupBreaks p) = none
+namesIn e t₀ f StructureBreaks = none
+namesIn e t₀ f (FieldBreaks p c) = none
+namesIn e t₀ f (Stands at) = cond (textIs (abiOf t₀) (headerOf e f at .abi)) (some (headerOf e f at .ente)) none
+
+-- and none where its number names no edition
+abbrev pub namesBy : List ℕ → List ℕ → Edited → Option (List ℕ)
+namesBy t₀ f (By e) = cond (leb (length f) maxFlow) (namesIn e t₀ f (verdictOf e f)) none
+namesBy t₀ f NoEdition = none
 
 -- a notice names a body when its date is a TARGET day: by its code
 abbrev pub namesOn : ℕ → List ℕ → Option (List ℕ)
@@ -89,7 +98,7 @@ namesOn zero code = some code
 namesOn (suc c) code = none
 
 abbrev pub names : List ℕ → Call → Option (List ℕ)
-names t₀ (flow f out) = cond (leb (length f) maxFlow) (namesIn t₀ f (verdictOf f)) none
+names t₀ (flow ed f out) = namesBy t₀ f (editionOf ed)
 names t₀ (execute code k line d) = namesOn (targetCode d) code
 names t₀ (reverse code k line d) = namesOn (targetCode d) code
 names t₀ (totals code) = some code

@@ -8,9 +8,13 @@ use Rattle.scan.specs.Bytes.{textIs}
 use Rattle.ranges.specs.Ranges.{isNothing}
 use Rattle.fields.specs.Causes.{causeNumber}
 use Rattle.table.specs.Table.{tableOk, abiOf, bodyOf}
+use Rattle.editions.specs.declared.Edition.{Edition}
+use Rattle.editions.specs.declared.Edition.the-variants.{Oil}
+use Rattle.editions.specs.declared.Edited.{Edited}
+use Rattle.editions.specs.declared.Edited.the-variants.{By, NoEdition}
 use Rattle.flow.specs.declared.Verdict.{Verdict}
 use Rattle.flow.specs.declared.Verdict.the-variants.{MarkupBreaks, StructureBreaks, FieldBreaks, Stands}
-use Rattle.flow.specs.Flow.{headerOf, flowOrders}
+use Rattle.flow.specs.Flow.{verdictOf, headerOf, flowOrders}
 use Rattle.service.specs.Service.{outcomeSize}
 use Rattle.desk.specs.Desk.{maxFlow}
 
@@ -52,11 +56,25 @@ standsAt StructureBreaks = 0
 standsAt (FieldBreaks p c) = 0
 standsAt (Stands at) = at
 
--- of the flow f, whose verdict is v, on the table t with an outcome buffer of so many bytes
-abbrev pub flowRefusals : List ℕ → List ℕ → ℕ → Verdict → List (ℕ × Bool)
-flowRefusals t f room v =
+-- the edition that a flow is read by. (Where its number names none it isn't read)
+abbrev pub editionRead : Edited → Edition
+editionRead (By e) = e
+editionRead NoEdition = Oil
+
+abbrev pub isUnknown : Edited → Bool
+isUnknown (By e) = false
+isUnknown NoEdition = true
+
+abbrev pub verdictAs : Edited → List ℕ → Verdict
+verdictAs x f = verdictOf (editionRead x) f
+
+-- of the flow f, whose number names the edition x or none and whose verdict is v, on the table t with an outcome buffer of so many bytes
+abbrev pub flowRefusals : List ℕ → Edited → List ℕ → ℕ → Verdict → List (ℕ × Bool)
+flowRefusals t x f room v =
     -- "the table isn't valid"
     (1, not (tableOk t))
+    -- "23, no such edition, after 1 and before 2" (document 02, Req 05)
+    ∷ (23, isUnknown x)
     -- "the flow is longer than 32,768 bytes"
     ∷ (2, not (leb (length f) maxFlow))
     -- "the markup breaks", "the structure breaks", "a field breaks"
@@ -64,11 +82,11 @@ flowRefusals t f room v =
     ∷ (4, isStructure v)
     ∷ (5, isField v)
     -- "codice_ABI_BT isn't the table's"
-    ∷ (6, not (textIs (abiOf t) (headerOf f (standsAt v) .abi)))
+    ∷ (6, not (textIs (abiOf t) (headerOf (editionRead x) f (standsAt v) .abi)))
     -- "no body has this code"
-    ∷ (7, isNothing (bodyOf t (headerOf f (standsAt v) .ente)))
+    ∷ (7, isNothing (bodyOf t (headerOf (editionRead x) f (standsAt v) .ente)))
     -- "the outcome buffer has under 16 bytes per order"
-    ∷ (8, not (leb (outcomeSize * length (flowOrders f (standsAt v))) room))
+    ∷ (8, not (leb (outcomeSize * length (flowOrders (editionRead x) f (standsAt v))) room))
     ∷ []
 
 -- "Checked in that order .. Otherwise the code is 0"

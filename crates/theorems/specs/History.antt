@@ -34,14 +34,14 @@ weighed w k n (ofJournal c) = 0
 abbrev pub ofExecution : Weight → Call → Answer → ℕ
 ofExecution w (execute code k n d) a = weighed w k n a
 ofExecution w (reverse code k n d) a = 0
-ofExecution w (flow f out) a = 0
+ofExecution w (flow ed f out) a = 0
 ofExecution w (totals code) a = 0
 ofExecution w (journal code s) a = 0
 
 abbrev pub ofReversal : Weight → Call → Answer → ℕ
 ofReversal w (reverse code k n d) a = weighed w k n a
 ofReversal w (execute code k n d) a = 0
-ofReversal w (flow f out) a = 0
+ofReversal w (flow ed f out) a = 0
 ofReversal w (totals code) a = 0
 ofReversal w (journal code s) a = 0
 

@@ -28,7 +28,7 @@ use Rattle.desk.specs.Desk.{FlowPromise, FlowReplies}
 pub record NoSecond : Type 0 where
   pub opening : (q t : List ℕ) (a b : Opened) (u v : List ℕ) → OpenPromise q t a u → OpenPromise q t b v → (a ≡ b) × (u ≡ v)
   pub conversion : (o t : List ℕ) (a b : Converted) (u v : List ℕ) → ConvertPromise o t a u → ConvertPromise o t b v → (a ≡ b) × (u ≡ v)
-  pub flow : (t f out : List ℕ) (a b : FlowAnswer) (u v x y : List ℕ) → FlowPromise t f out a u x → FlowPromise t f out b v y → (a ≡ b) × (u ≡ v) × (x ≡ y)
+  pub flow : (t : List ℕ) (ed : ℕ) (f out : List ℕ) (a b : FlowAnswer) (u v x y : List ℕ) → FlowPromise t ed f out a u x → FlowPromise t ed f out b v y → (a ≡ b) × (u ≡ v) × (x ≡ y)
   -- execution (true) and reversal (false)
   pub notice : (t : List ℕ) (executing : Bool) (code : List ℕ) (k : Key) (line : ℕ) (d : Date) (a b : NoticeAnswer) (u v : List ℕ)
       → NoticePromise t executing code k line d a u → NoticePromise t executing code k line d b v → (a ≡ b) × (u ≡ v)
@@ -46,7 +46,7 @@ pub record NoSecond : Type 0 where
   -- the other exported functions, in document 01's numbers
   pub open-replies : (q t : List ℕ) (m n : ℕ) (u v : List ℕ) → OpenReplies q t m u → OpenReplies q t n v → (m ≡ n) × (u ≡ v)
   pub convert-replies : (o t : List ℕ) (m n : ℕ) (u v : List ℕ) → ConvertReplies o t m u → ConvertReplies o t n v → (m ≡ n) × (u ≡ v)
-  pub flow-replies : (t f out : List ℕ) (m n : FlowReply) (u v x y : List ℕ) → FlowReplies t f out m u x → FlowReplies t f out n v y
+  pub flow-replies : (t : List ℕ) (ed : ℕ) (f out : List ℕ) (m n : FlowReply) (u v x y : List ℕ) → FlowReplies t ed f out m u x → FlowReplies t ed f out n v y
       → (m ≡ n) × (u ≡ v) × (x ≡ y)
   pub notice-replies : (t : List ℕ) (executing : Bool) (code : List ℕ) (k : Key) (line : ℕ) (d : Date) (m n cents dents : ℕ) (u v : List ℕ)
       → NoticeReplies t executing code k line d m cents u → NoticeReplies t executing code k line d n dents v → (m ≡ n) × (cents ≡ dents) × (u ≡ v)

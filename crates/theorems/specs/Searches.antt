@@ -32,6 +32,6 @@ pub record Searches : Type 0 where
   pub absent : OfOrders (λ slots year o rs. LookedFor slots year o rs → findIn rs 0 (keyFor year o) ≡ Nothing → stepsOf year o rs ≡ length rs)
   -- "Orders answered 12 or 13 and refused flows count 0"
   pub unsearched : OfOrders (λ slots year o rs. AnsweredBy 12 slots year o rs ⊎ AnsweredBy 13 slots year o rs → stepsOf year o rs ≡ 0)
-  pub refused-none : (t f out : List ℕ) (a : FlowAnswer) (t′ out′ : List ℕ) → FlowPromise t f out a t′ out′ → (flowCode a ≡ 0 → ⊥) → flowReply a .steps ≡ 0
+  pub refused-none : (t : List ℕ) (ed : ℕ) (f out : List ℕ) (a : FlowAnswer) (t′ out′ : List ℕ) → FlowPromise t ed f out a t′ out′ → (flowCode a ≡ 0 → ⊥) → flowReply a .steps ≡ 0
   -- an order that is not served counts 0 too: no record is looked for
   pub unserved : OfOrders (λ slots year o rs. AnsweredBy 11 slots year o rs → stepsOf year o rs ≡ 0)

@@ -19,6 +19,9 @@ use Rattle.slots.specs.Slots.{recordsAt}
 use Rattle.body.specs.Body.{centsOf}
 use Rattle.entries.specs.Entry.{entrySize, kept, slotsOf, placeOf, codesFrom, findCode}
 use Rattle.table.specs.Table.{table1, headSize, bodies, abiOf, tableOk, bodyOf, entryOf}
+use Rattle.editions.specs.declared.Edition.{Edition}
+use Rattle.editions.specs.declared.Edited.the-variants.{By}
+use Rattle.editions.specs.Editions.{editionOf}
 use Rattle.flow.specs.declared.Verdict.the-variants.{Stands}
 use Rattle.flow.specs.Flow.{verdictOf, headerOf, flowOrders}
 use Rattle.rules.specs.Rules.{judgeNotice}
@@ -78,24 +81,26 @@ oldSlots o b = slotsOf o (oldEntry b)
 abbrev pub oldRecords : List ℕ → ℕ → List Record
 oldRecords o b = T.recordsOf o (oldEntry b)
 
--- a flow f that is taken as the rules say of the table 1 o, on its converted table t₀ with the outcome buffer out′ and the table t′ afterwards: it stands and is for
+-- a flow f of the edition numbered ed that is taken as the rules say of the table 1 o, on its converted table t₀ with the outcome buffer out′ and the table t′ afterwards: it stands and is for
 -- the table 1's bank and the body b of the table 1; its orders' codes and the body's records afterwards are those that the rules give on the old records
-pub record TakenOld (o t₀ f t′ out′ : List ℕ) : Type 0 where
+pub record TakenOld (o t₀ : List ℕ) (ed : ℕ) (f t′ out′ : List ℕ) : Type 0 where
+  pub edition : Edition
+  pub numbered : editionOf ed ≡ By edition
   pub at : ℕ
-  pub stands : verdictOf f ≡ Stands at
-  pub bank : textIs (abiOf o) (headerOf f at .abi) ≡ true
+  pub stands : verdictOf edition f ≡ Stands at
+  pub bank : textIs (abiOf o) (headerOf edition f at .abi) ≡ true
   pub body : ℕ
-  pub named : oldBody o (headerOf f at .ente) ≡ At body
-  pub codes : outcomeCodes (length (flowOrders f at)) out′ ≡ codesInTurn (oldSlots o body) (headerOf f at .esercizio) (flowOrders f at) (oldRecords o body)
+  pub named : oldBody o (headerOf edition f at .ente) ≡ At body
+  pub codes : outcomeCodes (length (flowOrders edition f at)) out′ ≡ codesInTurn (oldSlots o body) (headerOf edition f at .esercizio) (flowOrders edition f at) (oldRecords o body)
   pub records : recordsAt t′ (placeOf t₀ (entryOf body)) (oldSlots o body)
-      ≡ allRecords (oldSlots o body) (headerOf f at .esercizio) (flowOrders f at) (oldRecords o body)
+      ≡ allRecords (oldSlots o body) (headerOf edition f at .esercizio) (flowOrders edition f at) (oldRecords o body)
 
 -- A CONVERTED TABLE t₀ of the table 1 o: "it gives the same totals and answers. Conditions 2 and 3 read with table 2 from here"
 pub record Conversion (E : Engine) (o t₀ : List ℕ) : Type 0 where
   -- a valid table 2 with the table 1's bank, bodies, slots and records (crates/convert/specs/Same)
   pub same : Same o t₀
   -- so the conditions read with it: what a body's calls answer is what the rules say of the table 1's records (condition 2), of a flow that is taken,
-  pub flows : (f out : List ℕ) (a : FlowAnswer) (t′ out′ : List ℕ) → FlowPromise t₀ f out a t′ out′ → flowCode a ≡ 0 → TakenOld o t₀ f t′ out′
+  pub flows : (ed : ℕ) (f out : List ℕ) (a : FlowAnswer) (t′ out′ : List ℕ) → FlowPromise t₀ ed f out a t′ out′ → flowCode a ≡ 0 → TakenOld o t₀ ed f t′ out′
   -- of a notice on a TARGET day,
   pub notices : (code : List ℕ) (b : ℕ) → oldBody o code ≡ At b → (executing : Bool) (k : Key) (line : ℕ) (d : Date) → targetCode d ≡ 0 → (a : NoticeAnswer) (t′ : List ℕ)
       → NoticePromise t₀ executing code k line d a t′ → a ≡ noticed (judgeNotice executing k line (oldRecords o b))

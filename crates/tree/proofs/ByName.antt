@@ -10,7 +10,7 @@ use borrow.Author.Tests.{leb-true, ne-eqb}
 use Rattle.scan.specs.Bytes.{bytes, between, run, textIs}
 use Rattle.scan.proofs.Laws.{both}
 use Rattle.rows.specs.declared.Parent.{Parent}
-use Rattle.rows.specs.declared.Parent.the-variants.{FlussoOrdinativi, Mandato, Reversale, InformazioniBeneficiario, InformazioniVersante, Beneficiario, Versante, MessaggiEsito, TestataMessaggio, EsitoReversali, EsitoMandati, ErroriReversali, ErroriMandati}
+use Rattle.rows.specs.declared.Parent.the-variants.{FlussoOrdinativi, Mandato, Reversale, InformazioniBeneficiario, InformazioniVersante, Beneficiario, Versante, MessaggiEsito, TestataMessaggio, EsitoReversali, EsitoMandati, ErroriReversali, ErroriMandati, FlussoOpi, TestataFlusso}
 use Rattle.rows.specs.declared.Holds.{Holds}
 use Rattle.rows.specs.declared.Holds.the-variants.{Text, Rows}
 use Rattle.rows.specs.declared.Spot.{Spot}
@@ -122,6 +122,8 @@ rank EsitoReversali = 1
 rank EsitoMandati = 1
 rank ErroriReversali = 0
 rank ErroriMandati = 0
+rank FlussoOpi = 3
+rank TestataFlusso = 0
 
 abbrev below : ℕ → Said → Bool
 below n (named (Text f)) = true
@@ -163,6 +165,8 @@ ranked EsitoReversali = refl
 ranked EsitoMandati = refl
 ranked ErroriReversali = refl
 ranked ErroriMandati = refl
+ranked FlussoOpi = refl
+ranked TestataFlusso = refl
 
 -- no parent is deeper than the levels that are looked at
 pub rank-levels : (p : Parent) → rank p < levels
@@ -179,6 +183,8 @@ rank-levels EsitoReversali = omega arith
 rank-levels EsitoMandati = omega arith
 rank-levels ErroriReversali = omega arith
 rank-levels ErroriMandati = omega arith
+rank-levels FlussoOpi = omega arith
+rank-levels TestataFlusso = omega arith
 
 rank-said : (p q : Parent) (x : List ℕ) → said (table p) x ≡ named (Rows q) → rank q < rank p
 rank-said p q x e = let b = below-rows (rank p) x (table p) (ranked p) in leb-true (suc (rank q)) (rank p) (rw e at b)

@@ -25,7 +25,7 @@ use Rattle.fields.specs.Fields.{judged, fieldStands}
 use Rattle.rows.specs.declared.Parent.{Parent}
 use Rattle.rows.specs.declared.Holds.the-variants as holds
 use Rattle.standing.specs.Readings.{Field}
-use Rattle.tree.specs.Tree.{Tree, Held, Trees, Reads}
+use Rattle.tree.specs.Tree.{Tree, Held, Trees, ReadsAs}
 use Rattle.tree.specs.Structure.{Said, named, passed}
 use Rattle.tree.specs.Fields.{treeFields, heldFields, allFields}
 use Rattle.tree.specs.Flow.{fieldsOf}
@@ -102,5 +102,5 @@ tree-counted (suc d) t g q = level-counted d (tree-counted d) t g q
 root-counted : (d : ℕ) (t : Tree) → Good (suc d) t → (q : Parent) → AllCounted (fieldsOf q t)
 root-counted d t (good {h = h} na g) q = held-counted d (tree-counted d) h g _ _
 
-pub flow-counted : (s : List ℕ) (t : Tree) → Reads s t → (q : Parent) → AllCounted (fieldsOf q t)
+pub flow-counted : {ids : Bool} (s : List ℕ) (t : Tree) → ReadsAs ids s t → (q : Parent) → AllCounted (fieldsOf q t)
 flow-counted s t r q = root-counted 11 t (rw (r .1) at (flow-good (r .0))) q

@@ -1,5 +1,5 @@
 -- A tree says one header and one list of orders.
-use mathlib.Core.Path.{_≡_, refl}
+use mathlib.Core.Path.{_≡_, refl, sym, subst, _∙_}
 use mathlib.Core.Logic.{inl, inr}
 use mathlib.Core.List.{List}
 use Prim.Native.Nat.{ℕ}
@@ -7,9 +7,11 @@ use Prim.Native.String.{String}
 use native.Mathlib.Omega.{arith}
 use Rattle.digits.specs.declared.Number.the-variants.{Value}
 use Rattle.order.specs.declared.Line.{Line}
-use Rattle.orders.specs.Orders.{Header}
+use Rattle.editions.specs.declared.Edition.{Edition}
+use Rattle.editions.specs.declared.Edition.the-variants.{Oil, Opi}
+use Rattle.header.specs.Header.{Header}
 use Rattle.tree.specs.Tree.{Tree, Trees}
-use Rattle.tree.specs.Orders.{OneText, OneValue, Each, each-none, each-next, HeaderIn, Words, mandatoWords, reversaleWords, joined, LineIn, OrderIn, AnOrder, OrdersIn}
+use Rattle.tree.specs.Orders.{OneText, OneValue, Each, each-none, each-next, TestataIn, HeaderIn, Words, mandatoWords, reversaleWords, joined, LineIn, OrderIn, AnOrder, OrdersIn}
 use Rattle.order.specs.Ordinativo.{Ordinativo}
 
 text-one : {x : String} {ts : Trees} {t u : List ℕ} → OneText x ts t → OneText x ts u → t ≡ u
@@ -21,8 +23,16 @@ value-one a b = let y = a .is in let z = b .is in let e = text-one (a .one) (b .
 number-one : {x : String} {form : List ℕ → _} {ts : Trees} {v w : ℕ} → OneValue x form ts (Value v) → OneValue x form ts (Value w) → v ≡ w
 number-one a b = let e = value-one a b in cc
 
-pub header-one : (ts : Trees) (h g : Header) → HeaderIn ts h → HeaderIn ts g → h ≡ g
-header-one ts h g a b = λ i. record { abi = text-one (a .abi) (b .abi) i; ente = text-one (a .ente) (b .ente) i; esercizio = number-one (a .esercizio) (b .esercizio) i }
+testata-one : (e : Edition) (ts us vs : Trees) → TestataIn e ts us → TestataIn e ts vs → us ≡ vs
+testata-one Oil ts us vs a b = a ∙ sym b
+testata-one Opi ts us vs a b = let y = a .alone in let z = b .alone in cc
+
+pub header-one : (e : Edition) (ts : Trees) (h g : Header) → HeaderIn e ts h → HeaderIn e ts g → h ≡ g
+header-one e ts h g a b =
+    let z = testata-one e ts (b .testata) (a .testata) (b .there) (a .there) in
+    let x = text-one (a .abi) (subst (λ (us : Trees). OneText "codice_ABI_BT" us (g .abi)) z (b .abi)) in
+    let y = text-one (a .ente) (subst (λ (us : Trees). OneText "codice_ente_BT" us (g .ente)) z (b .ente)) in
+    λ i. record { abi = x i; ente = y i; esercizio = number-one (a .esercizio) (b .esercizio) i }
 
 each-one : {A : Type 0} {Is : Tree → A → Type 0} → ((t : Tree) (a b : A) → Is t a → Is t b → a ≡ b) → {ts : List Tree} {vs ws : List A} → Each Is ts vs → Each Is ts ws → vs ≡ ws
 each-one u each-none each-none = refl

@@ -28,19 +28,23 @@ use Rattle.fields.specs.declared.Judged.the-variants.{Stands}
 use Rattle.fields.specs.Fields.{isNumber, isDay, isOperation, fieldStands}
 use Rattle.order.specs.declared.Line.{Line}
 use Rattle.rows.specs.declared.Parent.{Parent}
-use Rattle.rows.specs.declared.Parent.the-variants.{FlussoOrdinativi, Mandato, Reversale, InformazioniBeneficiario, InformazioniVersante}
+use Rattle.rows.specs.declared.Parent.the-variants.{FlussoOrdinativi, Mandato, Reversale, InformazioniBeneficiario, InformazioniVersante, FlussoOpi, TestataFlusso}
 use Rattle.rows.specs.declared.Holds.{Holds}
 use Rattle.rows.specs.declared.Holds.the-variants.{Text, Rows}
 use Rattle.rows.specs.declared.Spot.the-variants.{At, Passed}
 use Rattle.rows.specs.Table.{_is_, Row, once, many, table}
 use Rattle.structure.specs.Structure.{Range, ranges, takes, isRow, inOrder}
 use Rattle.orders.specs.Orders.{valueOf, dateOf, operationOf, noLine, eight}
+use Rattle.editions.specs.declared.Edition.{Edition}
+use Rattle.editions.specs.declared.Edition.the-variants.{Oil, Opi}
+use Rattle.header.specs.Header.{rootOf}
+use Rattle.flow.proofs.Values.{ordersRow}
 use Rattle.tree.specs.Tree.{Tree, tree, says, holds, Trees, none, more, nameOf, heldOf, kidsIn}
-use Rattle.tree.specs.Orders.{childrenNamed, firstText, textNamed, OneText, OneValue, Each, each-none, each-next, HeaderIn, Words, mandatoWords, reversaleWords, joined, LineIn, OrderIn, AnOrder, OrdersIn}
+use Rattle.tree.specs.Orders.{childrenNamed, firstText, textNamed, OneText, OneHolds, OneValue, Each, each-none, each-next, HeaderIn, Words, mandatoWords, reversaleWords, joined, LineIn, OrderIn, AnOrder, OrdersIn}
 use Rattle.order.specs.Ordinativo.{Ordinativo, ordinativo}
-use Rattle.tree.proofs.Levels.{KeptTree, keepTree, keptTrees, rowsOfTrees, allTrees, keptFits, fitsTree, fieldsHeld, fieldsOfTrees, fieldsTree, headerTree, lineTree, linesTree, orderTree, ordersTree, inPlaces, allInPlaces}
+use Rattle.tree.proofs.Levels.{KeptTree, keepTree, keptTrees, rowsOfTrees, allTrees, keptFits, fitsTree, fieldsHeld, fieldsOfTrees, fieldsTree, firstKids, headerTree, lineTree, linesTree, orderTree, ordersTree, inPlaces, allInPlaces}
 use Rattle.tree.proofs.Names.{text-same, HasRow, has-names, inRowTrees, pick, asKept, row-picked}
-use Rattle.tree.proofs.Orders.{one-name, all-row, Spelled, spelled-mandato, spelled-reversale, orderNames}
+use Rattle.tree.proofs.Orders.{one-name, all-row, Spelled, spelled-mandato, spelled-reversale, orderNames, order-names}
 use Rattle.tree.proofs.Stand.{stand, allStand, Right, stand-both, stand-is}
 
 -- HOW MANY A ROW HAS
@@ -219,13 +223,51 @@ module _ (x : String) (ts : Trees) where
   unfolding fieldStands
   operazione-of t = value-of TipoOperazione tipoOperazione _ t (operation-there (tipoOperazione (textNamed x ts)))
 
+-- ONE CHILD, with its elements, where a parent must have some
+record KidsOf (d : ℕ) (x : String) (q : Parent) (ts : Trees) : Type 0 where
+  one : OneHolds x ts (firstKids (childrenNamed (x ∷ []) ts))
+  right : Right d q (firstKids (childrenNamed (x ∷ []) ts))
+
+kids-one : (x : String) (q : Parent) (n d : ℕ) (ts : Trees) (l : List Tree) → (fitsTree d q none ≡ true → ⊥) → childrenNamed (x ∷ []) ts ≡ l
+    → between 1 1 (length l) ≡ true → allTrees (right d) (asKept n (Rows q) l) ≡ true → KidsOf d x q ts
+unfolding allTrees
+kids-one x q n d ts [] o e c a = let y : _≡_ {A = ℕ} 0 1 = cc in absurd (omega arith)
+kids-one x q n d ts (t ∷ u ∷ l) o e c a = let b = both (leb 1 (suc (suc (length l)))) (leb (suc (suc (length l))) 1) c in absurd (omega (arith, leb-true (suc (suc (length l))) 1 (b .1)))
+kids-one x q n d ts (tree p m (says t) ∷ []) o e c a =
+    let b = both (right d (record { tree = tree p m (says t); row = n; holds = Rows q })) true a in
+    absurd (o (both (fitsTree d q none) (allStand (fieldsTree d q none)) (b .0) .0))
+kids-one x q n d ts (tree p m (holds ks) ∷ []) o e c a =
+    let z = named-first x ts (tree p m (holds ks)) [] e in
+    let w : firstKids (childrenNamed (x ∷ []) ts) ≡ ks = ap firstKids e in
+    let b = both (right d (record { tree = tree p m (holds ks); row = n; holds = Rows q })) true a in
+    let f = both (fitsTree d q ks) (allStand (fieldsTree d q ks)) (b .0) in
+    record { one = rw w (record { place = p; alone = e ∙ rw z }); right = rw w (record { fits = f .0; stands = f .1 }) }
+
+testata-some : (d : ℕ) → fitsTree d TestataFlusso none ≡ true → ⊥
+unfolding fitsTree keptTrees rowsOfTrees inOrder run
+testata-some zero e = let y : _≡_ {A = ℕ} 0 1 = cc in omega arith
+testata-some (suc d) e = let y : _≡_ {A = ℕ} 0 1 = cc in omega arith
+
 -- THE HEADER
-pub header-in : (d : ℕ) (ts : Trees) → Right (suc d) FlussoOrdinativi ts → HeaderIn ts (headerTree ts)
-header-in d ts r = record {
-  abi = text-of d FlussoOrdinativi ts r 0 "codice_ABI_BT" _ (_, refl) .one;
-  ente = text-of d FlussoOrdinativi ts r 3 "codice_ente_BT" _ (_, refl) .one;
-  esercizio = esercizio-of "esercizio" ts (text-of d FlussoOrdinativi ts r 4 "esercizio" _ (_, refl));
+pub header-in : (e : Edition) (d : ℕ) (ts : Trees) → Right (suc (suc d)) (rootOf e) ts → HeaderIn e ts (headerTree e ts)
+header-in Oil d ts r = record {
+  testata = ts;
+  there = refl;
+  abi = text-of (suc d) FlussoOrdinativi ts r 0 "codice_ABI_BT" _ (_, refl) .one;
+  ente = text-of (suc d) FlussoOrdinativi ts r 3 "codice_ente_BT" _ (_, refl) .one;
+  esercizio = esercizio-of "esercizio" ts (text-of (suc d) FlussoOrdinativi ts r 4 "esercizio" _ (_, refl));
 }
+header-in Opi d ts r =
+    let x : String = "testata_flusso" in
+    let k = kids-one x TestataFlusso 0 (suc d) ts (childrenNamed (x ∷ []) ts) (testata-some (suc d)) refl (row-length (suc d) FlussoOpi ts r 0 x (Rows TestataFlusso) 1 1 (_, refl)) (row-right (suc d) FlussoOpi ts r 0 x (Rows TestataFlusso) 1 1 (_, refl)) in
+    let us = firstKids (childrenNamed (x ∷ []) ts) in
+    record {
+      testata = us;
+      there = k .one;
+      abi = text-of d TestataFlusso us (k .right) 0 "codice_ABI_BT" _ (_, refl) .one;
+      ente = text-of d TestataFlusso us (k .right) 3 "codice_ente_BT" _ (_, refl) .one;
+      esercizio = esercizio-of "esercizio" ts (text-of (suc d) FlussoOpi ts r 1 "esercizio" _ (_, refl));
+    }
 
 -- LINES AND ORDERS
 module _ (p q : Parent) (w : Words) (sp : Spelled p q w) where
@@ -293,27 +335,29 @@ all-whole each-none = refl
 all-whole (each-next x xs) = rw (x .1, all-whole xs)
 
 -- the root's children in the row of orders
-orders-each : (d : ℕ) (ts : Trees) → allTrees (right (suc (suc d))) (pick orderNames 5 ts) ≡ true → Each Whole (childrenNamed ("mandato" ∷ "reversale" ∷ []) ts) (ordersTree ts)
+orders-each : (n d : ℕ) (ts : Trees) → allTrees (right (suc (suc d))) (pick orderNames n ts) ≡ true → Each Whole (childrenNamed ("mandato" ∷ "reversale" ∷ []) ts) (ordersTree ts)
 unfolding childrenNamed ordersTree pick allTrees
-orders-each d none a = each-none
-orders-each d (more t ts) a = go (textIs (bytes "mandato") (nameOf t)) refl (textIs (bytes "reversale") (nameOf t)) refl a (orders-each d ts)
+orders-each n d none a = each-none
+orders-each n d (more t ts) a = go (textIs (bytes "mandato") (nameOf t)) refl (textIs (bytes "reversale") (nameOf t)) refl a (orders-each n d ts)
   where
-    one : (p : Parent) → allTrees (right (suc (suc d))) (record { tree = t; row = 5; holds = Rows p } ∷ pick orderNames 5 ts) ≡ true → Right (suc (suc d)) p (kidsIn (heldOf t)) × (allTrees (right (suc (suc d))) (pick orderNames 5 ts) ≡ true)
+    one : (p : Parent) → allTrees (right (suc (suc d))) (record { tree = t; row = n; holds = Rows p } ∷ pick orderNames n ts) ≡ true → Right (suc (suc d)) p (kidsIn (heldOf t)) × (allTrees (right (suc (suc d))) (pick orderNames n ts) ≡ true)
     one p e =
-        let b = both (right (suc (suc d)) (record { tree = t; row = 5; holds = Rows p })) (allTrees (right (suc (suc d))) (pick orderNames 5 ts)) e in
+        let b = both (right (suc (suc d)) (record { tree = t; row = n; holds = Rows p })) (allTrees (right (suc (suc d))) (pick orderNames n ts)) e in
         let c = both (fitsTree (suc (suc d)) p (kidsIn (heldOf t))) (allStand (fieldsTree (suc (suc d)) p (kidsIn (heldOf t)))) (b .0) in
         (record { fits = c .0; stands = c .1 }, b .1)
 
     go : (b : Bool) → textIs (bytes "mandato") (nameOf t) ≡ b → (c : Bool) → textIs (bytes "reversale") (nameOf t) ≡ c
-        → allTrees (right (suc (suc d))) (keepTree (cond b (At 5 (Rows Mandato)) (cond c (At 5 (Rows Reversale)) Passed)) t (pick orderNames 5 ts)) ≡ true
-        → (allTrees (right (suc (suc d))) (pick orderNames 5 ts) ≡ true → Each Whole (childrenNamed ("mandato" ∷ "reversale" ∷ []) ts) (ordersTree ts))
+        → allTrees (right (suc (suc d))) (keepTree (cond b (At n (Rows Mandato)) (cond c (At n (Rows Reversale)) Passed)) t (pick orderNames n ts)) ≡ true
+        → (allTrees (right (suc (suc d))) (pick orderNames n ts) ≡ true → Each Whole (childrenNamed ("mandato" ∷ "reversale" ∷ []) ts) (ordersTree ts))
         → Each Whole (cond (b || (c || false)) (t ∷ childrenNamed ("mandato" ∷ "reversale" ∷ []) ts) (childrenNamed ("mandato" ∷ "reversale" ∷ []) ts))
         (cond b (orderTree mandatoWords (kidsIn (heldOf t)) ∷ ordersTree ts) (cond c (orderTree reversaleWords (kidsIn (heldOf t)) ∷ ordersTree ts) (ordersTree ts)))
     go true y c z e i = let k = one Mandato e in each-next (inl (order-in Mandato InformazioniBeneficiario mandatoWords spelled-mandato d t (text-same (bytes "mandato") (nameOf t) y) (k .0)), order-whole Mandato InformazioniBeneficiario mandatoWords spelled-mandato d t (k .0)) (i (k .1))
     go false y true z e i = let k = one Reversale e in each-next (inr (order-in Reversale InformazioniVersante reversaleWords spelled-reversale d t (text-same (bytes "reversale") (nameOf t) z) (k .0)), order-whole Reversale InformazioniVersante reversaleWords spelled-reversale d t (k .0)) (i (k .1))
     go false y false z e i = i e
 
-pub orders-in : (d : ℕ) (ts : Trees) → Right (suc (suc (suc d))) FlussoOrdinativi ts → OrdersIn ts (map ordinativo (allInPlaces (ordersTree ts)))
-orders-in d ts r =
-    let a = orders-each d ts (rw (← row-picked FlussoOrdinativi 5 ts) (all-row (right (suc (suc d))) 5 (keptTrees FlussoOrdinativi ts) (right-parts (suc (suc d)) FlussoOrdinativi ts r .each))) in
+pub orders-in : (e : Edition) (d : ℕ) (ts : Trees) → Right (suc (suc (suc d))) (rootOf e) ts → OrdersIn ts (map ordinativo (allInPlaces (ordersTree ts)))
+orders-in e d ts r =
+    let n = ordersRow e in
+    let z : pick orderNames n ts ≡ inRowTrees n (keptTrees (rootOf e) ts) = sym (row-picked (rootOf e) n ts ∙ ap (λ ns. pick ns n ts) (order-names e)) in
+    let a = orders-each n d ts (rw z (all-row (right (suc (suc d))) n (keptTrees (rootOf e) ts) (right-parts (suc (suc d)) (rootOf e) ts r .each))) in
     rw (all-whole a) (each-map (λ t o x. x .0) a)

@@ -12,11 +12,12 @@ use Rattle.rows.specs.declared.Parent.{Parent}
 use Rattle.rows.specs.declared.Holds.the-variants.{Rows}
 use Rattle.standing.specs.Readings.{Field}
 use Rattle.order.specs.Ordinativo.{Ordinativo}
-use Rattle.orders.specs.Orders.{Header}
+use Rattle.editions.specs.declared.Edition.{Edition}
+use Rattle.header.specs.Header.{Header}
 use Rattle.flow.specs.declared.Verdict.{Verdict}
 use Rattle.flow.specs.declared.Verdict.the-variants.{MarkupBreaks, StructureBreaks, FieldBreaks, Stands}
-use Rattle.flow.specs.Flow.{Kind, documentVerdict, flusso, verdictOf, headerOf, flowOrders}
-use Rattle.tree.specs.Tree.{Tree, ltOf, nameOf, heldOf, kidsIn, ReadsAs, Reads}
+use Rattle.flow.specs.Flow.{Kind, documentVerdict, flowKind, verdictOf, headerOf, flowOrders}
+use Rattle.tree.specs.Tree.{Tree, ltOf, nameOf, heldOf, kidsIn, ReadsAs}
 use Rattle.tree.specs.Structure.{named, heldFits}
 use Rattle.tree.specs.Fields.{heldFields, AllStand, FirstBreaks}
 use Rattle.tree.specs.Orders.{HeaderIn, OrdersIn}
@@ -51,8 +52,9 @@ pub data DocumentAnswered (k : Kind) (s : List ℕ) : Type 0 where
   no-tree : NoTree k s → DocumentAnswered k s
   one-tree : {t : Tree} → OneTree k s t → DocumentAnswered k s
 
--- THE CLOSING STATEMENT for a flow: and of one that stands, exactly one header and one list of orders are its tree's, those that the rules speak of
-pub record Answered (s : List ℕ) : Type 0 where
-  pub document : DocumentAnswered flusso s
-  pub header : (t : Tree) (at : ℕ) → Reads s t → verdictOf s ≡ Stands at → (h : Header) → (headerOf s at ≡ h) ↔ HeaderIn (kidsIn (heldOf t)) h
-  pub orders : (t : Tree) (at : ℕ) → Reads s t → verdictOf s ≡ Stands at → (os : List Ordinativo) → (flowOrders s at ≡ os) ↔ OrdersIn (kidsIn (heldOf t)) os
+-- THE CLOSING STATEMENT for a flow of an edition: and of one that stands, exactly one header and one list of orders are its tree's, those that the rules
+-- speak of
+pub record Answered (e : Edition) (s : List ℕ) : Type 0 where
+  pub document : DocumentAnswered (flowKind e) s
+  pub header : (t : Tree) (at : ℕ) → ReadsAs (flowKind e .ids) s t → verdictOf e s ≡ Stands at → (h : Header) → (headerOf e s at ≡ h) ↔ HeaderIn e (kidsIn (heldOf t)) h
+  pub orders : (t : Tree) (at : ℕ) → ReadsAs (flowKind e .ids) s t → verdictOf e s ≡ Stands at → (os : List Ordinativo) → (flowOrders e s at ≡ os) ↔ OrdersIn (kidsIn (heldOf t)) os

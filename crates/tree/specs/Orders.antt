@@ -17,7 +17,9 @@ use Rattle.dates.specs.Dates.{dataOf}
 use Rattle.record.specs.Slot.{mandatoKind, reversaleKind}
 use Rattle.order.specs.declared.Line.{Line}
 use Rattle.order.specs.Ordinativo.{Ordinativo}
-use Rattle.orders.specs.Orders.{Header}
+use Rattle.editions.specs.declared.Edition.{Edition}
+use Rattle.editions.specs.declared.Edition.the-variants.{Oil, Opi}
+use Rattle.header.specs.Header.{Header}
 use Rattle.tree.specs.Tree.{Tree, tree, Held, says, holds, Trees, none, more, nameOf, heldOf, kidsIn}
 
 -- CHILDREN BY NAME
@@ -47,6 +49,11 @@ pub record OneText (x : String) (kids : Trees) (text : List ℕ) : Type 0 where
   pub place : ℕ
   pub alone : childrenNamed (x ∷ []) kids ≡ tree place (bytes x) (says text) ∷ []
 
+-- one child has the name x, and holds the elements
+pub record OneHolds (x : String) (kids ts : Trees) : Type 0 where
+  pub place : ℕ
+  pub alone : childrenNamed (x ∷ []) kids ≡ tree place (bytes x) (holds ts) ∷ []
+
 -- one child has the name x, and its text says v in this form
 pub record OneValue {A : Type 0} (x : String) (form : List ℕ → A) (kids : Trees) (v : A) : Type 0 where
   pub text : List ℕ
@@ -58,10 +65,17 @@ pub data Each {A : Type 0} (Is : Tree → A → Type 0) : List Tree → List A �
   each-none : Each Is [] []
   each-next : {t : Tree} {a : A} {ts : List Tree} {vs : List A} → Is t a → Each Is ts vs → Each Is (t ∷ ts) (a ∷ vs)
 
--- THE HEADER among the root's children
-pub record HeaderIn (kids : Trees) (h : Header) : Type 0 where
-  pub abi : OneText "codice_ABI_BT" kids (h .abi)
-  pub ente : OneText "codice_ente_BT" kids (h .ente)
+-- THE HEADER among the root's children. Where codice_ABI_BT and codice_ente_BT stand: in edition 1 among them, in edition 2 in testata_flusso
+-- (document 02, Req 05: "the header of document 000, 9.2.1, with its own nesting")
+abbrev pub TestataIn : Edition → Trees → Trees → Type 0
+TestataIn Oil kids ts = ts ≡ kids
+TestataIn Opi kids ts = OneHolds "testata_flusso" kids ts
+
+pub record HeaderIn (e : Edition) (kids : Trees) (h : Header) : Type 0 where
+  pub testata : Trees
+  pub there : TestataIn e kids testata
+  pub abi : OneText "codice_ABI_BT" testata (h .abi)
+  pub ente : OneText "codice_ente_BT" testata (h .ente)
   pub esercizio : OneValue "esercizio" esercizio kids (Value (h .esercizio))
 
 -- AN ORDER'S WORDS: its kind, its element's name, and who its lines are for. "Reversale is the same with reversale, informazioni_versante, versante in

@@ -6,10 +6,10 @@ use mathlib.Core.List.{List, [], _++_}
 use lib.ListN.{length}
 use Rattle.scan.specs.Bytes.{bytes}
 use Rattle.grammar.specs.Grammar.{Name, Text, startTag, endTag}
-use Rattle.rows.specs.declared.Parent.the-variants.{FlussoOrdinativi}
+use Rattle.editions.specs.declared.Edition.{Edition}
 use Rattle.flow.specs.declared.Verdict.the-variants.{Stands}
-use Rattle.flow.specs.Flow.{verdictOf, headerOf, flowOrders}
-use Rattle.tree.specs.Tree.{Tree, tree, Held, says, holds, Trees, none, more, heldOf, kidsIn, Reads}
+use Rattle.flow.specs.Flow.{flowKind, verdictOf, headerOf, flowOrders}
+use Rattle.tree.specs.Tree.{Tree, tree, Held, says, holds, Trees, none, more, heldOf, kidsIn, ReadsAs}
 use Rattle.tree.specs.Fields.{AllStand}
 use Rattle.tree.specs.Orders.{HeaderIn, OrdersIn}
 use Rattle.order.specs.Ordinativo.{ordinativo}
@@ -60,23 +60,23 @@ mutual
     good-last : {d : ℕ} {t : Tree} → Good d t → GoodTrees d (more t none)
     good-next : {d : ℕ} {t : Tree} {ts : Trees} → Good d t → GoodTrees d ts → GoodTrees d (more t ts)
 
--- A TREE THAT IS A FLOW, but for its length: it can be written, has the structure, and its fields stand. (None of these sees its places)
-pub record FlowTree (t : Tree) : Type 0 where
+-- A TREE THAT IS A FLOW of an edition, but for its length: it can be written, has the structure, and its fields stand. (None of these sees its places)
+pub record FlowTree (e : Edition) (t : Tree) : Type 0 where
   pub good : Good 12 t
-  pub structured : Structured "flusso_ordinativi" FlussoOrdinativi t
-  pub fields : AllStand (fieldsOf FlussoOrdinativi t)
+  pub structured : Structured (flowKind e .name) (flowKind e .parent) t
+  pub fields : AllStand (fieldsOf (flowKind e .parent) t)
 
 -- WRITTEN AND READ BACK: it is read as that tree, its elements at the places that they then have; it stands, and its header and orders are the tree's.
 -- Proved: `flow-read-back` (proofs/Places.antt)
-pub record ReadBack (t : Tree) (at : ℕ) : Type 0 where
-  pub tree-again : Reads (bytesOf t) (placed 0 t)
-  pub stands : verdictOf (bytesOf t) ≡ Stands at
-  pub header : HeaderIn (kidsIn (heldOf t)) (headerOf (bytesOf t) at)
-  pub orders : OrdersIn (kidsIn (heldOf t)) (flowOrders (bytesOf t) at)
+pub record ReadBack (e : Edition) (t : Tree) (at : ℕ) : Type 0 where
+  pub tree-again : ReadsAs (flowKind e .ids) (bytesOf t) (placed 0 t)
+  pub stands : verdictOf e (bytesOf t) ≡ Stands at
+  pub header : HeaderIn e (kidsIn (heldOf t)) (headerOf e (bytesOf t) at)
+  pub orders : OrdersIn (kidsIn (heldOf t)) (flowOrders e (bytesOf t) at)
 
--- READ AND WRITTEN AGAIN: of a flow that stands, white space and all, the tree's bytes stand too, with the same header and orders
-pub record Again (s : List ℕ) (at : ℕ) (t : Tree) : Type 0 where
+-- READ AND WRITTEN AGAIN: of a flow that stands, white space, Id and all, the tree's bytes stand too, with the same header and orders
+pub record Again (e : Edition) (s : List ℕ) (at : ℕ) (t : Tree) : Type 0 where
   pub begins : ℕ
-  pub stands : verdictOf (bytesOf t) ≡ Stands begins
-  pub header : headerOf (bytesOf t) begins ≡ headerOf s at
-  pub orders : flowOrders (bytesOf t) begins ≡ flowOrders s at
+  pub stands : verdictOf e (bytesOf t) ≡ Stands begins
+  pub header : headerOf e (bytesOf t) begins ≡ headerOf e s at
+  pub orders : flowOrders e (bytesOf t) begins ≡ flowOrders e s at

@@ -6,7 +6,9 @@ use mathlib.Core.List.{List, [], _∷_, _++_}
 use lib.ListN.{length, take}
 use lib.Dec.{leb}
 use Rattle.order.specs.Ordinativo.{Ordinativo}
-use Rattle.orders.specs.Orders.{Header, those, textIn as ordersTextIn, inside, lineOf, linesOf, eight, linesIn, orderOf, ordersOf}
+use Rattle.orders.specs.Orders.{those, textIn as ordersTextIn, inside, lineOf, linesOf, eight, linesIn, orderOf, ordersOf}
+use Rattle.editions.specs.declared.Edition.the-variants.{Oil}
+use Rattle.header.specs.Header.{Header}
 use Rattle.flow.specs.declared.Verdict.the-variants.{Stands}
 use Rattle.flow.specs.Flow.{headerOf, flowOrders, verdictBy, verdictOf}
 use Rattle.table.specs.Table.{tableOk}
@@ -32,13 +34,13 @@ use Rattle.rows.specs.Table.{nameIs}
 use Rattle.structure.specs.Structure.{allKept, rowsOf, inOrder, textOnly, fitBy, fitsAt}
 use Rattle.standing.specs.Readings.{fieldsBy, fieldsAt, firstBad}
 
--- a flow that stands, with its header and its orders
+-- a flow of edition 1 that stands, with its header and its orders
 pub record ReadAs (f : List ℕ) (h : Header) (os : List Ordinativo) : Type 0 where
   pub at : ℕ
   pub short : leb (length f) maxFlow ≡ true
-  pub stands : verdictOf f ≡ Stands at
-  pub header : headerOf f at ≡ h
-  pub orders : flowOrders f at ≡ os
+  pub stands : verdictOf Oil f ≡ Stands at
+  pub header : headerOf Oil f at ≡ h
+  pub orders : flowOrders Oil f at ≡ os
 
 pub record Flows : Type 0 where
   pub own : ReadAs (single "471") (headerFor "471") (order 1 ∷ [])
@@ -54,6 +56,6 @@ flows = record {
 }
 
 -- what such a flow comes to on a valid table
-pub reads : {f : List ℕ} {h : Header} {os : List Ordinativo} (t : List ℕ) (room : ℕ) → ReadAs f h os → tableOk t ≡ true → flowReads t f room ≡ forBank t room h os
+pub reads : {f : List ℕ} {h : Header} {os : List Ordinativo} (t : List ℕ) (room : ℕ) → ReadAs f h os → tableOk t ≡ true → flowReads t 1 f room ≡ forBank t room h os
 unfolding flowReads
 reads t room r e = rw (e, r .short, r .stands) (λ i. forBank t room (r .header i) (r .orders i))

@@ -124,17 +124,17 @@ facts = record {
 }
 
 -- THE READINGS
-pub own-reads : flowReads sampleTable (single "471") 16 ≡ served 496 4 2021 one
+pub own-reads : flowReads sampleTable 1 (single "471") 16 ≡ served 496 4 2021 one
 own-reads = reads sampleTable 16 (flows .own) (facts .valid) ∙ facts .own
 
-pub again-reads : flowReads second (single "471") 16 ≡ served 496 4 2021 one
+pub again-reads : flowReads second 1 (single "471") 16 ≡ served 496 4 2021 one
 again-reads = reads second 16 (flows .own) (facts .valid-second) ∙ facts .again
 
-pub more-reads : flowReads second two 32 ≡ served 496 4 2021 both
+pub more-reads : flowReads second 1 two 32 ≡ served 496 4 2021 both
 more-reads = reads second 32 (flows .more) (facts .valid-second) ∙ facts .more
 
-pub other-first-reads : flowReads first (single "000471") 16 ≡ served 112 4 2021 one
+pub other-first-reads : flowReads first 1 (single "000471") 16 ≡ served 112 4 2021 one
 other-first-reads = reads first 16 (flows .other) (facts .valid-first) ∙ facts .other-first
 
-pub own-first-reads : flowReads first (single "471") 16 ≡ served 496 4 2021 one
+pub own-first-reads : flowReads first 1 (single "471") 16 ≡ served 496 4 2021 one
 own-first-reads = reads first 16 (flows .own) (facts .valid-first) ∙ facts .own-first

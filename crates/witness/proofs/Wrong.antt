@@ -16,7 +16,12 @@ use Rattle.slots.specs.Slots.{recordsAt}
 use Rattle.body.proofs.Slots.{valid-at}
 use Rattle.entries.specs.Entry.{slotsOf, placeOf}
 use Rattle.table.specs.Table.{tableOk, entryOf}
-use Rattle.orders.specs.Orders.{Header}
+use Rattle.editions.specs.declared.Edition.{Edition}
+use Rattle.editions.specs.declared.Edition.the-variants.{Oil}
+use Rattle.editions.specs.declared.Edited.{Edited}
+use Rattle.editions.specs.declared.Edited.the-variants.{By}
+use Rattle.editions.specs.Editions.{editionOf}
+use Rattle.header.specs.Header.{Header}
 use Rattle.opening.specs.Opening.{openCode}
 use Rattle.notices.specs.declared.TotalsAnswer.{TotalsAnswer}
 use Rattle.notices.specs.Notices.{noticeCodeOf}
@@ -53,12 +58,15 @@ use Rattle.witness.proofs.Computed.{flows}
 use Rattle.witness.proofs.Facts.{key, facts, own-reads, again-reads, more-reads, other-first-reads, own-first-reads, wednesday}
 
 -- a result that keeps the promise is that of the reading
-by-reading : (t f out : List ℕ) {t′ out′ : List ℕ} {a : FlowAnswer} {g : Reading} → flowReads t f (length out) ≡ g → FlowPromise t f out a t′ out′ → Gives t out g a t′ out′
-by-reading t f out e p = rw e at p
+by-reading : (t : List ℕ) (ed : ℕ) (f out : List ℕ) {t′ out′ : List ℕ} {a : FlowAnswer} {g : Reading} → flowReads t ed f (length out) ≡ g → FlowPromise t ed f out a t′ out′ → Gives t out g a t′ out′
+by-reading t ed f out e p = rw e at p
 
 -- a verdict has one place, a search one answer
 one-place : {v : Verdict} {i j : ℕ} → v ≡ Stands i → v ≡ Stands j → i ≡ j
 one-place e d = cc
+
+one-edition : {x : Edited} {d e : Edition} → x ≡ By d → x ≡ By e → d ≡ e
+one-edition e d = cc
 
 one-body : {v : Found} {i j : ℕ} → v ≡ At i → v ≡ At j → i ≡ j
 one-body e d = cc
@@ -104,25 +112,25 @@ past-lines r v k h = go (ltb k 8) refl
         eqb-true _ _ (both (eqb (getD (r .states) k 0) 0) (eqb (getD (r .amounts) k 0) 0) a .1)
 
 -- an order's record, said of the same body and place
-has-there : (t f : List ℕ) (before : List Ordinativo) (o : Ordinativo) (r : Record) {a b i j : ℕ} → a ≡ b → i ≡ j
-    → Has (allRecords (slotsOf t (entryOf a)) (headerOf f i .esercizio) before (bodyRecords a t)) (keyFor (headerOf f i .esercizio) o) r
-    → Has (allRecords (slotsOf t (entryOf b)) (headerOf f j .esercizio) before (bodyRecords b t)) (keyFor (headerOf f j .esercizio) o) r
-has-there t f before o r p q h = rw (← p, ← q) h
+has-there : (t f : List ℕ) (before : List Ordinativo) (o : Ordinativo) (r : Record) {a b i j : ℕ} {d e : Edition} → a ≡ b → i ≡ j → d ≡ e
+    → Has (allRecords (slotsOf t (entryOf a)) (headerOf d f i .esercizio) before (bodyRecords a t)) (keyFor (headerOf d f i .esercizio) o) r
+    → Has (allRecords (slotsOf t (entryOf b)) (headerOf e f j .esercizio) before (bodyRecords b t)) (keyFor (headerOf e f j .esercizio) o) r
+has-there t f before o r p q u h = rw (← p, ← q, ← u) h
 
 -- a byte of buffers that are one
 byte : (i : ℕ) {x y : List ℕ} → x ≡ y → getD x i 0 ≡ getD y i 0
 byte i e = ap (λ (x : List ℕ). getD x i 0) e
 
 -- TAKEN: the flow of one order for 471, its order accepted, whatever keeps the promise
-module _ (a : FlowAnswer) (t′ out′ : List ℕ) (p : FlowPromise sampleTable (single "471") (room 1) a t′ out′) where
+module _ (a : FlowAnswer) (t′ out′ : List ℕ) (p : FlowPromise sampleTable 1 (single "471") (room 1) a t′ out′) where
   pub taken : a ≡ Taken 1 1 0
-  taken = by-reading sampleTable (single "471") (room 1) own-reads p .0 ∙ facts .answer
+  taken = by-reading sampleTable 1 (single "471") (room 1) own-reads p .0 ∙ facts .answer
 
   pub stored : getD t′ 496 0 ≡ 1
-  stored = byte 496 (by-reading sampleTable (single "471") (room 1) own-reads p .1) ∙ facts .slot
+  stored = byte 496 (by-reading sampleTable 1 (single "471") (room 1) own-reads p .1) ∙ facts .slot
 
 -- the same of the exported function, in document 01's numbers
-pub taken-reply : (n : FlowReply) (t′ out′ : List ℕ) → FlowReplies sampleTable (single "471") (room 1) n t′ out′
+pub taken-reply : (n : FlowReply) (t′ out′ : List ℕ) → FlowReplies sampleTable 1 (single "471") (room 1) n t′ out′
     → (n .code ≡ 0) × (n .place ≡ 0) × (n .orders ≡ 1) × (n .accepted ≡ 1) × (n .cause ≡ 0) × (n .steps ≡ 0)
 taken-reply n t′ out′ p =
     let e = ap flowReply (taken (p .0) t′ out′ (p .1)) in (
@@ -135,32 +143,32 @@ taken-reply n t′ out′ p =
     )
 
 -- taken again on the table that it left: its order is refused (14)
-pub taken-again : (a : FlowAnswer) (t′ out′ : List ℕ) → FlowPromise second (single "471") (room 1) a t′ out′ → a ≡ Taken 1 0 1
-taken-again a t′ out′ p = by-reading second (single "471") (room 1) again-reads p .0 ∙ facts .answer-again
+pub taken-again : (a : FlowAnswer) (t′ out′ : List ℕ) → FlowPromise second 1 (single "471") (room 1) a t′ out′ → a ≡ Taken 1 0 1
+taken-again a t′ out′ p = by-reading second 1 (single "471") (room 1) again-reads p .0 ∙ facts .answer-again
 
 -- two orders there: 14, accepted; the second is in the second slot
-module _ (a : FlowAnswer) (t′ out′ : List ℕ) (p : FlowPromise second two (room 2) a t′ out′) where
+module _ (a : FlowAnswer) (t′ out′ : List ℕ) (p : FlowPromise second 1 two (room 2) a t′ out′) where
   pub more-taken : a ≡ Taken 2 1 2
-  more-taken = by-reading second two (room 2) more-reads p .0 ∙ facts .answer-more
+  more-taken = by-reading second 1 two (room 2) more-reads p .0 ∙ facts .answer-more
 
   pub more-codes : (getD out′ 2 0 ≡ 14) × (getD out′ 18 0 ≡ 0)
   more-codes =
-      let e = by-reading second two (room 2) more-reads p .2 in
+      let e = by-reading second 1 two (room 2) more-reads p .2 in
       (byte 2 e ∙ facts .code-0, byte 18 e ∙ facts .code-1)
 
   pub more-stored : getD t′ 592 0 ≡ 1
-  more-stored = byte 592 (by-reading second two (room 2) more-reads p .1) ∙ facts .next
+  more-stored = byte 592 (by-reading second 1 two (room 2) more-reads p .1) ∙ facts .next
 
 -- THE RIGHT ONE: something keeps the promise
 abbrev pub right : Taker
 right = record {
-  answer = λ t f out. flowAnswer t (flowReads t f (length out));
-  table = λ t f out. flowTable t (flowReads t f (length out));
-  outcomes = λ t f out. flowOutcomes t out (flowReads t f (length out));
+  answer = λ t ed f out. flowAnswer t (flowReads t ed f (length out));
+  table = λ t ed f out. flowTable t (flowReads t ed f (length out));
+  outcomes = λ t ed f out. flowOutcomes t out (flowReads t ed f (length out));
 }
 
 pub right-keeps : Keeps right
-right-keeps t f out = (refl, refl, refl)
+right-keeps t ed f out = (refl, refl, refl)
 
 -- THE WRONG ONES
 abbrev code : FlowAnswer → ℕ
@@ -171,45 +179,45 @@ accepted a = flowReply a .accepted
 
 module _ (T : Taker) (keeps : Keeps T) where
   pub refuses-all : RefusesAll T → ⊥
-  refuses-all r = r sampleTable (single "471") (room 1) (ap code (taken _ _ _ (keeps sampleTable (single "471") (room 1))))
+  refuses-all r = r sampleTable 1 (single "471") (room 1) (ap code (taken _ _ _ (keeps sampleTable 1 (single "471") (room 1))))
 
   pub one-outcome : OneOutcome T → ⊥
   one-outcome r =
-      let k = keeps second two (room 2) in
+      let k = keeps second 1 two (room 2) in
       let n = ap (λ (a : FlowAnswer). flowReply a .orders) (more-taken _ _ _ k) in
-      omega (arith, more-codes _ _ _ k, r second two (room 2) 0 1 (omega arith) (omega arith))
+      omega (arith, more-codes _ _ _ k, r second 1 two (room 2) 0 1 (omega arith) (omega arith))
 
   pub stores-nothing : StoresNothing T → ⊥
   stores-nothing r =
-      let k = keeps sampleTable (single "471") (room 1) in
-      omega (arith, stored _ _ _ k, facts .slot-empty, byte 496 (r sampleTable (single "471") (room 1) (ap code (taken _ _ _ k))))
+      let k = keeps sampleTable 1 (single "471") (room 1) in
+      omega (arith, stored _ _ _ k, facts .slot-empty, byte 496 (r sampleTable 1 (single "471") (room 1) (ap code (taken _ _ _ k))))
 
   pub first-only : FirstOnly T → ⊥
   first-only r =
-      let z = r second two (room 2) 496 4 2021 (order 1) (order 2 ∷ []) more-reads in
-      omega (arith, more-stored _ _ _ (keeps second two (room 2)), facts .next-empty, byte 592 z)
+      let z = r second 1 two (room 2) 496 4 2021 (order 1) (order 2 ∷ []) more-reads in
+      omega (arith, more-stored _ _ _ (keeps second 1 two (room 2)), facts .next-empty, byte 592 z)
 
   pub invents-accepted : InventsAccepted T → ⊥
-  invents-accepted r = r .other (condition2 .accepted (r .table) (r .flow) (r .lent) _ _ _ (keeps (r .table) (r .flow) (r .lent)) (r .taken))
+  invents-accepted r = r .other (condition2 .accepted (r .table) (r .number) (r .flow) (r .lent) _ _ _ (keeps (r .table) (r .number) (r .flow) (r .lent)) (r .taken))
 
   pub counts-orders : CountsOrders T → ⊥
   counts-orders r =
-      let d = taken _ _ _ (keeps sampleTable (single "471") (room 1)) in
-      let e = taken-again _ _ _ (keeps second (single "471") (room 1)) in
-      let x : 1 ≡ r .0 1 = sym (ap accepted d) ∙ r .1 sampleTable (single "471") (room 1) ∙ ap (λ (a : FlowAnswer). r .0 (flowReply a .orders)) d in
-      let y : 0 ≡ r .0 1 = sym (ap accepted e) ∙ r .1 second (single "471") (room 1) ∙ ap (λ (a : FlowAnswer). r .0 (flowReply a .orders)) e in
+      let d = taken _ _ _ (keeps sampleTable 1 (single "471") (room 1)) in
+      let e = taken-again _ _ _ (keeps second 1 (single "471") (room 1)) in
+      let x : 1 ≡ r .0 1 = sym (ap accepted d) ∙ r .1 sampleTable 1 (single "471") (room 1) ∙ ap (λ (a : FlowAnswer). r .0 (flowReply a .orders)) d in
+      let y : 0 ≡ r .0 1 = sym (ap accepted e) ∙ r .1 second 1 (single "471") (room 1) ∙ ap (λ (a : FlowAnswer). r .0 (flowReply a .orders)) e in
       omega arith
 
   -- it leaves the table that the engine of condition 3 leaves
-  as-ours : (t f out : List ℕ) → T .table t f out ≡ ours .next (aFlow f out) t
-  as-ours t f out = keeps t f out .1 ∙ sym (ours .keeps (aFlow f out) t .2 .1)
+  as-ours : (t : List ℕ) (ed : ℕ) (f out : List ℕ) → T .table t ed f out ≡ ours .next (aFlow ed f out) t
+  as-ours t ed f out = keeps t ed f out .1 ∙ sym (ours .keeps (aFlow ed f out) t .2 .1)
 
   -- the table stays valid: "lines that aren't there have state and amount zero"
   pub keeps-amounts : KeepsAmounts T → ⊥
   keeps-amounts r =
-      let u = T .table (r .table) (r .flow) (r .lent) in
-      let e = as-ours (r .table) (r .flow) (r .lent) in
-      let ok : tableOk u ≡ true = ap tableOk e ∙ condition3 ours (r .table) (r .valid) .valid (aFlow (r .flow) (r .lent) ∷ []) in
+      let u = T .table (r .table) (r .number) (r .flow) (r .lent) in
+      let e = as-ours (r .table) (r .number) (r .flow) (r .lent) in
+      let ok : tableOk u ≡ true = ap tableOk e ∙ condition3 ours (r .table) (r .valid) .valid (aFlow (r .number) (r .flow) (r .lent) ∷ []) in
       let base = placeOf u (entryOf (r .body)) in
       let n = slotsOf u (entryOf (r .body)) in
       let h = held u base n (r .slot) (r .used) in
@@ -218,14 +226,17 @@ module _ (T : Taker) (keeps : Keeps T) where
 
   -- a flow that is taken is for the body that it names
   module _ (w : Somewhere T) where
-    here-taken : Rules.Taken (w .table) (w .flow) (T .answer (w .table) (w .flow) (w .lent)) (T .table (w .table) (w .flow) (w .lent)) (T .outcomes (w .table) (w .flow) (w .lent))
-    here-taken = condition2 .taken (w .table) (w .flow) (w .lent) _ _ _ (keeps (w .table) (w .flow) (w .lent)) (w .taken)
+    here-taken : Rules.Taken (w .table) (w .number) (w .flow) (T .answer (w .table) (w .number) (w .flow) (w .lent)) (T .table (w .table) (w .number) (w .flow) (w .lent)) (T .outcomes (w .table) (w .number) (w .flow) (w .lent))
+    here-taken = condition2 .taken (w .table) (w .number) (w .flow) (w .lent) _ _ _ (keeps (w .table) (w .number) (w .flow) (w .lent)) (w .taken)
+
+    here-edition : w .edition ≡ here-taken .edition
+    here-edition = one-edition (w .numbered) (here-taken .numbered)
 
     here-place : w .at ≡ here-taken .at
-    here-place = one-place (w .stands) (here-taken .stands)
+    here-place = one-place (rw here-edition at (w .stands)) (here-taken .stands)
 
     here-body : w .body ≡ here-taken .body
-    here-body = one-body (rw here-place at (w .named)) (here-taken .named)
+    here-body = one-body (rw (here-edition, here-place) at (w .named)) (here-taken .named)
 
   -- 19 applies, so that the order isn't accepted
   pub annuls-by-number : AnnulsByNumber T → ⊥
@@ -233,11 +244,11 @@ module _ (T : Taker) (keeps : Keeps T) where
       let w = r .here in
       let k = here-taken w in
       let i = here-place w in
-      let os = rw i at (r .orders) in
-      let has = has-there (w .table) (w .flow) (r .before) (r .order) (r .old) (here-body w) i (r .has) in
-      let d = code-in-turn (slotsOf (w .table) (entryOf (k .body))) (headerOf (w .flow) (k .at) .esercizio) (r .before) (r .order) (r .others) (bodyRecords (k .body) (w .table)) in
+      let os = rw (here-edition w, i) at (r .orders) in
+      let has = has-there (w .table) (w .flow) (r .before) (r .order) (r .old) (here-body w) i (here-edition w) (r .has) in
+      let d = code-in-turn (slotsOf (w .table) (entryOf (k .body))) (headerOf (k .edition) (w .flow) (k .at) .esercizio) (r .before) (r .order) (r .others) (bodyRecords (k .body) (w .table)) in
       let c = ap (λ (l : List ℕ). getD l (length (r .before)) 0) (rw os at (k .codes)) in
-      let x = outcome-byte (length (r .before ++ (r .order ∷ r .others))) (length (r .before)) (T .outcomes (w .table) (w .flow) (w .lent)) (omega (arith, length-append (r .before) (r .order ∷ r .others))) in
+      let x = outcome-byte (length (r .before ++ (r .order ∷ r .others))) (length (r .before)) (T .outcomes (w .table) (w .number) (w .flow) (w .lent)) (omega (arith, length-append (r .before) (r .order ∷ r .others))) in
       let z = sym (sym x ∙ c ∙ d) ∙ r .answered in
       k .exactly (r .before) (r .order) (r .others) os .0 z 19 (differs (r .annuls) (r .old) has (r .meant))
 
@@ -250,8 +261,8 @@ module _ (T : Taker) (keeps : Keeps T) where
       let k = here-taken w in
       let i = here-place w in
       let b = here-body w in
-      let c = ap (λ (l : List ℕ). getD l 0 0) (rw (rw i at (r .first)) at (k .codes)) in
-      let v = condition2 .answer t (k .valid) (k .body) (found-body t (k .valid) (headerOf (w .flow) (k .at) .ente) (k .body) (k .named)) (headerOf (w .flow) (k .at) .esercizio) (r .order) 15 (λ q. omega arith) .0 (sym c ∙ r .answered) in
+      let c = ap (λ (l : List ℕ). getD l 0 0) (rw (rw (here-edition w, i) at (r .first)) at (k .codes)) in
+      let v = condition2 .answer t (k .valid) (k .body) (found-body t (k .valid) (headerOf (k .edition) (w .flow) (k .at) .ente) (k .body) (k .named)) (headerOf (k .edition) (w .flow) (k .at) .esercizio) (r .order) 15 (λ q. omega arith) .0 (sym c ∙ r .answered) in
       let l = full-body (v .0) refl in
       let m = rw b at (r .empty) in
       omega arith
@@ -259,14 +270,16 @@ module _ (T : Taker) (keeps : Keeps T) where
   -- a field that breaks refuses the flow, and a refused flow leaves the table
   pub half-applied : HalfApplied T → ⊥
   half-applied r =
-      let k = keeps (r .table) (r .flow) (r .lent) in
-      r .changed (condition1 .refused-flow (r .table) (r .flow) (r .lent) _ _ _ k (λ z. breaks-stands (r .late) (condition2 .taken (r .table) (r .flow) (r .lent) _ _ _ k z .stands)) .0)
+      let k = keeps (r .table) (r .number) (r .flow) (r .lent) in
+      r .changed (condition1 .refused-flow (r .table) (r .number) (r .flow) (r .lent) _ _ _ k (λ z.
+      let g = condition2 .taken (r .table) (r .number) (r .flow) (r .lent) _ _ _ k z in
+      breaks-stands (rw (one-edition (r .numbered) (g .numbered)) at (r .late)) (g .stands)) .0)
 
   -- a call of one body leaves every other body's part
   pub serves-elsewhere : ServesElsewhere T → ⊥
   serves-elsewhere r =
-      let e = as-ours (r .table) (r .flow) (r .lent) in
-      r .changed (ap (owned (r .table) (r .other)) e ∙ condition3 ours (r .table) (r .valid) .isolated .step [] (aFlow (r .flow) (r .lent)) (r .other) (r .body) (r .there) (r .named) (r .apart))
+      let e = as-ours (r .table) (r .number) (r .flow) (r .lent) in
+      r .changed (ap (owned (r .table) (r .other)) e ∙ condition3 ours (r .table) (r .valid) .isolated .step [] (aFlow (r .number) (r .flow) (r .lent)) (r .other) (r .body) (r .there) (r .named) (r .apart))
 
   -- on the table that mandato 1 of 000471 left: refused (14) for 000471, accepted for 471
   pub by-number : ByNumber T → ⊥
@@ -275,11 +288,11 @@ module _ (T : Taker) (keeps : Keeps T) where
       let y = flows .own in
       let abi : Header → List ℕ = λ h. h .abi in
       let year : Header → ℕ = λ h. h .esercizio in
-      let same = r first (single "000471") (single "471") (room 1) (x .at) (y .at) (x .stands) (y .stands)
+      let same = r first 1 Oil refl (single "000471") (single "471") (room 1) (x .at) (y .at) (x .stands) (y .stands)
       (ap abi (x .header) ∙ sym (ap abi (y .header))) (ap year (x .header) ∙ sym (ap year (y .header))) (x .orders ∙ sym (y .orders))
       (subst (λ (c : List ℕ × List ℕ). Mixed first (c .0) (c .1)) (λ i. (sym (x .header) i .ente, sym (y .header) i .ente)) (facts .mixed)) in
-      let d = by-reading first (single "000471") (room 1) other-first-reads (keeps first (single "000471") (room 1)) .0 ∙ facts .answer-other in
-      let e = by-reading first (single "471") (room 1) own-first-reads (keeps first (single "471") (room 1)) .0 ∙ facts .answer-first in
+      let d = by-reading first 1 (single "000471") (room 1) other-first-reads (keeps first 1 (single "000471") (room 1)) .0 ∙ facts .answer-other in
+      let e = by-reading first 1 (single "471") (room 1) own-first-reads (keeps first 1 (single "471") (room 1)) .0 ∙ facts .answer-first in
       let z : _≡_ {A = ℕ} 0 1 = ap accepted (sym d ∙ same ∙ e) in
       omega arith
 

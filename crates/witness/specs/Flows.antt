@@ -6,7 +6,7 @@ use Rattle.scan.specs.Bytes.{bytes}
 use Rattle.codes.specs.declared.Operation.the-variants.{Inserimento}
 use Rattle.opening.specs.Opening.{opened}
 use Rattle.order.specs.Ordinativo.{Ordinativo}
-use Rattle.orders.specs.Orders.{Header}
+use Rattle.header.specs.Header.{Header}
 use Rattle.service.specs.Service.{orderLeaves}
 use Rattle.marked.specs.Flows.{requestOf, sampleTable, mandato, flowOf}
 

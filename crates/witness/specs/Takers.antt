@@ -22,6 +22,9 @@ use Rattle.opening.specs.declared.Opened.the-variants.{WrongRequest}
 use Rattle.opening.specs.Opening.{OpenPromise}
 use Rattle.order.specs.Ordinativo.{Ordinativo}
 use Rattle.fields.specs.declared.Cause.{Cause}
+use Rattle.editions.specs.declared.Edition.{Edition}
+use Rattle.editions.specs.declared.Edited.the-variants.{By}
+use Rattle.editions.specs.Editions.{editionOf}
 use Rattle.flow.specs.declared.Verdict.the-variants.{FieldBreaks, Stands}
 use Rattle.flow.specs.Flow.{verdictOf, headerOf, flowOrders}
 use Rattle.rules.specs.Rules.{keyFor, nth}
@@ -37,80 +40,85 @@ use Rattle.desk.specs.Desk.{served, flowReads, FlowPromise, flowReply}
 use Rattle.theorems.specs.Engine.{flow as aFlow, who, bodyRecords, owned}
 use Rattle.theorems.specs.Codes.{outcomeCodes, zeroCodes}
 
--- FLOWS: from a table, a flow and a lent outcome buffer
+-- FLOWS: from a table, an edition's number, a flow and a lent outcome buffer
 pub record Taker : Type 0 where
-  pub answer : List ℕ → List ℕ → List ℕ → FlowAnswer
-  pub table : List ℕ → List ℕ → List ℕ → List ℕ
-  pub outcomes : List ℕ → List ℕ → List ℕ → List ℕ
+  pub answer : List ℕ → ℕ → List ℕ → List ℕ → FlowAnswer
+  pub table : List ℕ → ℕ → List ℕ → List ℕ → List ℕ
+  pub outcomes : List ℕ → ℕ → List ℕ → List ℕ → List ℕ
 
 -- it keeps the promise that `desk::take_flow` is proved to keep
 abbrev pub Keeps : Taker → Type 0
-Keeps T = (t f out : List ℕ) → FlowPromise t f out (T .answer t f out) (T .table t f out) (T .outcomes t f out)
+Keeps T = (t : List ℕ) (ed : ℕ) (f out : List ℕ) → FlowPromise t ed f out (T .answer t ed f out) (T .table t ed f out) (T .outcomes t ed f out)
 
 module _ (T : Taker) where
   -- document 01's numbers of its answer
-  abbrev reply : List ℕ → List ℕ → List ℕ → FlowReply
-  reply t f out = flowReply (T .answer t f out)
+  abbrev reply : List ℕ → ℕ → List ℕ → List ℕ → FlowReply
+  reply t ed f out = flowReply (T .answer t ed f out)
 
   -- "a reader that refuses every flow"
   abbrev pub RefusesAll : Type 0
-  RefusesAll = (t f out : List ℕ) → reply t f out .code ≡ 0 → ⊥
+  RefusesAll = (t : List ℕ) (ed : ℕ) (f out : List ℕ) → reply t ed f out .code ≡ 0 → ⊥
 
   -- "one that gives one outcome to every order". (Byte 2 of an outcome's 16 is its code)
   abbrev pub OneOutcome : Type 0
-  OneOutcome = (t f out : List ℕ) (i j : ℕ) → i < reply t f out .orders → j < reply t f out .orders
-      → getD (T .outcomes t f out) (16 * i + 2) 0 ≡ getD (T .outcomes t f out) (16 * j + 2) 0
+  OneOutcome = (t : List ℕ) (ed : ℕ) (f out : List ℕ) (i j : ℕ) → i < reply t ed f out .orders → j < reply t ed f out .orders
+      → getD (T .outcomes t ed f out) (16 * i + 2) 0 ≡ getD (T .outcomes t ed f out) (16 * j + 2) 0
 
   -- "one that answers 0 and stores nothing"
   abbrev pub StoresNothing : Type 0
-  StoresNothing = (t f out : List ℕ) → reply t f out .code ≡ 0 → T .table t f out ≡ t
+  StoresNothing = (t : List ℕ) (ed : ℕ) (f out : List ℕ) → reply t ed f out .code ≡ 0 → T .table t ed f out ≡ t
 
   -- "one that serves a flow's first order and only writes outcomes for the others"
   abbrev pub FirstOnly : Type 0
-  FirstOnly = (t f out : List ℕ) (base n year : ℕ) (o : Ordinativo) (os : List Ordinativo) → flowReads t f (length out) ≡ served base n year (o ∷ os)
-      → T .table t f out ≡ orderLeaves t base n year o
+  FirstOnly = (t : List ℕ) (ed : ℕ) (f out : List ℕ) (base n year : ℕ) (o : Ordinativo) (os : List Ordinativo) → flowReads t ed f (length out) ≡ served base n year (o ∷ os)
+      → T .table t ed f out ≡ orderLeaves t base n year o
 
   -- "one that invents `accepted`": answers 0 and somewhere an `accepted` that isn't how many of the outcomes it wrote have code 0
   pub record InventsAccepted : Type 0 where
     pub table : List ℕ
+    pub number : ℕ
     pub flow : List ℕ
     pub lent : List ℕ
-    pub taken : reply table flow lent .code ≡ 0
-    pub other : reply table flow lent .accepted ≡ zeroCodes (outcomeCodes (reply table flow lent .orders) (T .outcomes table flow lent)) → ⊥
+    pub taken : reply table number flow lent .code ≡ 0
+    pub other : reply table number flow lent .accepted ≡ zeroCodes (outcomeCodes (reply table number flow lent .orders) (T .outcomes table number flow lent)) → ⊥
 
   -- or tells it from the number of orders alone
   abbrev pub CountsOrders : Type 0
-  CountsOrders = (g : ℕ → ℕ) × ((t f out : List ℕ) → reply t f out .accepted ≡ g (reply t f out .orders))
+  CountsOrders = (g : ℕ → ℕ) × ((t : List ℕ) (ed : ℕ) (f out : List ℕ) → reply t ed f out .accepted ≡ g (reply t ed f out .orders))
 
   -- "A changed order keeping old amounts in lines it no longer has": somewhere a valid table has, after a flow, a record with an amount in a line that
   -- the record hasn't
   pub record KeepsAmounts : Type 0 where
     pub table : List ℕ
+    pub number : ℕ
     pub flow : List ℕ
     pub lent : List ℕ
     pub valid : tableOk table ≡ true
     pub body : ℕ
-    pub there : body < bodies (T .table table flow lent)
+    pub there : body < bodies (T .table table number flow lent)
     pub slot : ℕ
-    pub used : slot < length (bodyRecords body (T .table table flow lent))
+    pub used : slot < length (bodyRecords body (T .table table number flow lent))
     pub line : ℕ
-    pub gone : nth (bodyRecords body (T .table table flow lent)) slot .lines ≤ line
-    pub kept : getD (nth (bodyRecords body (T .table table flow lent)) slot .amounts) line 0 ≡ 0 → ⊥
+    pub gone : nth (bodyRecords body (T .table table number flow lent)) slot .lines ≤ line
+    pub kept : getD (nth (bodyRecords body (T .table table number flow lent)) slot .amounts) line 0 ≡ 0 → ⊥
 
   -- somewhere: a flow that it takes, and the body that the flow names
   pub record Somewhere : Type 0 where
     pub table : List ℕ
+    pub number : ℕ
     pub flow : List ℕ
     pub lent : List ℕ
-    pub taken : reply table flow lent .code ≡ 0
+    pub taken : reply table number flow lent .code ≡ 0
     pub at : ℕ
-    pub stands : verdictOf flow ≡ Stands at
+    pub edition : Edition
+    pub numbered : editionOf number ≡ By edition
+    pub stands : verdictOf edition flow ≡ Stands at
     pub body : ℕ
-    pub named : bodyOf table (headerOf flow at .ente) ≡ At body
+    pub named : bodyOf table (headerOf edition flow at .ente) ≡ At body
 
   -- the flow's esercizio, the body's slots, and its records after the first orders of the flow
   abbrev year : Somewhere → ℕ
-  year w = headerOf (w .flow) (w .at) .esercizio
+  year w = headerOf (w .edition) (w .flow) (w .at) .esercizio
 
   abbrev slots : Somewhere → ℕ
   slots w = slotsOf (w .table) (entryOf (w .body))
@@ -125,12 +133,12 @@ module _ (T : Taker) where
     pub before : List Ordinativo
     pub order : Ordinativo
     pub others : List Ordinativo
-    pub orders : flowOrders (here .flow) (here .at) ≡ before ++ (order ∷ others)
+    pub orders : flowOrders (here .edition) (here .flow) (here .at) ≡ before ++ (order ∷ others)
     pub annuls : order .operation ≡ Annullo
     pub old : Record
     pub has : Has (after here before) (keyFor (year here) order) old
     pub meant : Differs order old
-    pub answered : getD (T .outcomes (here .table) (here .flow) (here .lent)) (outcomeSize * length before + 2) 0 ≡ 0
+    pub answered : getD (T .outcomes (here .table) (here .number) (here .flow) (here .lent)) (outcomeSize * length before + 2) 0 ≡ 0
 
   -- "'No slot' answered because another body filled its own", or for whatever reason: somewhere the first order of a flow gets 15, though its body has
   -- an empty slot
@@ -139,31 +147,35 @@ module _ (T : Taker) where
     pub empty : length (bodyRecords (here .body) (here .table)) < slots here
     pub order : Ordinativo
     pub others : List Ordinativo
-    pub first : flowOrders (here .flow) (here .at) ≡ order ∷ others
-    pub answered : getD (T .outcomes (here .table) (here .flow) (here .lent)) 2 0 ≡ 15
+    pub first : flowOrders (here .edition) (here .flow) (here .at) ≡ order ∷ others
+    pub answered : getD (T .outcomes (here .table) (here .number) (here .flow) (here .lent)) 2 0 ≡ 15
 
   -- "A flow half applied before a late field broke": somewhere a field breaks, and the table is another
   pub record HalfApplied : Type 0 where
     pub table : List ℕ
+    pub number : ℕ
     pub flow : List ℕ
     pub lent : List ℕ
     pub place : ℕ
     pub cause : Cause
-    pub late : verdictOf flow ≡ FieldBreaks place cause
-    pub changed : T .table table flow lent ≡ table → ⊥
+    pub edition : Edition
+    pub numbered : editionOf number ≡ By edition
+    pub late : verdictOf edition flow ≡ FieldBreaks place cause
+    pub changed : T .table table number flow lent ≡ table → ⊥
 
   -- a body served on another body's slots: somewhere a flow that names one body of a valid table changes what another body owns
   pub record ServesElsewhere : Type 0 where
     pub table : List ℕ
+    pub number : ℕ
     pub flow : List ℕ
     pub lent : List ℕ
     pub valid : tableOk table ≡ true
     pub body : ℕ
-    pub named : who table (aFlow flow lent) ≡ some body
+    pub named : who table (aFlow number flow lent) ≡ some body
     pub other : ℕ
     pub there : other < bodies table
     pub apart : other ≡ body → ⊥
-    pub changed : owned table other (T .table table flow lent) ≡ owned table other table → ⊥
+    pub changed : owned table other (T .table table number flow lent) ≡ owned table other table → ⊥
 
 -- NOTICES, TOTALS AND OPENING
 pub record Notifier : Type 0 where
@@ -217,9 +229,9 @@ pub record Mixed (t a b : List ℕ) : Type 0 where
 
 -- flows that stand and differ in nothing but codice_ente_BT are answered alike
 abbrev pub ByNumber : Taker → Type 0
-ByNumber T = (t f g out : List ℕ) (i j : ℕ) → verdictOf f ≡ Stands i → verdictOf g ≡ Stands j
-    → headerOf f i .abi ≡ headerOf g j .abi → headerOf f i .esercizio ≡ headerOf g j .esercizio → flowOrders f i ≡ flowOrders g j
-    → Mixed t (headerOf f i .ente) (headerOf g j .ente) → T .answer t f out ≡ T .answer t g out
+ByNumber T = (t : List ℕ) (ed : ℕ) (e : Edition) → editionOf ed ≡ By e → (f g out : List ℕ) (i j : ℕ) → verdictOf e f ≡ Stands i → verdictOf e g ≡ Stands j
+    → headerOf e f i .abi ≡ headerOf e g j .abi → headerOf e f i .esercizio ≡ headerOf e g j .esercizio → flowOrders e f i ≡ flowOrders e g j
+    → Mixed t (headerOf e f i .ente) (headerOf e g j .ente) → T .answer t ed f out ≡ T .answer t ed g out
 
 abbrev pub NoticeByNumber : Notifier → Type 0
 NoticeByNumber N = (t a b : List ℕ) → Mixed t a b → (executing : Bool) (k : Key) (line : ℕ) (d : Date)

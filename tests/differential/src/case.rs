@@ -37,6 +37,8 @@ pub enum Call {
     },
     /// Takes a flow with an outcome buffer of `room` bytes.
     Flow {
+        /// The edition's number.
+        edition: u64,
         /// The flow.
         flow: Vec<u8>,
         /// The length of the outcome buffer.
@@ -127,7 +129,7 @@ impl Case {
         let calls = self.calls.iter().map(|call| match call {
             Call::Open { request, room } => 16 + request.len() + digits(*room as u64),
             Call::Convert { old, room } => 16 + old.len() + digits(*room as u64),
-            Call::Flow { flow, room } => 16 + flow.len() + digits(*room as u64),
+            Call::Flow { edition, flow, room } => 16 + flow.len() + digits(*edition) + digits(*room as u64),
             Call::Execute { body, notice } | Call::Reverse { body, notice } => {
                 let (year, month, day) = notice.date;
                 let numbers = [notice.kind, notice.esercizio, notice.number, notice.line, year, month, day];
@@ -193,7 +195,9 @@ impl fmt::Debug for Call {
         match self {
             Call::Open { request, room } => write!(to, "Call::Open {{ request: {}, room: {room} }}", literal(request)),
             Call::Convert { old, room } => write!(to, "Call::Convert {{ old: {}, room: {room} }}", literal(old)),
-            Call::Flow { flow, room } => write!(to, "Call::Flow {{ flow: {}, room: {room} }}", literal(flow)),
+            Call::Flow { edition, flow, room } => {
+                write!(to, "Call::Flow {{ edition: {edition}, flow: {}, room: {room} }}", literal(flow))
+            }
             Call::Execute { body, notice } => write!(to, "Call::Execute {{ body: {}, notice: {notice:?} }}", literal(body)),
             Call::Reverse { body, notice } => write!(to, "Call::Reverse {{ body: {}, notice: {notice:?} }}", literal(body)),
             Call::Totals { body } => write!(to, "Call::Totals {{ body: {} }}", literal(body)),
@@ -231,7 +235,9 @@ impl fmt::Display for Call {
                 write!(to, "open in {room} bytes, request of {} bytes {}", request.len(), quoted(request))
             }
             Call::Convert { old, room } => write!(to, "convert into {room} bytes, old {}", table_text(old, Form::One)),
-            Call::Flow { flow, room } => write!(to, "flow of {} bytes, room {room}:\n{}", flow.len(), text(flow)),
+            Call::Flow { edition, flow, room } => {
+                write!(to, "flow of edition {edition}, {} bytes, room {room}:\n{}", flow.len(), text(flow))
+            }
             Call::Execute { body, notice: named } => notice(to, "execute", body, named),
             Call::Reverse { body, notice: named } => notice(to, "reverse", body, named),
             Call::Totals { body } => write!(to, "totals body {}", quoted(body)),

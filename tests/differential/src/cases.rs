@@ -58,9 +58,9 @@ pub fn case(random: &mut Random, theme: Theme) -> Case {
         Theme::DamagedFlow => {
             let table = if random.percent(70) { tables::empty(random, 3, 4) } else { tables::valid(random) };
             let size = if random.percent(85) { Size::Few } else { Size::Any };
-            let flow = flows::damaged(random, &table, size);
+            let (edition, flow) = flows::damaged(random, &table, size);
             let room = flows::room(random, &flow);
-            Case { table: table.encode(), calls: vec![Call::Flow { flow, room }] }
+            Case { table: table.encode(), calls: vec![Call::Flow { edition, flow, room }] }
         }
         Theme::DamagedTable => {
             let (table, bytes) = if random.percent(30) { tables::beyond(random) } else { tables::damaged(random) };
@@ -112,8 +112,8 @@ pub fn sequence(random: &mut Random) -> Case {
         let now = Table::decode(&table).expect("calls leave a valid table");
         let call = call(random, &now);
         match &call {
-            Call::Flow { flow, room } => {
-                reference::flow(&mut table, flow, &mut vec![0; *room]);
+            Call::Flow { edition, flow, room } => {
+                reference::flow(&mut table, *edition, flow, &mut vec![0; *room]);
             }
             Call::Execute { body, notice } => {
                 reference::execute(&mut table, body, notice);
@@ -133,9 +133,9 @@ fn call(random: &mut Random, table: &Table) -> Call {
     match random.weighted(&[52, 4, 34, 10]) {
         0 => whole_flow(random, table, Size::Few),
         1 => {
-            let flow = flows::damaged(random, table, Size::Few);
+            let (edition, flow) = flows::damaged(random, table, Size::Few);
             let room = flows::room(random, &flow);
-            Call::Flow { flow, room }
+            Call::Flow { edition, flow, room }
         }
         2 => notice(random, table),
         _ => totals(random, table),
@@ -143,9 +143,9 @@ fn call(random: &mut Random, table: &Table) -> Call {
 }
 
 fn whole_flow(random: &mut Random, table: &Table, size: Size) -> Call {
-    let flow = flows::whole(random, table, size);
+    let (edition, flow) = flows::whole(random, table, size);
     let room = flows::room(random, &flow);
-    Call::Flow { flow, room }
+    Call::Flow { edition, flow, room }
 }
 
 fn body_code(random: &mut Random, table: &Table) -> Vec<u8> {
@@ -240,8 +240,9 @@ fn fuzz(random: &mut Random) -> Case {
             date: (random.next(), random.next(), random.next()),
         };
         let room = random.below(70);
+        let edition = 1 + random.next() % 2;
         let calls = vec![
-            Call::Flow { flow, room },
+            Call::Flow { edition, flow, room },
             Call::Execute { body: body.clone(), notice },
             Call::Reverse { body: body.clone(), notice },
             Call::Totals { body },

@@ -158,11 +158,11 @@ impl Yard {
         match call {
             Call::Open { .. } => Answer::Open(engine.open(given, lent)),
             Call::Convert { .. } => Answer::Convert(engine.convert(given, lent)),
-            Call::Flow { .. } => {
+            Call::Flow { edition, .. } => {
                 let outcomes = self.outcomes.bytes_mut();
                 let (place, orders, accepted) = (first.number_mut(), second.number_mut(), third.number_mut());
                 let (cause, steps) = (fourth.number_mut(), fifth.number_mut());
-                let code = engine.flow(lent, given, outcomes, place, orders, accepted, cause, steps);
+                let code = engine.flow(lent, *edition, given, outcomes, place, orders, accepted, cause, steps);
                 let (place, orders, accepted) = (first.number(), second.number(), third.number());
                 Answer::Flow(FlowAnswer { code, place, orders, accepted, cause: fourth.number(), steps: fifth.number() })
             }

@@ -19,6 +19,7 @@ pub trait Engine {
     fn flow(
         &self,
         table: &mut [u8],
+        edition: u64,
         flow: &[u8],
         outcomes: &mut [u8],
         place: &mut u64,
@@ -78,6 +79,7 @@ impl Engine for Reference {
     fn flow(
         &self,
         table: &mut [u8],
+        edition: u64,
         flow: &[u8],
         outcomes: &mut [u8],
         place: &mut u64,
@@ -86,7 +88,7 @@ impl Engine for Reference {
         cause: &mut u64,
         steps: &mut u64,
     ) -> u64 {
-        let answer = reference::flow(table, flow, outcomes);
+        let answer = reference::flow(table, edition, flow, outcomes);
         (*place, *orders, *accepted) = (answer.place, answer.orders, answer.accepted);
         (*cause, *steps) = (answer.cause, answer.steps);
         answer.code
@@ -134,6 +136,7 @@ impl Engine for Library {
     fn flow(
         &self,
         table: &mut [u8],
+        edition: u64,
         flow: &[u8],
         outcomes: &mut [u8],
         place: &mut u64,
@@ -147,6 +150,7 @@ impl Engine for Library {
             hondivole::ffi::hondivole_flow(
                 table.as_mut_ptr(),
                 table.len(),
+                edition,
                 flow.as_ptr(),
                 flow.len(),
                 outcomes.as_mut_ptr(),

@@ -1,6 +1,6 @@
 //! Flows: whole ones, and ones damaged in one place.
 
-use reference::{Body, Date, Kind, LONGEST_FLOW, Line, Order, Table};
+use reference::{Body, Date, Edition, Kind, LONGEST_FLOW, Line, Order, Table};
 
 use crate::random::Random;
 
@@ -8,6 +8,8 @@ use crate::random::Random;
 #[derive(Clone, Debug)]
 pub struct Node {
     pub(crate) name: Vec<u8>,
+    /// What stands behind the name in the start tag.
+    attribute: Vec<u8>,
     pub(crate) inside: Inside,
 }
 
@@ -62,6 +64,7 @@ pub(crate) type Names = &'static [&'static str];
 fn named(parent: &[u8]) -> Option<Names> {
     match parent {
         b"flusso_ordinativi" => Some(&NAMES[1..8]),
+        b"testata_flusso" => Some(&NAMES[1..5]),
         b"mandato" => Some(&NAMES[8..13]),
         b"informazioni_beneficiario" => Some(&NAMES[13..16]),
         b"beneficiario" => Some(&NAMES[16..17]),
@@ -76,11 +79,11 @@ fn named(parent: &[u8]) -> Option<Names> {
 
 impl Node {
     pub(crate) fn text(name: impl Into<Vec<u8>>, text: impl Into<Vec<u8>>) -> Node {
-        Node { name: name.into(), inside: Inside::Text(text.into()) }
+        Node { name: name.into(), attribute: Vec::new(), inside: Inside::Text(text.into()) }
     }
 
     pub(crate) fn nodes(name: impl Into<Vec<u8>>, nodes: Vec<Node>) -> Node {
-        Node { name: name.into(), inside: Inside::Nodes(nodes) }
+        Node { name: name.into(), attribute: Vec::new(), inside: Inside::Nodes(nodes) }
     }
 
     pub(crate) fn children(&self) -> &[Node] {
@@ -116,7 +119,7 @@ impl Node {
     }
 
     fn write(&self, white: &mut White, to: &mut Vec<u8>) {
-        to.extend([b"<", &self.name[..], b">"].concat());
+        to.extend([b"<", &self.name[..], &self.attribute, b">"].concat());
         match &self.inside {
             Inside::Text(text) => to.extend(text),
             Inside::Nodes(nodes) => {
@@ -161,8 +164,38 @@ pub enum Size {
     Any,
 }
 
-/// The flow's elements, written for the bodies and records of a table.
-pub fn tree(random: &mut Random, table: &Table, size: Size) -> Node {
+/// Ids as they may stand on the root in edition 2, and as they may not.
+const IDS: [&str; 5] = ["", " Id=\"F_1\"", " Id=\"1\"", " Id=\"_\"", " Id=\"abcdefghijklmnopqrstuvwxyzABCDEFGHIJKLMNOPQRSTUVWXYZ0123456789_z\""];
+const WRONG_IDS: [&str; 14] = [
+    " Id=\"\"",
+    " Id=\"abcdefghijklmnopqrstuvwxyzABCDEFGHIJKLMNOPQRSTUVWXYZ0123456789_zz\"",
+    " Id='F'",
+    "  Id=\"F\"",
+    "\tId=\"F\"",
+    " Id =\"F\"",
+    " Id= \"F\"",
+    " Id=\"F\" ",
+    " ID=\"F\"",
+    " Id=\"F-1\"",
+    " Id=\"\u{e8}\"",
+    " Id=\"F\" Id=\"G\"",
+    " xmlns=\"x\"",
+    " ",
+];
+
+/// An edition, and the number that a call names it by, which is now and then another.
+fn edition(random: &mut Random) -> (Edition, u64) {
+    let edition = if random.percent(60) { Edition::Oil } else { Edition::Opi };
+    let number = match random.weighted(&[94, 3, 3]) {
+        0 => edition as u64,
+        1 => 3 - edition as u64,
+        _ => *random.pick(&[0, 3, 257, 258, 65_537, 4_294_967_297, 4_294_967_298, u64::MAX]),
+    };
+    (edition, number)
+}
+
+/// The elements of a flow of an edition, written for the bodies and records of a table.
+pub fn tree(random: &mut Random, table: &Table, size: Size, edition: Edition) -> Node {
     let fallback = Body { code: b"471".to_vec(), slots: 1, orders: Vec::new() };
     let body = if table.bodies.is_empty() { &fallback } else { random.pick(&table.bodies) };
     let code = if random.percent(4) { near_code(random, &body.code, true) } else { body.code.clone() };
@@ -180,13 +213,20 @@ pub fn tree(random: &mut Random, table: &Table, size: Size) -> Node {
         Size::Any => [1, 2, 5, 1 + random.below(64), 60 + random.below(5), 65][random.weighted(&[30, 20, 20, 20, 8, 2])],
     };
     let lean = count > 20;
+    let mut created = date_and_time(random);
+    if edition == Edition::Opi {
+        created += *random.pick(&["Z", "+00:00", "-00:00", "+01:00", "-09:30", "+23:59", "-23:59"]);
+    }
     let mut nodes = vec![
         Node::text("codice_ABI_BT", abi),
         Node::text("identificativo_flusso", identifier(random)),
-        Node::text("data_ora_creazione_flusso", date_and_time(random)),
+        Node::text("data_ora_creazione_flusso", created),
         Node::text("codice_ente_BT", code),
-        Node::text("esercizio", esercizio.to_string()),
     ];
+    if edition == Edition::Opi {
+        nodes = vec![Node::nodes("testata_flusso", nodes)];
+    }
+    nodes.push(Node::text("esercizio", esercizio.to_string()));
     let mut earlier: Vec<Node> = Vec::new();
     for _ in 0..count {
         let order =
@@ -194,7 +234,11 @@ pub fn tree(random: &mut Random, table: &Table, size: Size) -> Node {
         earlier.push(order);
     }
     nodes.extend(earlier);
-    Node::nodes("flusso_ordinativi", nodes)
+    let mut root = Node::nodes("flusso_ordinativi", nodes);
+    if edition == Edition::Opi {
+        root.attribute = random.pick(&IDS).as_bytes().to_vec();
+    }
+    root
 }
 
 /// A code that is nearly this one; `form` keeps it a code (letters and digits, 1 to 16).
@@ -513,7 +557,7 @@ pub(crate) fn write_up_to(random: &mut Random, root: &Node, longest: usize) -> V
             0 => (front, b" ".repeat(missing)),
             1 => (flow.len(), b"\n".repeat(missing)),
             _ if missing > 7 => {
-                let place = front + root.name.len() + 2;
+                let place = front + root.name.len() + root.attribute.len() + 2;
                 let text = [&b"<x>"[..], &b"]".repeat(missing - 7), b"</x>"].concat();
                 (place, text)
             }
@@ -525,8 +569,9 @@ pub(crate) fn write_up_to(random: &mut Random, root: &Node, longest: usize) -> V
 }
 
 /// A flow without damage: fields and structure stand, though orders may be refused.
-pub fn whole(random: &mut Random, table: &Table, size: Size) -> Vec<u8> {
-    let mut root = tree(random, table, size);
+pub fn whole(random: &mut Random, table: &Table, size: Size) -> (u64, Vec<u8>) {
+    let (edition, number) = edition(random);
+    let mut root = tree(random, table, size, edition);
     match random.weighted(&[60, 25, 10, 5]) {
         0 => {}
         1 => strew(random, &mut root, 1, 20, named),
@@ -538,12 +583,20 @@ pub fn whole(random: &mut Random, table: &Table, size: Size) -> Vec<u8> {
             children.insert(random.below(children.len() + 1), chain);
         }
     }
-    write(random, &root)
+    (number, write(random, &root))
 }
 
-/// A flow damaged in one place: in its elements, its fields or its bytes.
-pub fn damaged(random: &mut Random, table: &Table, size: Size) -> Vec<u8> {
-    let mut root = tree(random, table, size);
+/// A flow damaged in one place: in its elements, its fields or its bytes; with the edition's number.
+pub fn damaged(random: &mut Random, table: &Table, size: Size) -> (u64, Vec<u8>) {
+    let (edition, number) = edition(random);
+    let mut root = tree(random, table, size, edition);
+    if random.percent(4) {
+        root.attribute = random.pick(&WRONG_IDS).as_bytes().to_vec();
+    }
+    (number, damaged_in(random, root))
+}
+
+fn damaged_in(random: &mut Random, mut root: Node) -> Vec<u8> {
     if random.percent(25) {
         strew(random, &mut root, 1, 30, named);
     }
@@ -641,7 +694,10 @@ pub(crate) fn edges(name: &[u8]) -> Names {
             "", "2021-03-01T00:00:00", "2021-03-01T23:59:59", "2021-03-01T24:00:00", "2021-03-01T23:60:00", "2021-03-01T23:59:60",
             "2021-03-01t23:59:59", "2021-03-01 23:59:59", "2021-03-01T23:59:59Z", "2021-03-01T23:59", "2021-03-01T2:59:59",
             "2021-03-01T23-59-59", "2021-02-29T23:59:59", "2000-02-29T23:59:59", "1999-12-31T23:59:59", "2100-01-01T00:00:00",
-            "2021-03-01T", "2021-03-01T/0:00:00", "2021-03-01T0::00:00", " 2021-03-01T00:00:00",
+            "2021-03-01T", "2021-03-01T/0:00:00", "2021-03-01T0::00:00", " 2021-03-01T00:00:00", "2021-03-01T09:30:00+00:00",
+            "2021-03-01T09:30:00-23:59", "2021-03-01T09:30:00+24:00", "2021-03-01T09:30:00-23:60", "2021-03-01T09:30:00z",
+            "2021-03-01T09:30:00+0100", "2021-03-01T09:30:00+01", "2021-03-01T09:30:00 01:00", "2021-03-01T09:30:00+01:00Z",
+            "2021-03-01T09:30:00+0a:00", "2021-02-29T09:30:00Z", "2099-12-31T23:59:59-23:59", "2021-03-01T24:00:00+0x:00",
         ],
         b"codice_ente_BT" => &[
             "", "000471", "471", "0471", "0000000000000471", "00000000000000471", "47 1", "471 ", "47_1", "47-1", "é", "&amp;",

@@ -1,7 +1,7 @@
 //! Condition 3, tried: whatever other bodies call in between, each body is served as if it were alone.
 
 use reference::table::{ENTRY, HEAD, SLOT, number_at};
-use reference::{Table, fields, markup, structure, target};
+use reference::{Edition, Table, fields, markup, structure, target};
 
 use crate::case::{Call, Case};
 use crate::compare::{Difference, Served, Yard};
@@ -20,12 +20,13 @@ pub fn owner(table: &Table, call: &Call) -> Option<usize> {
             }
         }
         Call::Totals { body } => place(body),
-        Call::Flow { flow, .. } => {
+        Call::Flow { edition, flow, .. } => {
+            let edition = Edition::numbered(*edition)?;
             if flow.len() > reference::LONGEST_FLOW {
                 return None;
             }
-            let root = markup::read(flow)?;
-            let flow = fields::read(&structure::read(&root)?).ok()?;
+            let root = markup::read(flow, edition == Edition::Opi)?;
+            let flow = fields::read(&structure::read(&root, edition)?, edition).ok()?;
             if flow.abi == table.abi { place(&flow.body) } else { None }
         }
     }

@@ -42,7 +42,7 @@ fn weight(case: &Case) -> (usize, usize, u128) {
     let calls = case.calls.iter().map(|call| match call {
         Call::Open { request, room } => (plain(request), *room as u128),
         Call::Convert { old, room } => (plain(old), *room as u128),
-        Call::Flow { flow, room } => (plain(flow), *room as u128),
+        Call::Flow { edition, flow, room } => (plain(flow), u128::from(*edition) + *room as u128),
         Call::Execute { body, notice } | Call::Reverse { body, notice } => {
             let (year, month, day) = notice.date;
             let numbers = [notice.kind, notice.esercizio, notice.number, notice.line, year, month, day];

@@ -29,6 +29,7 @@ impl Engine for Stray {
     fn flow(
         &self,
         table: &mut [u8],
+        edition: u64,
         flow: &[u8],
         outcomes: &mut [u8],
         place: &mut u64,
@@ -45,7 +46,7 @@ impl Engine for Stray {
         let read = unsafe { beside.read_volatile() };
         // A memory checker may wait until a value is used.
         let flow = if read == 0 { &flow.to_vec() } else { flow };
-        Reference.flow(table, flow, outcomes, place, orders, accepted, cause, steps)
+        Reference.flow(table, edition, flow, outcomes, place, orders, accepted, cause, steps)
     }
 
     fn execute(&self, table: &mut [u8], body: &[u8], notice: &Notice, cents: &mut u64) -> u64 {

@@ -55,7 +55,7 @@ const DATE: &str = "2021-12-31";
 /// All of them.
 pub fn cases() -> impl Iterator<Item = Case> {
     let bytes = table().encode();
-    let with_flow = move |flow| Case { table: bytes.clone(), calls: vec![Call::Flow { flow, room: 16 }] };
+    let with_flow = move |flow| Case { table: bytes.clone(), calls: vec![Call::Flow { edition: 1, flow, room: 16 }] };
     let flows =
         dates().chain(times()).chain(numbers()).chain(characters()).chain(sequences()).chain(bytes_of_a_flow()).map(with_flow);
     bytes_of_a_table().chain(bytes_of_a_request()).chain(bytes_of_an_old_table()).chain(flows).chain(messages::sweep())
@@ -76,7 +76,7 @@ fn bytes_of_a_table() -> impl Iterator<Item = Case> {
         Call::Totals { body: b"000471".to_vec() },
         Call::Execute { body: b"000471".to_vec(), notice },
         Call::Reverse { body: b"000471".to_vec(), notice },
-        Call::Flow { flow: flow(CREATED, DATE, "1", b"R", b""), room: 16 },
+        Call::Flow { edition: 1, flow: flow(CREATED, DATE, "1", b"R", b""), room: 16 },
     ];
     // One kind of call in turn: each of them looks at the whole table.
     replaced(table().encode()).enumerate().map(move |(index, table)| Case { table, calls: vec![calls[index % 7 % 4].clone()] })
@@ -151,6 +151,6 @@ mod tests {
         let mut bytes = table().encode();
         assert!(Table::decode(&bytes).is_some());
         let base = flow(CREATED, DATE, "1", "R&amp;\u{e0}]".as_bytes(), b"<y></y>");
-        assert_eq!(reference::flow(&mut bytes, &base, &mut [0; 16]).accepted, 1);
+        assert_eq!(reference::flow(&mut bytes, 1, &base, &mut [0; 16]).accepted, 1);
     }
 }

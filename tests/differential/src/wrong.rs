@@ -178,6 +178,7 @@ impl Engine for Wrong {
     fn flow(
         &self,
         table: &mut [u8],
+        edition: u64,
         flow: &[u8],
         outcomes: &mut [u8],
         place: &mut u64,
@@ -188,7 +189,7 @@ impl Engine for Wrong {
     ) -> u64 {
         let before = table.to_vec();
         let mut scratch = self.mended(table);
-        let code = Reference.flow(&mut scratch, flow, outcomes, place, orders, accepted, cause, steps);
+        let code = Reference.flow(&mut scratch, edition, flow, outcomes, place, orders, accepted, cause, steps);
         if code == 0 {
             table.copy_from_slice(&scratch);
         }
@@ -196,7 +197,7 @@ impl Engine for Wrong {
             Fault::CodesAsIntegers if matches!(code, 0 | 7) => {
                 table.copy_from_slice(&before);
                 let renamed = self.renamed(table, flow).unwrap_or_default();
-                return Reference.flow(table, &renamed, outcomes, place, orders, accepted, cause, steps);
+                return Reference.flow(table, edition, &renamed, outcomes, place, orders, accepted, cause, steps);
             }
             Fault::StaleAmounts if code == 0 => {
                 let slots = HEAD + ENTRY * number_at(table, 0, 2) as usize;
@@ -240,14 +241,14 @@ impl Engine for Wrong {
                     at.map_or(0, |at| at + tag.len())
                 });
                 let cut = [&good[..ends[0].max(ends[1])], b"</flusso_ordinativi>"].concat();
-                reference::flow(table, &cut, &mut [0; 1024]);
+                reference::flow(table, edition, &cut, &mut [0; 1024]);
             }
             Fault::LongCalledMisformed if *cause == 2 => *cause = 3,
             Fault::EmptySlotCounted if code == 0 => {
                 *steps += outcomes.chunks(16).take(*orders as usize).filter(|outcome| outcome[1..3] == [1, 0]).count() as u64
             }
             Fault::OutcomesCleared if code == 0 => outcomes[16 * *orders as usize..].fill(0),
-            Fault::PlaceWithoutMark if code == 5 && markup::read(flow).is_some() && flow.starts_with(b"\xEF\xBB\xBF") => {
+            Fault::PlaceWithoutMark if code == 5 && markup::read(flow, true).is_some() && flow.starts_with(b"\xEF\xBB\xBF") => {
                 *place -= 3
             }
             _ => {}

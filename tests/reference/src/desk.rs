@@ -2,7 +2,7 @@
 
 use crate::fields::{self, FlowOrder, Operation};
 use crate::table::{Body, Form, Kind, Line, Order, State, Table, number_at};
-use crate::{LONGEST_FLOW, MOST_ORDERS, OUTCOME, markup, structure, target};
+use crate::{Edition, LONGEST_FLOW, MOST_ORDERS, OUTCOME, markup, structure, target};
 
 /// The answer to a flow.
 #[derive(Clone, Copy, Debug, Default, PartialEq, Eq)]
@@ -122,9 +122,9 @@ pub fn request(abi: &[u8; 5], bodies: &[(&[u8], u16)]) -> Vec<u8> {
     request
 }
 
-/// Takes a flow: serves its orders one after another and writes 16 outcome bytes for each.
-pub fn flow(table: &mut [u8], flow: &[u8], outcomes: &mut [u8]) -> FlowAnswer {
-    match taken(table, flow, outcomes.len()) {
+/// Takes a flow of the edition of that number: serves its orders one after another and writes 16 outcome bytes for each.
+pub fn flow(table: &mut [u8], edition: u64, flow: &[u8], outcomes: &mut [u8]) -> FlowAnswer {
+    match taken(table, edition, flow, outcomes.len()) {
         Err(Refused { code, place, cause }) => FlowAnswer { code, place: place as u64, cause, ..FlowAnswer::default() },
         Ok((changed, written, steps)) => {
             table.copy_from_slice(&changed.encode());
@@ -148,14 +148,15 @@ fn refused(code: u64) -> Refused {
 }
 
 /// The table after the flow, the outcome bytes and the steps of the searches, or the refusal.
-fn taken(table: &[u8], flow: &[u8], room: usize) -> Result<(Table, Vec<u8>, u64), Refused> {
+fn taken(table: &[u8], edition: u64, flow: &[u8], room: usize) -> Result<(Table, Vec<u8>, u64), Refused> {
     let mut table = Table::decode(table).ok_or(refused(1))?;
+    let edition = Edition::numbered(edition).ok_or(refused(23))?;
     if flow.len() > LONGEST_FLOW {
         return Err(refused(2));
     }
-    let root = markup::read(flow).ok_or(refused(3))?;
-    let raw = structure::read(&root).ok_or(refused(4))?;
-    let flow = fields::read(&raw).map_err(|broken| Refused { code: 5, place: broken.at, cause: broken.cause as u64 })?;
+    let root = markup::read(flow, edition == Edition::Opi).ok_or(refused(3))?;
+    let raw = structure::read(&root, edition).ok_or(refused(4))?;
+    let flow = fields::read(&raw, edition).map_err(|broken| Refused { code: 5, place: broken.at, cause: broken.cause as u64 })?;
     if flow.abi != table.abi {
         return Err(refused(6));
     }

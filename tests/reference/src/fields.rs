@@ -1,5 +1,6 @@
 //! The fields: the exact form of each, and the values they stand for.
 
+use crate::Edition;
 use crate::markup::replaced;
 use crate::structure::{Field, RawFlow, RawLine, RawOrder};
 use crate::table::{Date, Kind};
@@ -74,6 +75,7 @@ const YEAR: &[&[u8]] = &[b"0000"];
 pub(crate) const NUMBER: &[&[u8]] = &[b"0", b"00", b"000", b"0000", b"00000", b"000000", b"0000000"];
 const DATE: &[&[u8]] = &[b"0000-00-00"];
 const DATE_AND_TIME: &[&[u8]] = &[b"0000-00-00T00:00:00"];
+const DATE_AND_ZONE: &[&[u8]] = &[b"0000-00-00T00:00:00Z", b"0000-00-00T00:00:00+00:00", b"0000-00-00T00:00:00-00:00"];
 
 /// The cause of a text that breaks.
 pub(crate) fn cause(text: &[u8], longest: usize, shapes: &[&[u8]]) -> Cause {
@@ -89,11 +91,14 @@ pub(crate) fn cause(text: &[u8], longest: usize, shapes: &[&[u8]]) -> Cause {
     }
 }
 
-/// Reads every field of the flow, in the order they stand in; `Err` has the first that breaks.
-pub fn read(raw: &RawFlow) -> Result<Flow, Broken> {
+/// Reads every field of a flow of an edition, in the order they stand in; `Err` has the first that breaks.
+pub fn read(raw: &RawFlow, edition: Edition) -> Result<Flow, Broken> {
     let abi = read_field(&raw.abi, abi, 5, &[])?;
     read_field(&raw.identifier, identifier, 35, &[])?;
-    read_field(&raw.created, date_and_time, 19, DATE_AND_TIME)?;
+    match edition {
+        Edition::Oil => read_field(&raw.created, date_and_time, 19, DATE_AND_TIME)?,
+        Edition::Opi => read_field(&raw.created, date_and_zone, 25, DATE_AND_ZONE)?,
+    }
     let body = read_field(&raw.body, body_code, 16, &[])?;
     let esercizio = read_field(&raw.esercizio, esercizio, 4, YEAR)?;
     let orders = raw.orders.iter().map(read_order).collect::<Result<_, _>>()?;
@@ -150,6 +155,20 @@ pub fn date_and_time(text: &[u8]) -> Option<()> {
     let [hours, minutes, seconds] = parts.try_into().ok()?;
     let below = |text, bound| digits(text, 2, 2).is_some_and(|value| value < bound);
     (below(hours, 24) && below(minutes, 60) && below(seconds, 60)).then_some(())
+}
+
+/// The same with a zone: `Z`, or a sign, hours and minutes of 00:00 to 23:59.
+pub fn date_and_zone(text: &[u8]) -> Option<()> {
+    if let Some(time) = text.strip_suffix(b"Z") {
+        return date_and_time(time);
+    }
+    let (time, zone) = text.split_at_checked(19)?;
+    let [b'+' | b'-', hours @ .., b':', tens, ones] = zone else {
+        return None;
+    };
+    let stands = digits(hours, 2, 2)? < 24 && digits(&[*tens, *ones], 2, 2)? < 60;
+    stands.then_some(())?;
+    date_and_time(time)
 }
 
 /// `codice_ente_BT`: 1 to 16 letters and digits.

@@ -25,6 +25,22 @@ pub mod target;
 pub use desk::{FlowAnswer, Notice, NoticeAnswer, Totals, convert, execute, flow, open, request, reverse, totals};
 pub use table::{Body, Date, Form, Kind, Line, Order, State, Table};
 
+/// The editions of a flow.
+#[derive(Clone, Copy, Debug, PartialEq, Eq)]
+pub enum Edition {
+    /// Edition 1, document 01's.
+    Oil = 1,
+    /// Edition 2: the header of OPI 1.2.2, an Id on the root, a zone.
+    Opi = 2,
+}
+
+impl Edition {
+    /// The edition of that number, if there is one.
+    pub fn numbered(number: u64) -> Option<Edition> {
+        [Edition::Oil, Edition::Opi].into_iter().find(|edition| *edition as u64 == number)
+    }
+}
+
 /// The most bytes a flow has.
 pub const LONGEST_FLOW: usize = 32_768;
 

@@ -56,16 +56,19 @@ impl<'f> Open<'f> {
     }
 }
 
-/// Reads the flow's markup; `None` when it breaks. The length of the flow is not looked at here.
+/// Reads the flow's markup; `None` when it breaks. An Id may stand on the root where `ids` says so. The length of the flow is not looked at
+/// here.
 ///
 /// ```
 /// use reference::markup::{read, Content};
 ///
-/// let root = read(b"<a><b>x &lt; y</b> <c></c></a>").unwrap();
+/// let root = read(b"<a><b>x &lt; y</b> <c></c></a>", false).unwrap();
 /// assert!(matches!(&root.content, Content::Elements(inner) if inner.len() == 2));
-/// assert!(read(b"<a>text <b></b></a>").is_none());
+/// assert!(read(b"<a>text <b></b></a>", false).is_none());
+/// assert!(read(b"<a Id=\"1\">text</a>", false).is_none());
+/// assert!(read(b"<a Id=\"1\">text</a>", true).is_some());
 /// ```
-pub fn read(flow: &[u8]) -> Option<Element<'_>> {
+pub fn read(flow: &[u8], ids: bool) -> Option<Element<'_>> {
     let mut open: Vec<Open> = Vec::new();
     let mut root = None;
     let mut at = after_prologue(flow);
@@ -84,10 +87,11 @@ pub fn read(flow: &[u8]) -> Option<Element<'_>> {
                     None => root = Some(element),
                 }
             } else {
-                if !is_name(inside) || root.is_some() || open.len() == DEEPEST {
+                let name = if ids && open.is_empty() { without_id(inside)? } else { inside };
+                if !is_name(name) || root.is_some() || open.len() == DEEPEST {
                     return None;
                 }
-                open.push(Open { name: inside, at, children: Vec::new(), texts: Vec::new() });
+                open.push(Open { name, at, children: Vec::new(), texts: Vec::new() });
             }
             at = end + 1;
         } else {
@@ -103,6 +107,17 @@ pub fn read(flow: &[u8]) -> Option<Element<'_>> {
         }
     }
     if open.is_empty() { root } else { None }
+}
+
+/// A root's name, without the Id that may stand after it: one space, `Id="`, 1 to 64 letters, digits or underscores, `"`.
+fn without_id(inside: &[u8]) -> Option<&[u8]> {
+    let Some(space) = inside.iter().position(|&byte| byte == b' ') else {
+        return Some(inside);
+    };
+    let (name, attribute) = inside.split_at(space);
+    let id = attribute.strip_prefix(b" Id=\"")?.strip_suffix(b"\"")?;
+    let stands = (1..=64).contains(&id.len()) && id.iter().all(|&byte| byte.is_ascii_alphanumeric() || byte == b'_');
+    stands.then_some(name)
 }
 
 /// The place after the mark and the declaration, where they stand.
@@ -164,7 +179,7 @@ mod tests {
     use super::*;
 
     fn stands(flow: impl AsRef<[u8]>) -> bool {
-        read(flow.as_ref()).is_some()
+        read(flow.as_ref(), false).is_some()
     }
 
     fn nested(depth: usize) -> String {
@@ -242,7 +257,7 @@ mod tests {
         {
             assert!(!stands(mixed), "{mixed}");
         }
-        let white = read(b"<a> </a>").unwrap();
+        let white = read(b"<a> </a>", false).unwrap();
         assert_eq!(white.content, Content::Text(b" "));
     }
 

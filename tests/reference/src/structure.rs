@@ -4,7 +4,7 @@
 
 use crate::markup::{Content, Element};
 use crate::table::Kind;
-use crate::{MOST_LINES, MOST_ORDERS};
+use crate::{Edition, MOST_LINES, MOST_ORDERS};
 
 /// The text of a field and the place of its element's `<`.
 #[derive(Clone, Copy, Debug, PartialEq, Eq)]
@@ -60,19 +60,30 @@ pub struct RawLine<'f> {
     pub name: Field<'f>,
 }
 
-/// Reads the flow's structure from the root element; `None` when it breaks.
-pub fn read<'f>(root: &Element<'f>) -> Option<RawFlow<'f>> {
+/// Reads the structure of a flow of an edition from the root element; `None` when it breaks.
+pub fn read<'f>(root: &Element<'f>, edition: Edition) -> Option<RawFlow<'f>> {
     if root.name != b"flusso_ordinativi" {
         return None;
     }
-    let once = ["codice_ABI_BT", "identificativo_flusso", "data_ora_creazione_flusso", "codice_ente_BT", "esercizio"];
-    let (header, orders) = children(root, once, &["mandato", "reversale"], MOST_ORDERS)?;
+    let four = ["codice_ABI_BT", "identificativo_flusso", "data_ora_creazione_flusso", "codice_ente_BT"];
+    let of_orders = ["mandato", "reversale"];
+    let (header, esercizio, orders) = match edition {
+        Edition::Oil => {
+            let ([a, b, c, d, esercizio], orders) =
+                children(root, [four[0], four[1], four[2], four[3], "esercizio"], &of_orders, MOST_ORDERS)?;
+            ([a, b, c, d], esercizio, orders)
+        }
+        Edition::Opi => {
+            let ([testata, esercizio], orders) = children(root, ["testata_flusso", "esercizio"], &of_orders, MOST_ORDERS)?;
+            (children(testata, four, &[], 0)?.0, esercizio, orders)
+        }
+    };
     Some(RawFlow {
         abi: field(header[0])?,
         identifier: field(header[1])?,
         created: field(header[2])?,
         body: field(header[3])?,
-        esercizio: field(header[4])?,
+        esercizio: field(esercizio)?,
         orders: orders.into_iter().map(order).collect::<Option<_>>()?,
     })
 }

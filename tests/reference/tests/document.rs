@@ -55,7 +55,7 @@ fn fresh() -> Vec<u8> {
 /// Sends a flow that must be taken; the outcome codes.
 fn codes(table: &mut [u8], text: &str) -> Vec<u8> {
     let mut outcomes = [0; 1024];
-    let answer = flow(table, text.as_bytes(), &mut outcomes);
+    let answer = flow(table, 1, text.as_bytes(), &mut outcomes);
     assert_eq!((answer.code, answer.place), (0, 0));
     let codes: Vec<u8> = outcomes.chunks(16).take(answer.orders as usize).map(|outcome| outcome[2]).collect();
     assert_eq!(codes.iter().filter(|&&code| code == 0).count() as u64, answer.accepted);
@@ -66,7 +66,7 @@ fn codes(table: &mut [u8], text: &str) -> Vec<u8> {
 fn refusal(table: &[u8], text: &[u8], room: usize) -> (u64, u64) {
     let mut after = table.to_vec();
     let mut outcomes = vec![0xEE; room];
-    let answer = flow(&mut after, text, &mut outcomes);
+    let answer = flow(&mut after, 1, text, &mut outcomes);
     assert_ne!(answer.code, 0);
     assert_eq!((answer.orders, answer.accepted, answer.steps), (0, 0, 0));
     assert!(after == table && outcomes.iter().all(|&byte| byte == 0xEE));
@@ -90,7 +90,7 @@ fn the_run_whole() {
         ],
     );
     let mut outcomes = [0xEE; 40];
-    let answer = flow(&mut table, text.as_bytes(), &mut outcomes);
+    let answer = flow(&mut table, 1, text.as_bytes(), &mut outcomes);
     assert_eq!(answer, FlowAnswer { orders: 2, accepted: 1, ..FlowAnswer::default() });
     assert_eq!(&outcomes[..16], b"\x01\x01\0\x02\0\0\0\x0C\0\0\0\0\0\0\x3A\x98");
     assert_eq!(&outcomes[16..32], b"\x02\x01\x0D\x01\0\0\0\x0C\0\0\0\0\0\0\x07\xD0");

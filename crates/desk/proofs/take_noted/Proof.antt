@@ -1,5 +1,5 @@
 use mathlib.Core.Path.{refl, sym, _∙_}
-use Rattle.desk.proofs.Laws.{flow-read}
+use Rattle.desk.proofs.Laws.{verdict-read}
 use borrow.Author.Needs.{needs}
 use Rattle.desk.proofs.take_noted.Statement.{statement}
 use Rattle.desk.proofs.take_noted.Tie as tie
@@ -30,25 +30,19 @@ same-length : tie.Need-same-length
 same-length c = search needs
 
 returns : tie.Need-returns
-returns c =
-    let a = c .before .before .before .before .before .before .before .before .before .before .args in
-    flow-read (a .t .now) (a .f .now) (a .out .now) (c .before .before .before .before .before .before .before .before .before .before .pre .0) (c .before .before .before .before .before .before .before .before .before .before .pre .1) (sym (c .before .before .before .before .verdict-of .ensures .0) ∙ c .enum-told .given .1) (refl, refl, refl)
+returns c = verdict-read (c .before .before .before .before .before .before .before .before .before .before .args .e) (c .before .before .before .before .before .before .before .before .before .before .args .t .now) (c .before .before .before .before .before .before .before .before .before .before .args .f .now) (c .before .before .before .before .before .before .before .before .before .before .args .out .now) (sym (c .before .before .before .before .verdict-of .ensures .0) ∙ c .enum-told .given .1) (refl, refl, refl)
 
 same-length-2 : tie.Need-same-length-2
 same-length-2 c = search needs
 
 returns-2 : tie.Need-returns-2
-returns-2 c =
-    let a = c .before .before .before .before .before .before .before .before .before .before .args in
-    flow-read (a .t .now) (a .f .now) (a .out .now) (c .before .before .before .before .before .before .before .before .before .before .pre .0) (c .before .before .before .before .before .before .before .before .before .before .pre .1) (sym (c .before .before .before .before .verdict-of .ensures .0) ∙ c .enum-told2 .given .1) (refl, refl, refl)
+returns-2 c = verdict-read (c .before .before .before .before .before .before .before .before .before .before .args .e) (c .before .before .before .before .before .before .before .before .before .before .args .t .now) (c .before .before .before .before .before .before .before .before .before .before .args .f .now) (c .before .before .before .before .before .before .before .before .before .before .args .out .now) (sym (c .before .before .before .before .verdict-of .ensures .0) ∙ c .enum-told2 .given .1) (refl, refl, refl)
 
 same-length-3 : tie.Need-same-length-3
 same-length-3 c = search needs
 
 returns-3 : tie.Need-returns-3
-returns-3 c =
-    let a = c .before .before .before .before .before .before .before .before .before .before .before .args in
-    flow-read (a .t .now) (a .f .now) (a .out .now) (c .before .before .before .before .before .before .before .before .before .before .before .pre .0) (c .before .before .before .before .before .before .before .before .before .before .before .pre .1) (sym (c .before .before .before .before .before .verdict-of .ensures .0) ∙ c .before .p .given .1) (refl, refl, refl)
+returns-3 c = verdict-read (c .before .before .before .before .before .before .before .before .before .before .before .args .e) (c .before .before .before .before .before .before .before .before .before .before .before .args .t .now) (c .before .before .before .before .before .before .before .before .before .before .before .args .f .now) (c .before .before .before .before .before .before .before .before .before .before .before .args .out .now) (sym (c .before .before .before .before .before .verdict-of .ensures .0) ∙ c .before .p .given .1) (refl, refl, refl)
 
 same-length-4 : tie.Need-same-length-4
 same-length-4 c = search needs
@@ -60,9 +54,7 @@ same-length-6 : tie.Need-same-length-6
 same-length-6 c = search needs
 
 returns-4 : tie.Need-returns-4
-returns-4 c =
-    let a = c .before .before .before .before .before .before .before .before .before .before .before .before .before .before .before .before .before .before .before .args in
-    flow-read (a .t .now) (a .f .now) (a .out .now) (c .before .before .before .before .before .before .before .before .before .before .before .before .before .before .before .before .before .before .before .pre .0) (c .before .before .before .before .before .before .before .before .before .before .before .before .before .before .before .before .before .before .before .pre .1) (sym (c .before .before .before .before .before .before .before .before .before .before .before .before .before .verdict-of .ensures .0) ∙ c .before .before .before .before .before .before .before .before .before .at .given .1) (c .before .before .before .before .for-bank .ensures)
+returns-4 c = verdict-read (c .before .before .before .before .before .before .before .before .before .before .before .before .before .before .before .before .before .before .before .args .e) (c .before .before .before .before .before .before .before .before .before .before .before .before .before .before .before .before .before .before .before .args .t .now) (c .before .before .before .before .before .before .before .before .before .before .before .before .before .before .before .before .before .before .before .args .f .now) (c .before .before .before .before .before .before .before .before .before .before .before .before .before .before .before .before .before .before .before .args .out .now) (sym (c .before .before .before .before .before .before .before .before .before .before .before .before .before .verdict-of .ensures .0) ∙ c .before .before .before .before .before .before .before .before .before .at .given .1) (c .before .before .before .before .for-bank .ensures)
 
 pub take-noted-spec : {M : Type 1} → statement M
 take-noted-spec =

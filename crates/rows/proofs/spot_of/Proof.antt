@@ -80,6 +80,18 @@ enum-told-13 c = search needs
 errori-mandati-spot-requires : tie.Need-errori-mandati-spot-requires
 errori-mandati-spot-requires c κs = search needs
 
+enum-told-14 : tie.Need-enum-told-14
+enum-told-14 c = search needs
+
+opi-spot-requires : tie.Need-opi-spot-requires
+opi-spot-requires c κs = search needs
+
+enum-told-15 : tie.Need-enum-told-15
+enum-told-15 c = search needs
+
+testata-flusso-spot-requires : tie.Need-testata-flusso-spot-requires
+testata-flusso-spot-requires c κs = search needs
+
 returns : tie.Need-returns
 returns c = rw (c .before .enum-told .given .1) (c .flusso-spot .ensures)
 
@@ -119,6 +131,12 @@ returns-12 c = rw (c .before .enum-told12 .given .1) (c .errori-reversali-spot .
 returns-13 : tie.Need-returns-13
 returns-13 c = rw (c .before .enum-told13 .given .1) (c .errori-mandati-spot .ensures)
 
+returns-14 : tie.Need-returns-14
+returns-14 c = rw (c .before .enum-told14 .given .1) (c .opi-spot .ensures)
+
+returns-15 : tie.Need-returns-15
+returns-15 c = rw (c .before .enum-told15 .given .1) (c .testata-flusso-spot .ensures)
+
 pub spot-of-spec : {M : Type 1} → statement M
 spot-of-spec =
     tie.close
@@ -149,6 +167,10 @@ spot-of-spec =
     errori-reversali-spot-requires
     enum-told-13
     errori-mandati-spot-requires
+    enum-told-14
+    opi-spot-requires
+    enum-told-15
+    testata-flusso-spot-requires
     returns
     returns-2
     returns-3
@@ -161,4 +183,6 @@ spot-of-spec =
     returns-10
     returns-11
     returns-12
-    returns-13)
+    returns-13
+    returns-14
+    returns-15)

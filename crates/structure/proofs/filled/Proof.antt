@@ -122,6 +122,24 @@ slice-aggregate-filled-in-13 c = search needs
 filled-in-requires-13 : tie.Need-filled-in-requires-13
 filled-in-requires-13 c κs = search needs
 
+enum-told-14 : tie.Need-enum-told-14
+enum-told-14 c = search needs
+
+slice-aggregate-filled-in-14 : tie.Need-slice-aggregate-filled-in-14
+slice-aggregate-filled-in-14 c = search needs
+
+filled-in-requires-14 : tie.Need-filled-in-requires-14
+filled-in-requires-14 c κs = search needs
+
+enum-told-15 : tie.Need-enum-told-15
+enum-told-15 c = search needs
+
+slice-aggregate-filled-in-15 : tie.Need-slice-aggregate-filled-in-15
+slice-aggregate-filled-in-15 c = search needs
+
+filled-in-requires-15 : tie.Need-filled-in-requires-15
+filled-in-requires-15 c κs = search needs
+
 returns : tie.Need-returns
 returns c = rw (c .before .before .enum-told .given .1) (c .filled-in .ensures)
 
@@ -160,6 +178,12 @@ returns-12 c = rw (c .before .before .enum-told12 .given .1) (c .filled-in12 .en
 
 returns-13 : tie.Need-returns-13
 returns-13 c = rw (c .before .before .enum-told13 .given .1) (c .filled-in13 .ensures)
+
+returns-14 : tie.Need-returns-14
+returns-14 c = rw (c .before .before .enum-told14 .given .1) (c .filled-in14 .ensures)
+
+returns-15 : tie.Need-returns-15
+returns-15 c = rw (c .before .before .enum-told15 .given .1) (c .filled-in15 .ensures)
 
 pub filled-spec : {M : Type 1} → statement M
 filled-spec =
@@ -204,6 +228,12 @@ filled-spec =
     enum-told-13
     slice-aggregate-filled-in-13
     filled-in-requires-13
+    enum-told-14
+    slice-aggregate-filled-in-14
+    filled-in-requires-14
+    enum-told-15
+    slice-aggregate-filled-in-15
+    filled-in-requires-15
     returns
     returns-2
     returns-3
@@ -216,4 +246,6 @@ filled-spec =
     returns-10
     returns-11
     returns-12
-    returns-13)
+    returns-13
+    returns-14
+    returns-15)

@@ -4,10 +4,10 @@ use mathlib.Core.Path.{_≡_, refl, sym, _∙_}
 use native.Mathlib.Omega.{arith}
 use lib.ListN.{length, length-set}
 use lib.Seq.{length-take-le}
-use Rattle.cases_flow.proofs.append.Statement.{statement}
-use Rattle.cases_flow.proofs.append.Tie as tie
-use Rattle.cases_flow.proofs.append.Reads as reads
-use Rattle.cases_flow.proofs.append.Lts as lts
+use Rattle.splice.proofs.append.Statement.{statement}
+use Rattle.splice.proofs.append.Tie as tie
+use Rattle.splice.proofs.append.Reads as reads
+use Rattle.splice.proofs.append.Lts as lts
 
 abbrev Inv-loop : tie.InvT-loop
 Inv-loop out₀ n s a e i₀ m₀ out i m = (a ≤ i) × (i ≤ e) × (m ≤ length out) × (length out ≡ length out₀)

@@ -2,11 +2,11 @@ use borrow.Author.Needs.{needs}
 use Prim.Native.Nat.{_≤_, _-_}
 use native.Mathlib.Omega.{arith}
 use lib.ListN.{length}
-use Rattle.cases_flow.proofs.place_of.Statement.{statement}
-use Rattle.cases_flow.proofs.place_of.Tie as tie
-use Rattle.cases_flow.proofs.place_of.Reads as reads
-use Rattle.cases_flow.proofs.place_of.Lts as lts
-use Rattle.cases_flow.proofs.one_if.Reads as one-if-reads
+use Rattle.splice.proofs.place_of.Statement.{statement}
+use Rattle.splice.proofs.place_of.Tie as tie
+use Rattle.splice.proofs.place_of.Reads as reads
+use Rattle.splice.proofs.place_of.Lts as lts
+use Rattle.splice.proofs.one_if.Reads as one-if-reads
 use Rattle.scan.proofs.has.Reads as has-reads
 
 abbrev Inv-loop : tie.InvT-loop
