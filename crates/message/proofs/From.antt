@@ -18,9 +18,10 @@ use Rattle.fields.specs.declared.Form.the-variants.{CodiceAbi, Identificativo, 
 use Rattle.rows.specs.declared.Parent.the-variants.{FlussoOrdinativi}
 use Rattle.structure.specs.Structure.{levels}
 use Rattle.order.specs.Ordinativo.{Ordinativo}
-use Rattle.orders.specs.Orders.{Header}
+use Rattle.editions.specs.declared.Edition.the-variants.{Oil}
+use Rattle.header.specs.Header.{Header}
 use Rattle.flow.specs.declared.Verdict.the-variants as verdict
-use Rattle.flow.specs.Flow.{flusso, verdictOf, headerOf, flowOrders}
+use Rattle.flow.specs.Flow.{flowKind, verdictOf, headerOf, flowOrders}
 use Rattle.flow.proofs.Laws.{flow-stood}
 use Rattle.flow.proofs.Values.{OrderOk, orders-ok, header-ok}
 use Rattle.flow.proofs.Values as flow
@@ -80,17 +81,17 @@ module _ (id : List ℕ) (year : ℕ) (time : List ℕ) (f : TextOk Identificati
       go false x false z r i = let u = eqb-false (q .kind) 2 x in let v = eqb-false (q .kind) 1 z in let lo = r .0 in let hi = r .1 in absurd (omega (arith, u, v))
 
 -- THE HEADER'S TEXTS are those of the flow's tree
-module _ (s : List ℕ) (t : Tree) (at : ℕ) (d : Reads s t) (v : verdictOf s ≡ verdict.Stands at) where
+module _ (s : List ℕ) (t : Tree) (at : ℕ) (d : Reads s t) (v : verdictOf Oil s ≡ verdict.Stands at) where
   flow-sound : Sound 11 4 FlussoOrdinativi (kidsIn (heldOf t))
   flow-sound =
-      let w = flow-stands s t at d v in
+      let w = flow-stands Oil s t at d v in
       let g : Good 12 t = rw (d .1) at (flow-good (d .0)) in
       record { right = right-root FlussoOrdinativi levels (omega arith) "flusso_ordinativi" t (w .0) (w .1); goods = good-kids g }
 
   flow-id : identificativoOf s at ≡ textNamed "identificativo_flusso" (kidsIn (heldOf t))
   flow-id =
       let r = root-of s t d in
-      let w = flow-stands s t at d v in
+      let w = flow-stands Oil s t at d v in
       let f = right-root FlussoOrdinativi levels (omega arith) "flusso_ordinativi" t (w .0) (w .1) .fits in
       let z : at ≡ contentPlace (d .0) = sym (w .2) in
       let k = r .kids in
@@ -100,18 +101,18 @@ module _ (s : List ℕ) (t : Tree) (at : ℕ) (d : Reads s t) (v : verdictOf s �
       rw z (b ∙ ap (textNamed "identificativo_flusso") k)
 
   -- WRITTEN FROM A FLOW THAT STANDS: it may be written
-  tree-ok : (o : List ℕ) (c : Caller) → outcomesFit (flowOrders s at) o ≡ true → CallerOk c → MessageOk (flowMessage s at o c)
+  tree-ok : (o : List ℕ) (c : Caller) → outcomesFit (flowOrders Oil s at) o ≡ true → CallerOk c → MessageOk (flowMessage s at o c)
   unfolding textIs hasAt startsWith
   tree-ok o c e k =
-      let b = book-tree s t at d v .0 in
-      let h = header-ok s at (flow-stood s at v) in
-      let qs = flowOrders s at in
-      let q = orders-ok s at (flow-stood s at v) in
-      let y = ranged 2000 2099 (headerOf s at .esercizio) (h .0 .esercizio .0) (h .0 .esercizio .1) in
+      let b = book-tree Oil s t at d v .0 in
+      let h = header-ok Oil s at (flow-stood Oil s at v) in
+      let qs = flowOrders Oil s at in
+      let q = orders-ok Oil s at (flow-stood Oil s at v) in
+      let y = ranged 2000 2099 (headerOf Oil s at .esercizio) (h .0 .esercizio .0) (h .0 .esercizio .1) in
       let f : TextOk Identificativo (identificativoOf s at) = rw flow-id (text-there flow-sound {n = 1} {lo = 1} {hi = 1} (record { row = (_, refl); spot = refl }) refl) in
-      let abi : headerOf s at .abi ≡ textNamed "codice_ABI_BT" (kidsIn (heldOf t)) = ap (λ (x : Header). x .abi) b in
-      let ente : headerOf s at .ente ≡ textNamed "codice_ente_BT" (kidsIn (heldOf t)) = ap (λ (x : Header). x .ente) b in
-      let l = entries-all (identificativoOf s at) (headerOf s at .esercizio) (c .outcome) f y (k .outcome) qs o q in
+      let abi : headerOf Oil s at .abi ≡ textNamed "codice_ABI_BT" (kidsIn (heldOf t)) = ap (λ (x : Header). x .abi) b in
+      let ente : headerOf Oil s at .ente ≡ textNamed "codice_ente_BT" (kidsIn (heldOf t)) = ap (λ (x : Header). x .ente) b in
+      let l = entries-all (identificativoOf s at) (headerOf Oil s at .esercizio) (c .outcome) f y (k .outcome) qs o q in
       record {
         abi = rw abi (text-there flow-sound {n = 0} {lo = 1} {hi = 1} {f = CodiceAbi} (record { row = (_, refl); spot = refl }) refl);
         created = k .created;
@@ -123,18 +124,18 @@ module _ (s : List ℕ) (t : Tree) (at : ℕ) (d : Reads s t) (v : verdictOf s �
         tramiteBT = k .tramiteBT;
         body = rw ente (text-there flow-sound {n = 3} {lo = 1} {hi = 1} {f = CodiceEnte} (record { row = (_, refl); spot = refl }) refl);
         flowBT = k .flowBT;
-        reversali = entries-ok (identificativoOf s at) (headerOf s at .esercizio) (c .outcome) f y (k .outcome) 2 qs o q e;
-        mandati = entries-ok (identificativoOf s at) (headerOf s at .esercizio) (c .outcome) f y (k .outcome) 1 qs o q e;
+        reversali = entries-ok (identificativoOf s at) (headerOf Oil s at .esercizio) (c .outcome) f y (k .outcome) 2 qs o q e;
+        mandati = entries-ok (identificativoOf s at) (headerOf Oil s at .esercizio) (c .outcome) f y (k .outcome) 1 qs o q e;
         count = rw l (ranged 1 64 (length qs) (h .1 .0) (h .1 .1));
       }
 
-pub written-ok : (s : List ℕ) (at : ℕ) → verdictOf s ≡ verdict.Stands at → (o : List ℕ) (c : Caller) → outcomesFit (flowOrders s at) o ≡ true → CallerOk c → MessageOk (flowMessage s at o c)
-written-ok s at v o c e k = go (document-answered flusso s)
+pub written-ok : (s : List ℕ) (at : ℕ) → verdictOf Oil s ≡ verdict.Stands at → (o : List ℕ) (c : Caller) → outcomesFit (flowOrders Oil s at) o ≡ true → CallerOk c → MessageOk (flowMessage s at o c)
+written-ok s at v o c e k = go (document-answered (flowKind Oil) s)
   where
-    go : DocumentAnswered flusso s → MessageOk (flowMessage s at o c)
+    go : DocumentAnswered (flowKind Oil) s → MessageOk (flowMessage s at o c)
     go (no-tree n) = let b = n .breaks in let y : _≡_ {A = ℕ} 0 1 = cc in absurd (omega arith)
     go (one-tree {t = t} n) = tree-ok s t at (n .derived) v o c e k
 
-pub from-read : (s : List ℕ) (at : ℕ) → verdictOf s ≡ verdict.Stands at → (o : List ℕ) (c : Caller) → outcomesFit (flowOrders s at) o ≡ true → CallerOk c
+pub from-read : (s : List ℕ) (at : ℕ) → verdictOf Oil s ≡ verdict.Stands at → (o : List ℕ) (c : Caller) → outcomesFit (flowOrders Oil s at) o ≡ true → CallerOk c
     → MessageOf (messageBytes (flowMessage s at o c)) (read (flowMessage s at o c))
 from-read s at v o c e k = read-written (flowMessage s at o c) (written-ok s at v o c e k)

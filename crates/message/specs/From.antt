@@ -13,7 +13,9 @@ use Rattle.codes.specs.Codes.{operationNumber}
 use Rattle.fields.specs.declared.Form.the-variants.{DataOraZona, Testo}
 use Rattle.record.specs.Slot.{mandatoKind, reversaleKind}
 use Rattle.order.specs.Ordinativo.{Ordinativo}
-use Rattle.orders.specs.Orders.{textIn, Header}
+use Rattle.orders.specs.Orders.{textIn}
+use Rattle.editions.specs.declared.Edition.the-variants.{Oil}
+use Rattle.header.specs.Header.{Header}
 use Rattle.flow.specs.Flow.{namedIn, headerOf, flowOrders}
 use Rattle.message.specs.Message.{Entry, Message, TextOk, isOutcome}
 
@@ -92,7 +94,7 @@ messageFrom h flow qs o c = record {
 
 -- of a flow that stands, its root's content beginning at `at`: identificativo_flusso is row 1 of its table
 abbrev pub identificativoOf : List ℕ → ℕ → List ℕ
-identificativoOf s at = textIn 1 s (namedIn s at)
+identificativoOf s at = textIn 1 s (namedIn Oil s at)
 
 abbrev pub flowMessage : List ℕ → ℕ → List ℕ → Caller → Message
-flowMessage s at o c = messageFrom (headerOf s at) (identificativoOf s at) (flowOrders s at) o c
+flowMessage s at o c = messageFrom (headerOf Oil s at) (identificativoOf s at) (flowOrders Oil s at) o c

@@ -21,7 +21,9 @@ use Rattle.structure.proofs.Laws.{fits-parts}
 use Rattle.order.specs.declared.Order.{Order}
 use Rattle.order.specs.Ordinativo.{Ordinativo, ordinativo}
 use Rattle.orders.specs.Shape.{Filled}
-use Rattle.orders.specs.Orders.{those, isOrder, orderOf, Header, headerIn}
+use Rattle.orders.specs.Orders.{those, isOrder, orderOf}
+use Rattle.editions.specs.declared.Edition.the-variants.{Oil}
+use Rattle.header.specs.Header.{Header, headerIn}
 use Rattle.orders.proofs.Laws.{Order-at, order-at, orders-end, standing}
 use Rattle.header.specs.declared.Heading.{Heading}
 use Rattle.header.specs.Heading.{rootRows, headingFrom}
@@ -169,8 +171,8 @@ module _ (abi body : List ℕ) (year : ℕ) (name f : List ℕ) (from : ℕ) (o 
   parts-wrote {s} {u} {r} w = subst (λ t. WroteTree s u 0 t r) (sym parts) w
 
   -- its texts are the flow's
-  module _ (a : abi ≡ headerIn f (keptFrom FlussoOrdinativi f from) .abi) (b : body ≡ headerIn f (keptFrom FlussoOrdinativi f from) .ente)
-      (y : year ≡ headerIn f (keptFrom FlussoOrdinativi f from) .esercizio) (n : name ≡ flowName f from) where
+  module _ (a : abi ≡ headerIn Oil f (keptFrom FlussoOrdinativi f from) .abi) (b : body ≡ headerIn Oil f (keptFrom FlussoOrdinativi f from) .ente)
+      (y : year ≡ headerIn Oil f (keptFrom FlussoOrdinativi f from) .esercizio) (n : name ≡ flowName f from) where
     own : messageFrom (headerWith abi body year) name (ordersFrom FlussoOrdinativi f from) o c ≡ messageAt f from o c
     own = rw (a, b, y, n)
 
@@ -193,34 +195,34 @@ module _ (m : List ℕ) (x : Message) {s u : List ℕ} {n : ℕ} (w : WroteTree 
       rw (le-leb (length (messageBytes x)) (length m) (omega arith)) (ap Written z, v .wrote .wrote (omega arith))
 
 -- THE HEADER'S VALUES where they stand
-module _ (s : List ℕ) (i : ℕ) (h : Heading) (e : h ≡ headingFrom s i) where
-  pub abi-part : part s (h .abi .from) (h .abi .to) ≡ headerIn s (keptFrom FlussoOrdinativi s i) .abi
-  abi-part = ap (λ (x : Heading). part s (x .abi .from) (x .abi .to)) e ∙ ap (λ (x : Header). x .abi) (heading-header s i)
+module _ (s : List ℕ) (i : ℕ) (h : Heading) (e : h ≡ headingFrom Oil s i) where
+  pub abi-part : part s (h .abi .from) (h .abi .to) ≡ headerIn Oil s (keptFrom FlussoOrdinativi s i) .abi
+  abi-part = ap (λ (x : Heading). part s (x .abi .from) (x .abi .to)) e ∙ ap (λ (x : Header). x .abi) (heading-header Oil s i)
 
-  pub ente-part : part s (h .ente .from) (h .ente .to) ≡ headerIn s (keptFrom FlussoOrdinativi s i) .ente
-  ente-part = ap (λ (x : Heading). part s (x .ente .from) (x .ente .to)) e ∙ ap (λ (x : Header). x .ente) (heading-header s i)
+  pub ente-part : part s (h .ente .from) (h .ente .to) ≡ headerIn Oil s (keptFrom FlussoOrdinativi s i) .ente
+  ente-part = ap (λ (x : Heading). part s (x .ente .from) (x .ente .to)) e ∙ ap (λ (x : Header). x .ente) (heading-header Oil s i)
 
-  pub year-part : h .esercizio ≡ headerIn s (keptFrom FlussoOrdinativi s i) .esercizio
-  year-part = ap (λ (x : Heading). x .esercizio) e ∙ ap (λ (x : Header). x .esercizio) (heading-header s i)
+  pub year-part : h .esercizio ≡ headerIn Oil s (keptFrom FlussoOrdinativi s i) .esercizio
+  year-part = ap (λ (x : Heading). x .esercizio) e ∙ ap (λ (x : Header). x .esercizio) (heading-header Oil s i)
 
   pub abi-within : (h .abi .from ≤ h .abi .to) × (h .abi .to ≤ length s)
-  abi-within = subst (λ (x : Heading). (x .abi .from ≤ x .abi .to) × (x .abi .to ≤ length s)) (sym e) (heading-within s i .abi)
+  abi-within = subst (λ (x : Heading). (x .abi .from ≤ x .abi .to) × (x .abi .to ≤ length s)) (sym e) (heading-within Oil s i .abi)
 
   pub ente-within : (h .ente .from ≤ h .ente .to) × (h .ente .to ≤ length s)
-  ente-within = subst (λ (x : Heading). (x .ente .from ≤ x .ente .to) × (x .ente .to ≤ length s)) (sym e) (heading-within s i .ente)
+  ente-within = subst (λ (x : Heading). (x .ente .from ≤ x .ente .to) × (x .ente .to ≤ length s)) (sym e) (heading-within Oil s i .ente)
 
 -- A FLOW THAT STANDS, its root's children from a place on
 module _ (f : List ℕ) (at from : ℕ) (z : from ≡ whiteAt f at) where
-  pub flow-rooted : (past : List ℕ) → verdictOf f ≡ Stands at → Noted f past → Rooted FlussoOrdinativi f past from
+  pub flow-rooted : (past : List ℕ) → verdictOf Oil f ≡ Stands at → Noted f past → Rooted FlussoOrdinativi f past from
   flow-rooted past e n =
-      let s = flow-stood f at e in
+      let s = flow-stood Oil f at e in
       subst (λ (x : ℕ). Rooted FlussoOrdinativi f past x) (sym z) (record { within = run-within isWhite f at (s .within); holds = standing FlussoOrdinativi f at (s .fits); noted = n })
 
-  pub flow-filled : verdictOf f ≡ Stands at → Filled rootRows 3 FlussoOrdinativi f 0 from
+  pub flow-filled : verdictOf Oil f ≡ Stands at → Filled (rootRows Oil) 3 FlussoOrdinativi f 0 from
   flow-filled e =
-      let s = flow-stood f at e in
+      let s = flow-stood Oil f at e in
       let b = fits-parts 3 FlussoOrdinativi f at (s .fits) in
-      subst (λ (x : ℕ). Filled rootRows 3 FlussoOrdinativi f 0 x) (sym z) (record { within = run-within isWhite f at (s .within); rows = b .0; each = b .1 })
+      subst (λ (x : ℕ). Filled (rootRows Oil) 3 FlussoOrdinativi f 0 x) (sym z) (record { within = run-within isWhite f at (s .within); rows = b .0; each = b .1 })
 
   module _ (m o : List ℕ) (c : Caller) {g : Bool} (eg : g ≡ outcomesFit (ordersFrom FlussoOrdinativi f from) o) where
     fit-is : outcomesFit (ordersFrom FlussoOrdinativi f (whiteAt f at)) o ≡ g
@@ -238,7 +240,7 @@ module _ (f : List ℕ) (at from : ℕ) (z : from ≡ whiteAt f at) where
         fit-written {a} {m′} w = rw (fit-is, y, ← eh, v) (subst (λ (x : ℕ). Leaves m (writes (messageAt f x o c)) a m′) z w)
 
         -- the longest message is far below what a count can hold
-        pub fit-room : verdictOf f ≡ Stands at → RoomOf 0 (messageTree (messageAt f from o c))
+        pub fit-room : verdictOf Oil f ≡ Stands at → RoomOf 0 (messageTree (messageAt f from o c))
         fit-room e =
             let k = written-ok f at e o c (fit-is ∙ y) (caller-told c .sound (sym eh ∙ v)) in
             let l = message-short (messageAt f (whiteAt f at) o c) k in
@@ -250,6 +252,6 @@ module _ (f o : List ℕ) (c : Caller) (m : List ℕ) where
   unfolding writeReads
   write-long l = rw (lt-leb (length f) maxFlow l) (refl, refl)
 
-  pub write-read : {v : Verdict} {a : WriteAnswer} {m′ : List ℕ} → length f ≤ maxFlow → verdictOf f ≡ v → Leaves m (writingOf f o c v) a m′ → WritePromise f o c m a m′
+  pub write-read : {v : Verdict} {a : WriteAnswer} {m′ : List ℕ} → length f ≤ maxFlow → verdictOf Oil f ≡ v → Leaves m (writingOf f o c v) a m′ → WritePromise f o c m a m′
   unfolding writeReads
   write-read l e w = rw (le-leb (length f) maxFlow l, e) w

@@ -11,7 +11,9 @@ use Rattle.rows.specs.declared.Kept.{Kept}
 use Rattle.rows.specs.Kept.{keptFrom}
 use Rattle.record.specs.Slot.{mandatoKind, reversaleKind}
 use Rattle.order.specs.Ordinativo.{Ordinativo, ordinativo}
-use Rattle.orders.specs.Orders.{textIn, orderOf, Header, headerIn}
+use Rattle.orders.specs.Orders.{textIn, orderOf}
+use Rattle.editions.specs.declared.Edition.the-variants.{Oil}
+use Rattle.header.specs.Header.{Header, headerIn}
 use Rattle.header.specs.declared.Span.{Span}
 use Rattle.header.specs.declared.Heading.{Heading}
 use Rattle.header.specs.Heading.{headingFrom}
@@ -57,14 +59,14 @@ abbrev pub flowName : List ℕ → ℕ → List ℕ
 flowName f from = textIn 1 f (keptFrom FlussoOrdinativi f from)
 
 abbrev pub messageAt : List ℕ → ℕ → List ℕ → Caller → Message
-messageAt f from o c = messageFrom (headerIn f (keptFrom FlussoOrdinativi f from)) (flowName f from) (ordersFrom FlussoOrdinativi f from) o c
+messageAt f from o c = messageFrom (headerIn Oil f (keptFrom FlussoOrdinativi f from)) (flowName f from) (ordersFrom FlussoOrdinativi f from) o c
 
 -- WHAT THE WRITER IS GIVEN: the orders from a place on with outcome bytes that fit, where the header's values and identificativo_flusso stand, and room
 -- for the whole
 pub record Written (f past : List ℕ) (from : ℕ) (h : Heading) (w : Span) (o : List ℕ) (c : Caller) : Type 0 where
   pub rooted : Rooted FlussoOrdinativi f past from
   pub fits : outcomesFit (ordersFrom FlussoOrdinativi f from) o ≡ true
-  pub heading : h ≡ headingFrom f from
+  pub heading : h ≡ headingFrom Oil f from
   pub name : part f (w .from) (w .to) ≡ flowName f from
   pub within : (w .from ≤ w .to) × (w .to ≤ length f)
   pub room : RoomOf 0 (messageTree (messageAt f from o c))

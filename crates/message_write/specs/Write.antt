@@ -8,6 +8,7 @@ use lib.Dec.{leb}
 use Rattle.words.specs.Numbers.{put}
 use Rattle.flow.specs.declared.Verdict.{Verdict}
 use Rattle.flow.specs.declared.Verdict.the-variants.{MarkupBreaks, StructureBreaks, FieldBreaks, Stands}
+use Rattle.editions.specs.declared.Edition.the-variants.{Oil}
 use Rattle.flow.specs.Flow.{verdictOf, flowOrders}
 use Rattle.message.specs.Message.{Message}
 use Rattle.message.specs.Written.{messageBytes}
@@ -17,7 +18,7 @@ use Rattle.message_write.specs.declared.WriteAnswer.{WriteAnswer}
 use Rattle.message_write.specs.declared.WriteAnswer.the-variants.{TooLong, BrokenMarkup, BrokenStructure, BrokenField, Unfit, NoRoom, Written}
 use Rattle.message_write.specs.declared.WriteReply.{WriteReply}
 
--- A CALL: a noMessage, or a message to be written
+-- A CALL: refused, or a message to be written
 pub data Writing : Type 0 where
   refused : WriteAnswer → Writing
   writes : Message → Writing
@@ -28,21 +29,21 @@ abbrev pub writingOf : List ℕ → List ℕ → Caller → Verdict → Writing
 writingOf f o c (MarkupBreaks p) = refused BrokenMarkup
 writingOf f o c StructureBreaks = refused BrokenStructure
 writingOf f o c (FieldBreaks p w) = refused BrokenField
-writingOf f o c (Stands at) = cond (outcomesFit (flowOrders f at) o && callerOk c) (writes (flowMessage f at o c)) (refused Unfit)
+writingOf f o c (Stands at) = cond (outcomesFit (flowOrders Oil f at) o && callerOk c) (writes (flowMessage f at o c)) (refused Unfit)
 
 -- document 01: a flow has "At most 32,768 bytes"
 abbrev pub maxFlow : ℕ
 maxFlow = 32768
 
 unfoldable pub writeReads : List ℕ → List ℕ → Caller → Writing
-writeReads f o c = cond (leb (length f) maxFlow) (writingOf f o c (verdictOf f)) (refused TooLong)
+writeReads f o c = cond (leb (length f) maxFlow) (writingOf f o c (verdictOf Oil f)) (refused TooLong)
 
 -- the answer: "then 40 (the buffer is shorter than the message)"
 abbrev pub writeAnswer : ℕ → Writing → WriteAnswer
 writeAnswer room (refused a) = a
 writeAnswer room (writes m) = cond (leb (length (messageBytes m)) room) (Written (length (messageBytes m))) NoRoom
 
--- the buffer afterwards: a noMessage "leaves the buffer", and bytes past the message stay
+-- the buffer afterwards: a refusal "leaves the buffer", and bytes past the message stay
 abbrev pub writeBuffer : List ℕ → Writing → List ℕ
 writeBuffer b (refused a) = b
 writeBuffer b (writes m) = cond (leb (length (messageBytes m)) (length b)) (put b 0 (messageBytes m)) b
@@ -56,7 +57,7 @@ Leaves b w a b′ = (a ≡ writeAnswer (length b) w) × (b′ ≡ writeBuffer b 
 abbrev pub WritePromise : List ℕ → List ℕ → Caller → List ℕ → WriteAnswer → List ℕ → Type 0
 WritePromise f o c b a b′ = Leaves b (writeReads f o c) a b′
 
--- DOCUMENT 02'S NUMBERS of an answer: "The answer has code and length; a noMessage gives length 0"
+-- DOCUMENT 02'S NUMBERS of an answer: "The answer has code and length; a refusal gives length 0"
 abbrev noMessage : ℕ → WriteReply
 noMessage code = record { code = code; length = 0 }
 

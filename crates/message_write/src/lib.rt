@@ -1,5 +1,6 @@
 // The call that writes an outcome message, on any bytes at all: the flow is read, the outcome bytes and the caller's values are judged, the message's length
 // is counted by a run that writes nothing, and only then is it written.
+use editions::Edition;
 use flow::Verdict;
 use header::Heading;
 use header::Span;
@@ -16,6 +17,7 @@ ghost use Rattle.markup.specs.Noted.{Noted};
 ghost use Rattle.rows.specs.declared.Parent.the-variants.{FlussoOrdinativi};
 ghost use Rattle.orders.specs.Shape.{orderRows, Shaped, Filled};
 ghost use Rattle.orders.specs.Orders.{orderOf};
+ghost use Rattle.editions.specs.declared.Edition.the-variants.{Oil};
 ghost use Rattle.header.specs.Heading.{rootRows, headingFrom};
 ghost use Rattle.flow.specs.declared.Verdict.the-variants.{Stands};
 ghost use Rattle.flow.specs.Flow.{verdictOf};
@@ -221,7 +223,7 @@ fn framed(
 
 // Where identificativo_flusso stands.
 fn name_of(f: &[u8], from: usize, past: &[u32]) -> Span
-    requires { ⌜ Filled rootRows 3 FlussoOrdinativi (now f) 0 from × Noted (now f) (now past) ⌝ }
+    requires { ⌜ Filled (rootRows Oil) 3 FlussoOrdinativi (now f) 0 from × Noted (now f) (now past) ⌝ }
     ensures { λ r. ⌜ (part (now (f .entry)) (r .from) (r .to) ≡ flowName (now (f .entry)) from) × (r .from ≤ r .to) × (r .to ≤ length (now (f .entry))) ⌝ }
 {
     let a = orders::first_named(f, from, Parent::FlussoOrdinativi, past).child;
@@ -365,7 +367,7 @@ fn standing(
     bank: &[u8],
     flow: &[u8],
 ) -> WriteAnswer
-    requires { ⌜ (verdictOf (now f) ≡ Stands at) × Noted (now f) (now past) ⌝ }
+    requires { ⌜ (verdictOf Oil (now f) ≡ Stands at) × Noted (now f) (now past) ⌝ }
     ensures { λ r. ⌜ Leaves (now (m .entry)) (writingOf (now (f .entry)) (now (out .entry)) (callerBy (now (created .entry)) (now (outcome .entry)) (now (ente .entry)) (now (described .entry))
         (now (istat .entry)) (now (fiscal .entry)) (now (tramite .entry)) (now (bank .entry)) (now (flow .entry))) (Stands at)) r (now (m .exit)) ⌝ }
 {
@@ -386,7 +388,7 @@ fn standing(
     ) {
         return WriteAnswer::Unfit;
     }
-    let h = header::header_from(f, from, past);
+    let h = header::header_from(f, Edition::Oil, from, past);
     let w = name_of(f, from, past);
     counted(
         m,
@@ -428,7 +430,7 @@ fn write_noted(
     ensures { λ r. ⌜ WritePromise (now (f .entry)) (now (out .entry)) (callerBy (now (created .entry)) (now (outcome .entry)) (now (ente .entry)) (now (described .entry))
         (now (istat .entry)) (now (fiscal .entry)) (now (tramite .entry)) (now (bank .entry)) (now (flow .entry))) (now (m .entry)) r (now (m .exit)) ⌝ }
 {
-    match flow::verdict_of(f, past) {
+    match flow::verdict_of(f, Edition::Oil, past) {
         Verdict::MarkupBreaks(_) => WriteAnswer::BrokenMarkup,
         Verdict::StructureBreaks => WriteAnswer::BrokenStructure,
         Verdict::FieldBreaks(_, _) => WriteAnswer::BrokenField,
