@@ -14,9 +14,9 @@
 /* The longest buffer that is carried. The differential test's flows come to some 126,000 bytes, its tables to some 99,000. */
 #define LENT_MOST 1048576u
 
-enum function { OPEN, CONVERT, FLOW, EXECUTE, REVERSE, TOTALS, FIELD_AT, FIRST_TARGET_DAY, DAYS_BETWEEN, FUNCTIONS };
+enum function { OPEN, CONVERT, FLOW, EXECUTE, REVERSE, TOTALS, JOURNAL, FIELD_AT, FIRST_TARGET_DAY, DAYS_BETWEEN, FUNCTIONS };
 
-/* A call's buffers: the input is the request, the old table, the flow or the body's code; only a flow has outcomes. */
+/* A call's buffers: the input is the request, the old table, the flow, the body's code, or that and a journal; only a flow has outcomes. */
 enum buffer { TABLE, INPUT, OUTCOMES, BUFFERS };
 
 struct call {
@@ -31,7 +31,7 @@ struct answer {
 };
 
 static const char *const function_names[FUNCTIONS] = {"hondivole_open", "hondivole_convert", "hondivole_flow", "hondivole_execute",
-                                                      "hondivole_reverse", "hondivole_totals", "hondivole_field_at",
+                                                      "hondivole_reverse", "hondivole_totals", "hondivole_journal", "hondivole_field_at",
                                                       "hondivole_first_target_day", "hondivole_days_between"};
 
 #endif

@@ -46,7 +46,7 @@ pub use date::Date;
 pub use field::{Field, InWords, field_at};
 pub use flow::{FlowAnswer, Kind, Operation, OrderOutcome};
 pub use refusal::{Cause, Refusal};
-pub use table::{Notice, Table, Totals, request};
+pub use table::{Movement, Notice, Table, Totals, request};
 
 /// The outcome bytes of the most orders a flow can hold: 64 of 16 bytes.
 ///

@@ -128,6 +128,16 @@ pub enum Refusal {
     NoDateServed,
     /// 28: the date is no TARGET day.
     ClosingDay,
+    /// 29: a journal has over 4,096 or not whole movements.
+    MovementsWrong,
+    /// 30: a journal lists a line that is no executed one of the body.
+    NotAnExecutedLine,
+    /// 31: a journal lists a line with other cents.
+    OtherCents,
+    /// 32: a journal lists a line that it listed before.
+    ListedBefore,
+    /// 33: an executed line is missing in a journal.
+    LineMissing,
 }
 
 impl Refusal {
@@ -165,6 +175,11 @@ impl Refusal {
             Refusal::NotExecuted => 22,
             Refusal::NoDateServed => 27,
             Refusal::ClosingDay => 28,
+            Refusal::MovementsWrong => 29,
+            Refusal::NotAnExecutedLine => 30,
+            Refusal::OtherCents => 31,
+            Refusal::ListedBefore => 32,
+            Refusal::LineMissing => 33,
         }
     }
 
@@ -211,6 +226,11 @@ impl Refusal {
             22 => Refusal::NotExecuted,
             27 => Refusal::NoDateServed,
             28 => Refusal::ClosingDay,
+            29 => Refusal::MovementsWrong,
+            30 => Refusal::NotAnExecutedLine,
+            31 => Refusal::OtherCents,
+            32 => Refusal::ListedBefore,
+            33 => Refusal::LineMissing,
             _ => return None,
         };
         Some(Err(refusal))
@@ -251,6 +271,11 @@ impl fmt::Display for Refusal {
             Refusal::NotExecuted => "the line isn't executed",
             Refusal::NoDateServed => "no date of the years 2002 to 2099",
             Refusal::ClosingDay => "the date is no TARGET day",
+            Refusal::MovementsWrong => "the journal has over 4,096 or not whole movements",
+            Refusal::NotAnExecutedLine => "the journal lists a line that is no executed one of the body",
+            Refusal::OtherCents => "the journal lists a line with other cents",
+            Refusal::ListedBefore => "the journal lists a line that it listed before",
+            Refusal::LineMissing => "an executed line is missing in the journal",
         })
     }
 }
@@ -267,7 +292,7 @@ mod tests {
         assert_eq!(Refusal::of_code(23, 0, 0), None);
         assert_eq!(Refusal::of_code(5, 7, 5), None);
         let mut sentences = std::collections::HashSet::new();
-        for code in (1..=22).chain(27..=28) {
+        for code in (1..=22).chain(27..=33) {
             let refusal = Refusal::of_code(code, 7, 1).unwrap().unwrap_err();
             assert_eq!(u64::from(refusal.code()), code);
             assert!(sentences.insert(refusal.to_string()));
@@ -277,7 +302,7 @@ mod tests {
     #[test]
     fn the_header_says_the_same() {
         let header = include_str!("../../../include/hondivole.h");
-        for code in (1..=22).chain(27..=28).filter(|code| *code != 5) {
+        for code in (1..=22).chain(27..=33).filter(|code| *code != 5) {
             let sentence = Refusal::from_code(code, 0, 0).unwrap().to_string();
             assert!(header.contains(&format!("return \"{sentence}\";")), "{sentence}");
         }

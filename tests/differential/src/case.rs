@@ -57,6 +57,13 @@ pub enum Call {
         /// The body's code.
         body: Vec<u8>,
     },
+    /// Checks a cash journal.
+    Journal {
+        /// The body's code.
+        body: Vec<u8>,
+        /// Its movements.
+        movements: Vec<u8>,
+    },
 }
 
 /// What a call answers.
@@ -72,13 +79,15 @@ pub enum Answer {
     Notice(NoticeAnswer),
     /// The answer to a totals call.
     Totals(Totals),
+    /// The code of a journal.
+    Journal(u64),
 }
 
 impl Answer {
     /// The answer's code.
     pub fn code(&self) -> u64 {
         match self {
-            Answer::Open(code) | Answer::Convert(code) => *code,
+            Answer::Open(code) | Answer::Convert(code) | Answer::Journal(code) => *code,
             Answer::Flow(answer) => answer.code,
             Answer::Notice(answer) => answer.code,
             Answer::Totals(answer) => answer.code,
@@ -99,6 +108,7 @@ impl Case {
                 16 + body.len() + numbers.map(digits).iter().sum::<usize>()
             }
             Call::Totals { body } => 16 + body.len(),
+            Call::Journal { body, movements } => 16 + body.len() + movements.len(),
         });
         self.table.len() + calls.sum::<usize>()
     }
@@ -158,6 +168,9 @@ impl fmt::Debug for Call {
             Call::Execute { body, notice } => write!(to, "Call::Execute {{ body: {}, notice: {notice:?} }}", literal(body)),
             Call::Reverse { body, notice } => write!(to, "Call::Reverse {{ body: {}, notice: {notice:?} }}", literal(body)),
             Call::Totals { body } => write!(to, "Call::Totals {{ body: {} }}", literal(body)),
+            Call::Journal { body, movements } => {
+                write!(to, "Call::Journal {{ body: {}, movements: {} }}", literal(body), literal(movements))
+            }
         }
     }
 }
@@ -189,6 +202,10 @@ impl fmt::Display for Call {
             Call::Execute { body, notice: named } => notice(to, "execute", body, named),
             Call::Reverse { body, notice: named } => notice(to, "reverse", body, named),
             Call::Totals { body } => write!(to, "totals body {}", quoted(body)),
+            Call::Journal { body, movements } => {
+                write!(to, "journal body {} of {} bytes", quoted(body), movements.len())?;
+                movements.chunks(16).try_for_each(|movement| write!(to, "\n  {movement:?}"))
+            }
         }
     }
 }

@@ -58,6 +58,7 @@ fn input_of(call: &Call) -> &[u8] {
         Call::Convert { old, .. } => old,
         Call::Flow { flow, .. } => flow,
         Call::Execute { body, .. } | Call::Reverse { body, .. } | Call::Totals { body } => body,
+        Call::Journal { movements, .. } => movements,
     }
 }
 
@@ -65,7 +66,7 @@ impl Yard {
     /// A yard that lends in this way.
     pub fn new(lend: Lend) -> Yard {
         let results = std::array::from_fn(|_| Pen::new(8));
-        Yard { lend, calls: 0, table: Pen::new(65_792), input: Pen::new(32_769), outcomes: Pen::new(1_024), results }
+        Yard { lend, calls: 0, table: Pen::new(65_792), input: Pen::new(65_568), outcomes: Pen::new(1_024), results }
     }
 
     /// Makes one call on an engine with guards around each buffer and result. `Err` says which byte outside them was written.
@@ -131,6 +132,7 @@ impl Yard {
                 let (used, paid, collected) = (first.number(), second.number(), third.number());
                 Answer::Totals(Totals { code, used, paid, collected, balance: fourth.number() as i64 })
             }
+            Call::Journal { body, .. } => Answer::Journal(engine.journal(lent, body, given)),
         }
     }
 

@@ -1,8 +1,8 @@
-//! What is compared: the six functions, as the C header has them.
+//! What is compared: the seven functions, as the C header has them.
 
 use reference::Notice;
 
-/// The six functions of `include/hondivole.h`, with slices for pointers and lengths. Each answers with document 01's code and writes
+/// The seven functions of `include/hondivole.h`, with slices for pointers and lengths. Each answers with document 01's code and writes
 /// all its results on every path.
 pub trait Engine {
     /// What the engine is, in a few words.
@@ -34,6 +34,9 @@ pub trait Engine {
 
     /// Reports a body's totals.
     fn totals(&self, table: &[u8], body: &[u8], used: &mut u64, paid: &mut u64, collected: &mut u64, balance: &mut i64) -> u64;
+
+    /// Checks a cash journal's movements.
+    fn journal(&self, table: &[u8], body: &[u8], movements: &[u8]) -> u64;
 }
 
 /// The reference as an engine.
@@ -83,6 +86,10 @@ impl Engine for Reference {
         let answer = reference::totals(table, body);
         (*used, *paid, *collected, *balance) = (answer.used, answer.paid, answer.collected, answer.balance);
         answer.code
+    }
+
+    fn journal(&self, table: &[u8], body: &[u8], movements: &[u8]) -> u64 {
+        reference::journal(table, body, movements)
     }
 }
 
@@ -177,6 +184,19 @@ impl Engine for Library {
         // SAFETY: the pointers and lengths are those of slices and numbers that don't overlap.
         unsafe {
             hondivole::ffi::hondivole_totals(table.as_ptr(), table.len(), body.as_ptr(), body.len(), used, paid, collected, balance)
+        }
+    }
+    fn journal(&self, table: &[u8], body: &[u8], movements: &[u8]) -> u64 {
+        // SAFETY: the pointers and lengths are those of slices.
+        unsafe {
+            hondivole::ffi::hondivole_journal(
+                table.as_ptr(),
+                table.len(),
+                body.as_ptr(),
+                body.len(),
+                movements.as_ptr(),
+                movements.len(),
+            )
         }
     }
 }

@@ -19,7 +19,7 @@ pub fn owner(table: &Table, call: &Call) -> Option<usize> {
                 None
             }
         }
-        Call::Totals { body } => place(body),
+        Call::Totals { body } | Call::Journal { body, .. } => place(body),
         Call::Flow { flow, .. } => {
             if flow.len() > reference::LONGEST_FLOW {
                 return None;

@@ -49,6 +49,7 @@ fn weight(case: &Case) -> (usize, usize, u128) {
             (plain(body), numbers.map(u128::from).iter().sum())
         }
         Call::Totals { body } => (plain(body), 0),
+        Call::Journal { body, movements } => (plain(body) + plain(movements), 0),
     });
     let (untidy, numbers) = calls.fold((plain(&case.table), 0), |sum, call| (sum.0 + call.0, sum.1 + call.1));
     (case.cost(), untidy, numbers)
@@ -184,13 +185,14 @@ impl<F: FnMut(&Case) -> bool> Search<F> {
                 Call::Flow { .. } => self.shorten_flow(index),
                 Call::Execute { .. } | Call::Reverse { .. } => self.shorten_notice(index),
                 Call::Convert { .. } => self.shorten_conversion(index),
-                Call::Totals { .. } => {}
+                Call::Totals { .. } | Call::Journal { .. } => {}
             }
             self.drop_bytes(|case| match &mut case.calls[index] {
                 Call::Open { request, .. } => request,
                 Call::Convert { old, .. } => old,
                 Call::Flow { flow, .. } => flow,
                 Call::Execute { body, .. } | Call::Reverse { body, .. } | Call::Totals { body } => body,
+                Call::Journal { movements, .. } => movements,
             });
         }
     }

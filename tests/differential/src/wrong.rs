@@ -36,6 +36,8 @@ pub enum Fault {
     LineCutToByte,
     /// A reversal takes nothing back from what the entry keeps.
     KeptNotTakenBack,
+    /// A journal may list a line twice.
+    JournalListsTwice,
     /// Kept totals are not looked at.
     KeptIgnored,
     /// A converted entry keeps zeros.
@@ -43,7 +45,7 @@ pub enum Fault {
 }
 
 /// All of them.
-pub const FAULTS: [Fault; 15] = [
+pub const FAULTS: [Fault; 16] = [
     Fault::CodesAsIntegers,
     Fault::StaleAmounts,
     Fault::AnnulloByNumber,
@@ -57,6 +59,7 @@ pub const FAULTS: [Fault; 15] = [
     Fault::CentsOnRefusal,
     Fault::LineCutToByte,
     Fault::KeptNotTakenBack,
+    Fault::JournalListsTwice,
     Fault::KeptIgnored,
     Fault::ConvertedWithoutTotals,
 ];
@@ -258,5 +261,10 @@ impl Engine for Wrong {
             *used = body.orders.iter().filter(|order| order.state == State::Acquired).count() as u64;
         }
         code
+    }
+
+    fn journal(&self, table: &[u8], body: &[u8], movements: &[u8]) -> u64 {
+        let code = Reference.journal(&self.mended(table), &self.code(table, body), movements);
+        if self.0 == Fault::JournalListsTwice && code == 32 { 0 } else { code }
     }
 }

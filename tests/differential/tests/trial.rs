@@ -60,7 +60,7 @@ fn the_same_seed_makes_the_same_case() {
 #[test]
 fn every_code_is_reached() {
     let mut yard = Yard::default();
-    let mut reached = [0; 29];
+    let mut reached = [0; 34];
     let mut causes = [0; 5];
     for theme in THEMES {
         for case in cases_of(theme, 300) {
@@ -78,7 +78,7 @@ fn every_code_is_reached() {
     }
     // No call answers 23 to 26.
     let given = |code: &usize| !(23..27).contains(code);
-    assert!((0..29).filter(given).all(|code| reached[code] > 0), "times each code was answered: {reached:?}");
+    assert!((0..34).filter(given).all(|code| reached[code] > 0), "times each code was answered: {reached:?}");
     assert!(causes.iter().all(|&times| times > 0), "times each cause was answered: {causes:?}");
 }
 
@@ -155,6 +155,9 @@ fn unwritten_results_are_found() {
         }
         fn totals(&self, table: &[u8], body: &[u8], used: &mut u64, paid: &mut u64, collected: &mut u64, _: &mut i64) -> u64 {
             Reference.totals(table, body, used, paid, collected, &mut 0)
+        }
+        fn journal(&self, table: &[u8], body: &[u8], movements: &[u8]) -> u64 {
+            Reference.journal(table, body, movements)
         }
     }
     let mut table = vec![0; 160];
