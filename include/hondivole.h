@@ -4,11 +4,11 @@
  * Hondivole: the order tables of a treasury house's order desk.
  *
  * Six functions open an order table, convert one of the old form, take a body's flow of payment and collection orders, take the bank's
- * notices of execution and reversal, and report a body's totals. Two answer questions about dates. Three write the outcome message of a
- * flow for the school, read one, and write again what was read. Each answers with a code: 0, or the number of a refusal in the list below.
- * A twelfth shows the field that a flow was refused for. Each checks its own inputs: tables, flows, messages, requests, codes and numbers
- * may be any bytes and any values. Each writes all its results on every path. What stands below them, written in C and not proved, says
- * codes in words and lays out a request.
+ * notices of execution and reversal, and report a body's totals. A seventh checks the bank's cash journal against a body's executed lines.
+ * Two answer questions about dates. Three write the outcome message of a flow for the school, read one, and write again what was read.
+ * Each answers with a code: 0, or the number of a refusal in the list below. A thirteenth shows the field that a flow was refused for.
+ * Each checks its own inputs: tables, flows, messages, journals, requests, codes and numbers may be any bytes and any values. Each writes
+ * all its results on every path. What stands below them, written in C and not proved, says codes in words and lays out a request.
  * None reads or writes anything but the buffers and results it is lent, and none keeps anything from one call to the next, so that
  * calls on different tables may be made at the same time.
  *
@@ -39,7 +39,7 @@
 extern "C" {
 #endif
 
-/* The codes: of calls (1 to 10, 16, 17, 20 to 23, 27, 28, 40, 41) and of orders (11 to 19). */
+/* The codes: of calls (1 to 10, 16, 17, 20 to 23, 27 to 33, 40, 41) and of orders (11 to 19). */
 enum hondivole_code {
     HONDIVOLE_DONE = 0,                 /* nothing is refused */
     HONDIVOLE_TABLE_NOT_VALID = 1,      /* the table isn't valid */
@@ -67,6 +67,11 @@ enum hondivole_code {
     HONDIVOLE_NO_SUCH_EDITION = 23,     /* the number names no edition of a flow */
     HONDIVOLE_NO_DATE_SERVED = 27,      /* no date, or outside the years 2002 to 2099 */
     HONDIVOLE_CLOSING_DAY = 28,         /* the date is no TARGET day */
+    HONDIVOLE_MOVEMENTS_WRONG = 29,     /* journal: over 4,096 or not whole movements */
+    HONDIVOLE_NOT_AN_EXECUTED_LINE = 30, /* journal: no such executed line */
+    HONDIVOLE_OTHER_CENTS = 31,         /* journal: other cents than the line's */
+    HONDIVOLE_LISTED_BEFORE = 32,       /* journal: the line is listed before */
+    HONDIVOLE_LINE_MISSING = 33,        /* journal: an executed line is missing */
     HONDIVOLE_BUFFER_TOO_SHORT = 40,    /* the buffer is shorter than the message or its values */
     HONDIVOLE_VALUES_WRONG = 41         /* the outcome bytes aren't this flow's, or a caller's value has a wrong form */
 };
@@ -106,6 +111,10 @@ enum {
 /* A flow is at most so long. */
 #define HONDIVOLE_MOST_FLOW_BYTES 32768u
 
+/* The bytes of a cash journal's movement, and the most movements of one. */
+#define HONDIVOLE_MOVEMENT_BYTES 16u
+#define HONDIVOLE_MOST_MOVEMENTS 4096u
+
 /* The outcome bytes that are enough for any flow: 64 orders of 16 bytes. */
 #define HONDIVOLE_MOST_OUTCOME_BYTES 1024u
 
@@ -126,6 +135,7 @@ enum {
 #define HONDIVOLE_FLOW_STACK 49152u
 #define HONDIVOLE_NOTICE_STACK 8192u
 #define HONDIVOLE_TOTALS_STACK 8192u
+#define HONDIVOLE_JOURNAL_STACK 32768u
 #define HONDIVOLE_FIELD_AT_STACK 8192u
 #define HONDIVOLE_MESSAGE_WRITE_STACK 65536u
 #define HONDIVOLE_MESSAGE_READ_STACK 65536u
@@ -204,6 +214,19 @@ uint64_t hondivole_days_between(uint64_t year, uint64_t month, uint64_t day, uin
  */
 uint64_t hondivole_totals(const uint8_t *table, size_t table_len, const uint8_t *body, size_t body_len, uint64_t *used, uint64_t *paid,
                           uint64_t *collected, int64_t *balance);
+
+/*
+ * Checks the movements of the bank's cash journal (giornale di cassa) against a body's executed lines. A movement has 16 bytes: kind, line,
+ * esercizio in two, number in four, cents in eight, numbers with the highest byte first. It answers 0 exactly when every executed line of
+ * the body is listed once, with its cents, and nothing else is listed, in any order; or the first of 1 (table not valid), 7 (no such body),
+ * 29 (over 4,096 or not whole movements), then movement by movement 30 (no such executed line), 31 (other cents) and 32 (listed before),
+ * the first bad movement deciding, and then 33 (an executed line is missing). It never changes the table.
+ * Its cost is close to linear in slots and movements: 4,096 movements of a full body of 512 orders take under three times what the
+ * check that the table is valid takes, that check among it, in any order. Only where many orders' keys share their places in its index does
+ * a movement cost a search of the body's slots.
+ */
+uint64_t hondivole_journal(const uint8_t *table, size_t table_len, const uint8_t *body, size_t body_len, const uint8_t *movements,
+                           size_t movements_len);
 
 /*
  * Shows the field that a flow was refused for with code 5: where the name and the text stand, in the flow, of the element whose `<` stands
@@ -289,6 +312,11 @@ static inline const char *hondivole_code_text(uint64_t code)
     case HONDIVOLE_CLOSING_DAY: return "the date is no TARGET day";
     case HONDIVOLE_BUFFER_TOO_SHORT: return "the buffer is shorter than the message or its values";
     case HONDIVOLE_VALUES_WRONG: return "the outcome bytes aren't this flow's, or a caller's value has a wrong form";
+    case HONDIVOLE_MOVEMENTS_WRONG: return "the journal has over 4,096 or not whole movements";
+    case HONDIVOLE_NOT_AN_EXECUTED_LINE: return "the journal lists a line that is no executed one of the body";
+    case HONDIVOLE_OTHER_CENTS: return "the journal lists a line with other cents";
+    case HONDIVOLE_LISTED_BEFORE: return "the journal lists a line that it listed before";
+    case HONDIVOLE_LINE_MISSING: return "an executed line is missing in the journal";
     default: return "no code of the order desk";
     }
 }

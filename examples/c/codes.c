@@ -1,7 +1,7 @@
 /* SPDX-License-Identifier: EUPL-1.2 */
 
 /*
- * Each code of opening, notices and totals, and those of flows and orders that no flow alone can show (1, 8, 18): a script of calls on one
+ * Each code of opening, notices, totals and journals, and those of flows and orders that no flow alone can show (1, 8, 18): a script of calls on one
  * table, each printed with its code in words. (The flows of examples/ have the other codes of flows and orders.)
  *
  * At the top of the repository, after `./library`:
@@ -69,6 +69,22 @@ static void totals(const char *body, const char *what)
     print(hondivole_totals(table, sizeof table, (const uint8_t *)body, strlen(body), &used, &paid, &collected, &balance), what);
 }
 
+/* A journal of the first bytes of two movements, both of one line of mandato 1. */
+static void journal(uint8_t line, uint8_t cents, size_t length, const char *what)
+{
+    uint8_t movements[2 * HONDIVOLE_MOVEMENT_BYTES] = {0};
+    for (size_t at = 0; at < sizeof movements; at += HONDIVOLE_MOVEMENT_BYTES) {
+        movements[at] = HONDIVOLE_MANDATO;
+        movements[at + 1] = line;
+        movements[at + 2] = 2021 >> 8;
+        movements[at + 3] = 2021 & 255;
+        movements[at + 7] = 1;
+        movements[at + 14] = 2000 >> 8;
+        movements[at + 15] = cents;
+    }
+    print(hondivole_journal(table, sizeof table, (const uint8_t *)"000471", 6, movements, length), what);
+}
+
 int main(void)
 {
     static const struct hondivole_body bodies[] = {{"000471", 4}};
@@ -89,6 +105,12 @@ int main(void)
     execute_on(4, 2, "execute line 1 on Good Friday");
     execute("000471", HONDIVOLE_MANDATO, 1, 1, "execute line 1 of mandato 1");
     execute("000471", HONDIVOLE_MANDATO, 1, 1, "execute it again");
+    journal(1, 2000 & 255, 16, "journal of line 1 of mandato 1");
+    journal(1, 2000 & 255, 15, "journal of 15 bytes");
+    journal(2, 2000 & 255, 16, "journal of line 2 of mandato 1");
+    journal(1, 1999 & 255, 16, "journal of line 1 with a cent fewer");
+    journal(1, 2000 & 255, 32, "journal of line 1 twice");
+    journal(1, 2000 & 255, 0, "journal of nothing");
     order("ANNULLO", 1, 16, "ANNULLO of mandato 1, whose line is executed");
     order("VARIAZIONE", 1, 16, "VARIAZIONE of mandato 1, whose line is executed");
     reverse(1, 1, "reverse line 1 of mandato 1");

@@ -179,6 +179,21 @@ uint64_t hondivole_totals(const uint8_t *table, size_t table_len, const uint8_t 
     return answer.code;
 }
 
+/* Body and movements go as one input; the first number says where the body ends. */
+uint64_t hondivole_journal(const uint8_t *table, size_t table_len, const uint8_t *body, size_t body_len, const uint8_t *movements,
+                           size_t movements_len)
+{
+    struct call call = {.function = JOURNAL, .lengths = {table_len, body_len + movements_len, 0}, .numbers = {body_len}};
+    uint8_t *both = malloc(body_len + movements_len + 1);
+    if (both == NULL)
+        abort();
+    memcpy(both, body, body_len);
+    memcpy(both + body_len, movements, movements_len);
+    struct answer answer = forward(&call, table, both, none, 0, none);
+    free(both);
+    return answer.code;
+}
+
 void hondivole_field_at(const uint8_t *flow, size_t flow_len, uint64_t place, uint64_t *name, uint64_t *name_len, uint64_t *text,
                         uint64_t *text_len)
 {

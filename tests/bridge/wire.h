@@ -20,7 +20,7 @@ enum function {
     EXECUTE,
     REVERSE,
     TOTALS,
-    FIELD_AT,
+    JOURNAL, FIELD_AT,
     FIRST_TARGET_DAY,
     DAYS_BETWEEN,
     MESSAGE_WRITE,
@@ -57,7 +57,7 @@ struct answer {
 };
 
 static const char *const function_names[FUNCTIONS] = {"hondivole_open", "hondivole_convert", "hondivole_flow", "hondivole_execute",
-                                                      "hondivole_reverse", "hondivole_totals", "hondivole_field_at",
+                                                      "hondivole_reverse", "hondivole_totals", "hondivole_journal", "hondivole_field_at",
                                                       "hondivole_first_target_day", "hondivole_days_between", "hondivole_message_write",
                                                       "hondivole_message_read", "hondivole_message_rewrite"};
 

@@ -144,6 +144,10 @@ static void call_totals(void)
 {
     code = hondivole_totals(table, table_len, body, sizeof body, &results[0], &results[1], &results[2], &balance);
 }
+static void call_journal(void)
+{
+    code = hondivole_journal(table, table_len, body, sizeof body, table, 0);
+}
 static void call_field_at(void)
 {
     hondivole_field_at(flow, flow_len, 0, &results[0], &results[1], &results[2], &results[3]);
@@ -278,6 +282,7 @@ int main(void)
     hold("execute", call_execute, 0, HONDIVOLE_NOTICE_STACK);
     hold("reverse", call_reverse, 0, HONDIVOLE_NOTICE_STACK);
     hold("totals", call_totals, 0, HONDIVOLE_TOTALS_STACK);
+    hold("journal", call_journal, 0, HONDIVOLE_JOURNAL_STACK);
     make_old();
     hold("convert", call_convert, 0, HONDIVOLE_CONVERT_STACK);
     hold("totals of the converted table", call_totals, 0, HONDIVOLE_TOTALS_STACK);

@@ -1,4 +1,4 @@
-//! The twelve C functions as `include/hondivole.h` declares them.
+//! The thirteen C functions as `include/hondivole.h` declares them.
 //!
 //! All but [`hondivole_field_at`] answer with a code (0, or the number of a [`Refusal`](crate::Refusal)); each writes all its results on every path.
 //!
@@ -104,6 +104,20 @@ unsafe extern "C" {
         paid: *mut u64,
         collected: *mut u64,
         balance: *mut i64,
+    ) -> u64;
+
+    /// Checks a cash journal's movements: see [`Table::journal`](crate::Table::journal).
+    ///
+    /// # Safety
+    ///
+    /// Each pointer is good for its length.
+    pub fn hondivole_journal(
+        table: *const u8,
+        table_len: usize,
+        body: *const u8,
+        body_len: usize,
+        movements: *const u8,
+        movements_len: usize,
     ) -> u64;
 
     /// Where the name and the text of the element at a place stand: see [`field_at`](crate::field_at).

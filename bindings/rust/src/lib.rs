@@ -50,7 +50,7 @@ pub use message::{
     Entry, Given, MOST_VALUES_BYTES, MOST_WRITTEN_BYTES, Message, MessageValues, read_message, rewrite_message, write_message,
 };
 pub use refusal::{Cause, Refusal};
-pub use table::{Notice, Table, Totals, request};
+pub use table::{Movement, Notice, Table, Totals, request};
 
 /// The outcome bytes of the most orders a flow can hold: 64 of 16 bytes.
 ///

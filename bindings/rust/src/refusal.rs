@@ -140,6 +140,16 @@ pub enum Refusal {
         /// [`write_message`](crate::write_message) looks for it.
         given: Option<Given>,
     },
+    /// 29: a journal has over 4,096 or not whole movements.
+    MovementsWrong,
+    /// 30: a journal lists a line that is no executed one of the body.
+    NotAnExecutedLine,
+    /// 31: a journal lists a line with other cents.
+    OtherCents,
+    /// 32: a journal lists a line that it listed before.
+    ListedBefore,
+    /// 33: an executed line is missing in a journal.
+    LineMissing,
 }
 
 impl Refusal {
@@ -180,6 +190,11 @@ impl Refusal {
             Refusal::ClosingDay => 28,
             Refusal::BufferTooShort => 40,
             Refusal::ValuesWrong { .. } => 41,
+            Refusal::MovementsWrong => 29,
+            Refusal::NotAnExecutedLine => 30,
+            Refusal::OtherCents => 31,
+            Refusal::ListedBefore => 32,
+            Refusal::LineMissing => 33,
         }
     }
 
@@ -229,6 +244,11 @@ impl Refusal {
             28 => Refusal::ClosingDay,
             40 => Refusal::BufferTooShort,
             41 => Refusal::ValuesWrong { given: None },
+            29 => Refusal::MovementsWrong,
+            30 => Refusal::NotAnExecutedLine,
+            31 => Refusal::OtherCents,
+            32 => Refusal::ListedBefore,
+            33 => Refusal::LineMissing,
             _ => return None,
         };
         Some(Err(refusal))
@@ -273,6 +293,11 @@ impl fmt::Display for Refusal {
             Refusal::BufferTooShort => "the buffer is shorter than the message or its values",
             Refusal::ValuesWrong { given: None } => "the outcome bytes aren't this flow's, or a caller's value has a wrong form",
             Refusal::ValuesWrong { given: Some(given) } => return given.fmt(to),
+            Refusal::MovementsWrong => "the journal has over 4,096 or not whole movements",
+            Refusal::NotAnExecutedLine => "the journal lists a line that is no executed one of the body",
+            Refusal::OtherCents => "the journal lists a line with other cents",
+            Refusal::ListedBefore => "the journal lists a line that it listed before",
+            Refusal::LineMissing => "an executed line is missing in the journal",
         })
     }
 }
@@ -289,7 +314,7 @@ mod tests {
         assert_eq!(Refusal::of_code(23, 0, 0), None);
         assert_eq!(Refusal::of_code(5, 7, 5), None);
         let mut sentences = std::collections::HashSet::new();
-        for code in (1..=22).chain(27..=28).chain(40..=41) {
+        for code in (1..=22).chain(27..=33).chain(40..=41) {
             let refusal = Refusal::of_code(code, 7, 1).unwrap().unwrap_err();
             assert_eq!(u64::from(refusal.code()), code);
             assert!(sentences.insert(refusal.to_string()));
@@ -299,7 +324,7 @@ mod tests {
     #[test]
     fn the_header_says_the_same() {
         let header = include_str!("../../../include/hondivole.h");
-        for code in (1..=22).chain(27..=28).chain(40..=41).filter(|code| *code != 5) {
+        for code in (1..=22).chain(27..=33).chain(40..=41).filter(|code| *code != 5) {
             let sentence = Refusal::from_code(code, 0, 0).unwrap().to_string();
             assert!(header.contains(&format!("return \"{sentence}\";")), "{sentence}");
         }

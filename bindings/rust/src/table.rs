@@ -48,6 +48,46 @@ pub struct Totals {
     pub balance: i64,
 }
 
+/// A movement of the bank's cash journal (giornale di cassa): a line of an order, and its cents.
+///
+/// ```
+/// use hondivole::{Kind, Movement};
+///
+/// let movement = Movement { kind: Kind::Mandato, line: 1, esercizio: 2021, number: 12, cents: 10_000 };
+/// assert_eq!(movement.bytes()[..8], [1, 1, 7, 229, 0, 0, 0, 12]);
+/// ```
+#[derive(Clone, Copy, Debug, PartialEq, Eq)]
+pub struct Movement {
+    /// Mandato or reversale.
+    pub kind: Kind,
+    /// The line, counted from 1.
+    pub line: u8,
+    /// The year of the books.
+    pub esercizio: u16,
+    /// The order's number.
+    pub number: u32,
+    /// The line's amount in cents.
+    pub cents: u64,
+}
+
+impl Movement {
+    /// The movement's 16 bytes.
+    ///
+    /// ```
+    /// # use hondivole::{Kind, Movement};
+    /// let movement = Movement { kind: Kind::Reversale, line: 2, esercizio: 2021, number: 12, cents: 258 };
+    /// assert_eq!(movement.bytes()[14..], [1, 2]);
+    /// ```
+    pub fn bytes(&self) -> [u8; 16] {
+        let mut bytes = [0; 16];
+        (bytes[0], bytes[1]) = (self.kind as u8, self.line);
+        bytes[2..4].copy_from_slice(&self.esercizio.to_be_bytes());
+        bytes[4..8].copy_from_slice(&self.number.to_be_bytes());
+        bytes[8..].copy_from_slice(&self.cents.to_be_bytes());
+        bytes
+    }
+}
+
 /// Lays out the request to open a table: five ABI digits, and 20 bytes for each body's code and slots. [`Table::open`] does it by itself.
 ///
 /// # Errors
@@ -232,6 +272,36 @@ impl<B: AsRef<[u8]>> Table<B> {
         };
         Refusal::answer(code, 0, 0)?;
         Ok(Totals { used: used as usize, paid, collected, balance })
+    }
+
+    /// Checks the movements of the bank's cash journal, 16 bytes each, against a body's executed lines: each of these is listed once, with
+    /// its cents, and nothing else is listed. Their order is free.
+    ///
+    /// # Errors
+    ///
+    /// The refusals of codes 1, 7 and 29, then of the first bad movement 30, 31 or 32, then 33.
+    ///
+    /// ```
+    /// # use hondivole::{Date, Kind, Movement, Notice, Refusal, Table};
+    /// # let flow = include_bytes!("run.xml").as_slice();
+    /// let mut table = Table::open("01234", &[("000471", 4)])?;
+    /// table.flow(flow, &mut [0; 32])?;
+    /// assert_eq!(table.journal("000471", &[]), Ok(()));
+    /// let day = Date { year: 2021, month: 3, day: 3 };
+    /// table.execute(&Notice { body: "000471", kind: Kind::Mandato, esercizio: 2021, number: 12, line: 2, day })?;
+    /// assert_eq!(table.journal("000471", &[]), Err(Refusal::LineMissing));
+    /// let movement = Movement { kind: Kind::Mandato, line: 2, esercizio: 2021, number: 12, cents: 5_000 };
+    /// assert_eq!(table.journal("000471", &movement.bytes()), Ok(()));
+    /// assert_eq!(table.journal("000471", &movement.bytes()[..15]), Err(Refusal::MovementsWrong));
+    /// # Ok::<(), Refusal>(())
+    /// ```
+    pub fn journal(&self, body: &str, movements: &[u8]) -> Result<(), Refusal> {
+        let table = self.bytes.as_ref();
+        // SAFETY: the pointers and lengths are those of slices.
+        let code = unsafe {
+            ffi::hondivole_journal(table.as_ptr(), table.len(), body.as_ptr(), body.len(), movements.as_ptr(), movements.len())
+        };
+        Refusal::answer(code, 0, 0)
     }
 }
 

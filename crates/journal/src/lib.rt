@@ -72,7 +72,7 @@ fn second_place(k: Key) -> usize
     let number = k.number % 16777216;
     let kind = k.kind % PLACES;
     let esercizio = k.esercizio % PLACES;
-    (PLACES + (number * 40503 / 16 + kind * 1031 + esercizio * 257) % PLACES) as usize
+    (PLACES + (number * 2654435761 / 1048576 + kind * 1031 + esercizio * 257) % PLACES) as usize
 }
 
 fn slot_of(x: u16) -> usize {

@@ -88,6 +88,13 @@ pub enum Call {
         /// The length of the buffer.
         room: usize,
     },
+    /// Checks a cash journal.
+    Journal {
+        /// The body's code.
+        body: Vec<u8>,
+        /// Its movements.
+        movements: Vec<u8>,
+    },
 }
 
 /// What a call answers.
@@ -107,13 +114,15 @@ pub enum Answer {
     Write(WriteAnswer),
     /// The answer to reading a message.
     Read(ReadAnswer),
+    /// The code of a journal.
+    Journal(u64),
 }
 
 impl Answer {
     /// The answer's code.
     pub fn code(&self) -> u64 {
         match self {
-            Answer::Open(code) | Answer::Convert(code) => *code,
+            Answer::Open(code) | Answer::Convert(code) | Answer::Journal(code) => *code,
             Answer::Flow(answer) => answer.code,
             Answer::Notice(answer) => answer.code,
             Answer::Totals(answer) => answer.code,
@@ -140,6 +149,7 @@ impl Case {
                 16 + flow.len() + outcomes.len() + values.iter().map(Vec::len).sum::<usize>() + digits(*room as u64)
             }
             Call::Read { message, room } | Call::Rewrite { message, room } => 16 + message.len() + digits(*room as u64),
+            Call::Journal { body, movements } => 16 + body.len() + movements.len(),
         });
         self.table.len() + calls.sum::<usize>()
     }
@@ -208,6 +218,9 @@ impl fmt::Debug for Call {
             }
             Call::Read { message, room } => write!(to, "Call::Read {{ message: {}, room: {room} }}", literal(message)),
             Call::Rewrite { message, room } => write!(to, "Call::Rewrite {{ message: {}, room: {room} }}", literal(message)),
+            Call::Journal { body, movements } => {
+                write!(to, "Call::Journal {{ body: {}, movements: {} }}", literal(body), literal(movements))
+            }
         }
     }
 }
@@ -253,6 +266,10 @@ impl fmt::Display for Call {
             }
             Call::Rewrite { message, room } => {
                 write!(to, "write again a message of {} bytes, room {room}:\n{}", message.len(), text(message))
+            }
+            Call::Journal { body, movements } => {
+                write!(to, "journal body {} of {} bytes", quoted(body), movements.len())?;
+                movements.chunks(16).try_for_each(|movement| write!(to, "\n  {movement:?}"))
             }
         }
     }

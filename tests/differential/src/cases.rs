@@ -70,7 +70,11 @@ pub fn case(random: &mut Random, theme: Theme) -> Case {
         Theme::Notices => {
             let table = tables::valid(random);
             let calls = (0..1 + random.below(8))
-                .map(|_| if random.percent(80) { notice(random, &table) } else { totals(random, &table) })
+                .map(|_| match random.weighted(&[70, 15, 15]) {
+                    0 => notice(random, &table),
+                    1 => totals(random, &table),
+                    _ => journal(random, &table),
+                })
                 .collect();
             Case { table: table.encode(), calls }
         }
@@ -121,7 +125,7 @@ pub fn sequence(random: &mut Random) -> Case {
             Call::Reverse { body, notice } => {
                 reference::reverse(&mut table, body, notice);
             }
-            _ => {}
+            _ | Call::Journal { .. } => {}
         }
         calls.push(call);
     }
@@ -130,7 +134,7 @@ pub fn sequence(random: &mut Random) -> Case {
 
 /// A call on a table.
 fn call(random: &mut Random, table: &Table) -> Call {
-    match random.weighted(&[52, 4, 34, 10]) {
+    match random.weighted(&[50, 4, 30, 8, 8]) {
         0 => whole_flow(random, table, Size::Few),
         1 => {
             let (edition, flow) = flows::damaged(random, table, Size::Few);
@@ -138,7 +142,8 @@ fn call(random: &mut Random, table: &Table) -> Call {
             Call::Flow { edition, flow, room }
         }
         2 => notice(random, table),
-        _ => totals(random, table),
+        3 => totals(random, table),
+        _ => journal(random, table),
     }
 }
 
@@ -155,6 +160,53 @@ fn body_code(random: &mut Random, table: &Table) -> Vec<u8> {
 
 fn totals(random: &mut Random, table: &Table) -> Call {
     Call::Totals { body: body_code(random, table) }
+}
+
+/// A cash journal: a body's executed lines in any order, and mostly one thing wrong with it.
+fn journal(random: &mut Random, table: &Table) -> Call {
+    let body = body_code(random, table);
+    let mut listed: Vec<Vec<u8>> = Vec::new();
+    if let Some(known) = table.bodies.iter().find(|known| known.code == body) {
+        for order in &known.orders {
+            for (line, number) in order.lines.iter().zip(1u8..) {
+                if line.executed || random.percent(1) {
+                    let mut movement = vec![order.kind as u8, number];
+                    movement.extend(order.esercizio.to_be_bytes());
+                    movement.extend(order.number.to_be_bytes());
+                    movement.extend(line.amount.to_be_bytes());
+                    listed.insert(random.below(listed.len() + 1), movement);
+                }
+            }
+        }
+    }
+    if random.percent(70) && !listed.is_empty() {
+        let at = random.below(listed.len());
+        match random.below(5) {
+            0 => drop(listed.remove(at)),
+            1 => {
+                let again = listed[at].clone();
+                listed.insert(random.below(listed.len() + 1), again);
+            }
+            2 => {
+                let mut again = listed[at].clone();
+                again[15] ^= 1;
+                listed.push(again);
+            }
+            3 => *random.pick_mut(&mut listed[at]) = random.byte(),
+            _ => {
+                let byte = random.pick_mut(&mut listed[at]);
+                *byte = byte.wrapping_add(1);
+            }
+        }
+    }
+    let mut movements = listed.concat();
+    match random.below(30) {
+        0 => drop(movements.pop()),
+        1 => movements.push(random.byte()),
+        2 => movements.resize(65_536 + 16 * random.below(2), 1),
+        _ => {}
+    }
+    Call::Journal { body, movements }
 }
 
 /// The date of a notice: mostly a TARGET day, else around a closing day, an edge of the served years, or no date.
@@ -278,6 +330,7 @@ fn fuzz(random: &mut Random) -> Case {
                 _ => (random.pick_mut(values), 4),
             },
             Call::Read { message, .. } | Call::Rewrite { message, .. } => (message, 16),
+            Call::Journal { movements, .. } => (movements, 4),
         };
         if random.percent(70) {
             for _ in 0..1 + random.below(most) {

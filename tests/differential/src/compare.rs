@@ -65,6 +65,7 @@ fn input_of(call: &Call) -> &[u8] {
         Call::Flow { flow, .. } | Call::Write { flow, .. } => flow,
         Call::Execute { body, .. } | Call::Reverse { body, .. } | Call::Totals { body } => body,
         Call::Read { message, .. } | Call::Rewrite { message, .. } => message,
+        Call::Journal { movements, .. } => movements,
     }
 }
 
@@ -79,7 +80,7 @@ impl Yard {
             lend,
             calls: 0,
             table: Pen::new(65_792),
-            input: Pen::new(32_769),
+            input: Pen::new(65_568),
             outcomes: Pen::new(1_024),
             message: Pen::new(65_537),
             values: std::array::from_fn(|_| Pen::new(141)),
@@ -196,6 +197,7 @@ impl Yard {
                 let code = engine.message_rewrite(given, self.written.bytes_mut(), first.number_mut());
                 Answer::Write(WriteAnswer { code, length: first.number() })
             }
+            Call::Journal { body, .. } => Answer::Journal(engine.journal(lent, body, given)),
         }
     }
 

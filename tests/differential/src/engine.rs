@@ -58,6 +58,9 @@ pub trait Engine {
         *length = answer.length;
         answer.code
     }
+
+    /// Checks a cash journal's movements.
+    fn journal(&self, table: &[u8], body: &[u8], movements: &[u8]) -> u64;
 }
 
 /// The reference as an engine.
@@ -110,6 +113,10 @@ impl Engine for Reference {
         let answer = reference::totals(table, body);
         (*used, *paid, *collected, *balance) = (answer.used, answer.paid, answer.collected, answer.balance);
         answer.code
+    }
+
+    fn journal(&self, table: &[u8], body: &[u8], movements: &[u8]) -> u64 {
+        reference::journal(table, body, movements)
     }
 }
 
@@ -264,6 +271,19 @@ impl Engine for Library {
         // SAFETY: the pointers and lengths are those of slices and of a number that don't overlap.
         unsafe {
             hondivole::ffi::hondivole_message_rewrite(message.as_ptr(), message.len(), again.as_mut_ptr(), again.len(), length)
+        }
+    }
+    fn journal(&self, table: &[u8], body: &[u8], movements: &[u8]) -> u64 {
+        // SAFETY: the pointers and lengths are those of slices.
+        unsafe {
+            hondivole::ffi::hondivole_journal(
+                table.as_ptr(),
+                table.len(),
+                body.as_ptr(),
+                body.len(),
+                movements.as_ptr(),
+                movements.len(),
+            )
         }
     }
 }

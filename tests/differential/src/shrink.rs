@@ -53,6 +53,7 @@ fn weight(case: &Case) -> (usize, usize, u128) {
             (plain(flow) + plain(outcomes) + values.iter().map(|value| plain(value)).sum::<usize>(), *room as u128)
         }
         Call::Read { message, room } | Call::Rewrite { message, room } => (plain(message), *room as u128),
+        Call::Journal { body, movements } => (plain(body) + plain(movements), 0),
     });
     let (untidy, numbers) = calls.fold((plain(&case.table), 0), |sum, call| (sum.0 + call.0, sum.1 + call.1));
     (case.cost(), untidy, numbers)
@@ -188,7 +189,7 @@ impl<F: FnMut(&Case) -> bool> Search<F> {
                 Call::Flow { .. } => self.shorten_flow(index),
                 Call::Execute { .. } | Call::Reverse { .. } => self.shorten_notice(index),
                 Call::Convert { .. } => self.shorten_conversion(index),
-                Call::Totals { .. } => {}
+                Call::Totals { .. } | Call::Journal { .. } => {}
                 Call::Write { .. } => {
                     self.shorten_room(index);
                     self.shorten_writing(index);
@@ -204,6 +205,7 @@ impl<F: FnMut(&Case) -> bool> Search<F> {
                 Call::Flow { flow, .. } | Call::Write { flow, .. } => flow,
                 Call::Execute { body, .. } | Call::Reverse { body, .. } | Call::Totals { body } => body,
                 Call::Read { message, .. } | Call::Rewrite { message, .. } => message,
+                Call::Journal { movements, .. } => movements,
             });
         }
     }

@@ -60,4 +60,8 @@ impl Engine for Stray {
     fn totals(&self, table: &[u8], body: &[u8], used: &mut u64, paid: &mut u64, collected: &mut u64, balance: &mut i64) -> u64 {
         Reference.totals(table, body, used, paid, collected, balance)
     }
+
+    fn journal(&self, table: &[u8], body: &[u8], movements: &[u8]) -> u64 {
+        Reference.journal(table, body, movements)
+    }
 }

@@ -39,6 +39,8 @@ pub enum Fault {
     LineCutToByte,
     /// A reversal takes nothing back from what the entry keeps.
     KeptNotTakenBack,
+    /// A journal may list a line twice.
+    JournalListsTwice,
     /// Kept totals are not looked at.
     KeptIgnored,
     /// A converted entry keeps zeros.
@@ -56,7 +58,7 @@ pub enum Fault {
 }
 
 /// All of them.
-pub const FAULTS: [Fault; 21] = [
+pub const FAULTS: [Fault; 22] = [
     Fault::CodesAsIntegers,
     Fault::StaleAmounts,
     Fault::AnnulloByNumber,
@@ -71,6 +73,7 @@ pub const FAULTS: [Fault; 21] = [
     Fault::CentsOnRefusal,
     Fault::LineCutToByte,
     Fault::KeptNotTakenBack,
+    Fault::JournalListsTwice,
     Fault::KeptIgnored,
     Fault::ConvertedWithoutTotals,
     Fault::MandatiFirst,
@@ -319,5 +322,10 @@ impl Engine for Wrong {
             *length = bytes.len() as u64;
         }
         code
+    }
+
+    fn journal(&self, table: &[u8], body: &[u8], movements: &[u8]) -> u64 {
+        let code = Reference.journal(&self.mended(table), &self.code(table, body), movements);
+        if self.0 == Fault::JournalListsTwice && code == 32 { 0 } else { code }
     }
 }

@@ -1,8 +1,8 @@
-//! The six calls.
-
+//! The seven calls.
 use crate::fields::{self, FlowOrder, Operation};
 use crate::table::{Body, Form, Kind, Line, Order, State, Table, number_at};
 use crate::{Edition, LONGEST_FLOW, MOST_ORDERS, OUTCOME, markup, structure, target};
+use std::collections::{HashMap, HashSet};
 
 /// The answer to a flow.
 #[derive(Clone, Copy, Debug, Default, PartialEq, Eq)]
@@ -315,4 +315,40 @@ pub fn totals(table: &[u8], body: &[u8]) -> Totals {
     };
     let (paid, collected) = (executed(Kind::Mandato), executed(Kind::Reversale));
     Totals { code: 0, used: body.orders.len() as u64, paid, collected, balance: collected as i64 - paid as i64 }
+}
+
+/// Checks a cash journal's movements (document 02, Req 10): each executed line of the body is listed once, with its cents, and nothing else.
+pub fn journal(table: &[u8], body: &[u8], movements: &[u8]) -> u64 {
+    let Some(table) = Table::decode(table) else {
+        return 1;
+    };
+    let Some(body) = table.body(body) else {
+        return 7;
+    };
+    if !movements.len().is_multiple_of(16) || movements.len() / 16 > 4_096 {
+        return 29;
+    }
+    // What is executed and not listed yet, and what is listed, by the eight bytes that name a line.
+    let mut left = HashMap::new();
+    let mut listed = HashSet::new();
+    for order in &body.orders {
+        for (line, number) in order.lines.iter().zip(1u8..) {
+            if line.executed {
+                let mut name = vec![order.kind as u8, number];
+                name.extend(order.esercizio.to_be_bytes());
+                name.extend(order.number.to_be_bytes());
+                left.insert(name, line.amount.to_be_bytes());
+            }
+        }
+    }
+    for movement in movements.chunks(16) {
+        let (name, cents) = movement.split_at(8);
+        match left.get(name) {
+            None => return 30,
+            Some(amount) if amount != cents => return 31,
+            Some(_) if !listed.insert(name) => return 32,
+            Some(_) => {}
+        }
+    }
+    if listed.len() < left.len() { 33 } else { 0 }
 }

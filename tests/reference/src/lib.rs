@@ -22,7 +22,7 @@ pub mod structure;
 pub mod table;
 pub mod target;
 
-pub use desk::{FlowAnswer, Notice, NoticeAnswer, Totals, convert, execute, flow, open, request, reverse, totals};
+pub use desk::{FlowAnswer, Notice, NoticeAnswer, Totals, convert, execute, flow, journal, open, request, reverse, totals};
 pub use table::{Body, Date, Form, Kind, Line, Order, State, Table};
 
 /// The editions of a flow.
