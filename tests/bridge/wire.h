@@ -20,7 +20,8 @@ enum function {
     EXECUTE,
     REVERSE,
     TOTALS,
-    JOURNAL, FIELD_AT,
+    JOURNAL,
+    FIELD_AT,
     FIRST_TARGET_DAY,
     DAYS_BETWEEN,
     MESSAGE_WRITE,
@@ -38,7 +39,7 @@ enum buffer { TABLE, INPUT, OUTCOMES, FIRST_VALUE, VALUES = 9, BUFFERS = FIRST_V
 /* Whether a call may write the table, and the outcomes. */
 static inline int writes_table(uint64_t function)
 {
-    return function != TOTALS;
+    return function != TOTALS && function != JOURNAL;
 }
 static inline int writes_outcomes(uint64_t function)
 {
