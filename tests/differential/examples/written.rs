@@ -24,8 +24,8 @@ fn print(what: &str, parts: &[&[u8]]) {
 /// A message that is written, where the case's values allow it.
 fn written(random: &mut Random) -> Option<()> {
     let table = tables::valid(random);
-    let flow = differential::flows::whole(random, &table, differential::flows::Size::Few);
-    let Call::Write { outcomes, values, .. } = messages::write(random, &table, &flow) else { return None };
+    let (edition, flow) = differential::flows::whole(random, &table, differential::flows::Size::Few);
+    let Call::Write { outcomes, values, .. } = messages::write(random, &table, edition, &flow) else { return None };
     let (mut message, mut read) = (vec![0; 40_000], vec![0; 3_152]);
     let (mut length, mut entries) = (0, 0);
     let given = std::array::from_fn(|place| &values[place][..]);

@@ -125,7 +125,7 @@ pub fn sequence(random: &mut Random) -> Case {
             Call::Reverse { body, notice } => {
                 reference::reverse(&mut table, body, notice);
             }
-            _ | Call::Journal { .. } => {}
+            _ => {}
         }
         calls.push(call);
     }

@@ -2,7 +2,7 @@
 
 use reference::fields::Operation;
 use reference::message::{self, ENTRY_VALUES, Entry, GIVEN, Given, HEADER, HEADER_VALUES, ISTAT, LONGEST_MESSAGE, Message};
-use reference::{Kind, LONGEST_FLOW, MOST_ORDERS, OUTCOME, Table, fields, markup, structure};
+use reference::{Edition, Kind, LONGEST_FLOW, MOST_ORDERS, OUTCOME, Table, fields, markup, structure};
 
 use crate::case::{Call, Case, Values};
 use crate::flows::{self, Inside, Names, Node, Size};
@@ -14,10 +14,10 @@ pub fn case(random: &mut Random) -> Case {
     if random.percent(45) {
         let table = tables::valid(random);
         let size = if random.percent(80) { Size::Few } else { Size::Any };
-        let flow = if random.percent(88) { flows::whole(random, &table, size) } else { flows::damaged(random, &table, size) };
+        let (edition, flow) = if random.percent(88) { flows::whole(random, &table, size) } else { flows::damaged(random, &table, size) };
         let room = 1024;
-        let write = write(random, &table, &flow);
-        return Case { table: table.encode(), calls: vec![Call::Flow { flow, room }, write] };
+        let write = write(random, &table, edition, &flow);
+        return Case { table: table.encode(), calls: vec![Call::Flow { edition, flow, room }, write] };
     }
     let bytes = bytes(random);
     let mut calls = Vec::new();
@@ -32,8 +32,8 @@ pub fn case(random: &mut Random) -> Case {
 }
 
 /// What a message is written from, most of it right, for a flow on a table.
-pub fn write(random: &mut Random, table: &Table, flow: &[u8]) -> Call {
-    let mut outcomes = outcomes(random, table, flow);
+pub fn write(random: &mut Random, table: &Table, edition: u64, flow: &[u8]) -> Call {
+    let mut outcomes = outcomes(random, table, edition, flow);
     if random.percent(25) {
         damage_outcomes(random, &mut outcomes);
     }
@@ -77,15 +77,15 @@ fn values_room(random: &mut Random, bytes: &[u8]) -> usize {
 }
 
 /// The outcome bytes that the flow gets on the table; where it is refused for the table's sake, bytes that it might have got.
-fn outcomes(random: &mut Random, table: &Table, flow: &[u8]) -> Vec<u8> {
+fn outcomes(random: &mut Random, table: &Table, edition: u64, flow: &[u8]) -> Vec<u8> {
     let mut outcomes = vec![0; 1_024];
-    let answer = reference::flow(&mut table.encode(), flow, &mut outcomes);
+    let answer = reference::flow(&mut table.encode(), edition, flow, &mut outcomes);
     outcomes.truncate(OUTCOME * answer.orders as usize);
     if answer.code == 0 {
         return outcomes;
     }
-    let read = if flow.len() > LONGEST_FLOW { None } else { markup::read(flow) };
-    let read = read.as_ref().and_then(structure::read).and_then(|raw| fields::read(&raw).ok());
+    let read = if flow.len() > LONGEST_FLOW { None } else { markup::read(flow, false) };
+    let read = read.as_ref().and_then(|root| structure::read(root, Edition::Oil)).and_then(|raw| fields::read(&raw, Edition::Oil).ok());
     let Some(read) = read else {
         return vec![0; OUTCOME * (1 + random.below(3))];
     };

@@ -6,7 +6,7 @@
 use std::time::{Duration, Instant};
 
 use reference::table::{ENTRY, HEAD, SLOT, number_at};
-use reference::{Form, Table, fields, markup, structure};
+use reference::{Edition, Form, Table, fields, markup, structure};
 
 use crate::case::{Call, Case};
 use crate::compare::Yard;
@@ -476,8 +476,8 @@ fn without_slot(table: &[u8], body: usize, slot: usize) -> Option<Vec<u8>> {
 
 /// The outcome bytes of a flow's orders with the codes that these have; `None` where the flow can't be read.
 fn refitted(flow: &[u8], outcomes: &[u8]) -> Option<Vec<u8>> {
-    let root = markup::read(flow)?;
-    let read = fields::read(&structure::read(&root)?).ok()?;
+    let root = markup::read(flow, false)?;
+    let read = fields::read(&structure::read(&root, Edition::Oil)?, Edition::Oil).ok()?;
     let codes = outcomes.chunks(16).map(|outcome| outcome.get(2).copied().unwrap_or_default());
     let refitted = read.orders.iter().zip(codes).flat_map(|(order, code)| {
         let first = [order.kind as u8, order.operation as u8, code, order.lines.len() as u8];

@@ -3,6 +3,7 @@
 //! A message is held as plain values ([`Message`]); writing turns values into bytes, reading turns bytes into values, and writing again does
 //! the one after the other.
 
+use crate::Edition;
 use crate::fields::{self, Broken, Cause, Operation, cause};
 use crate::markup::{self, Content, Element, is_text};
 use crate::table::{Date, Kind};
@@ -211,9 +212,9 @@ pub fn message_of(flow: &[u8], outcomes: &[u8], given: &Given) -> Result<Message
     if flow.len() > LONGEST_FLOW {
         return Err(2);
     }
-    let root = markup::read(flow).ok_or(3u64)?;
-    let raw = structure::read(&root).ok_or(4u64)?;
-    let read = fields::read(&raw).map_err(|_| 5u64)?;
+    let root = markup::read(flow, false).ok_or(3u64)?;
+    let raw = structure::read(&root, Edition::Oil).ok_or(4u64)?;
+    let read = fields::read(&raw, Edition::Oil).map_err(|_| 5u64)?;
     if outcomes.len() < OUTCOME * read.orders.len() {
         return Err(41);
     }
@@ -372,7 +373,7 @@ pub fn values_of(message: &[u8]) -> Result<Read<'_>, ReadAnswer> {
     if message.len() > LONGEST_MESSAGE {
         return Err(refused(2));
     }
-    let root = markup::read(message).ok_or(refused(3))?;
+    let root = markup::read(message, false).ok_or(refused(3))?;
     let raw = raw_message(&root).ok_or(refused(4))?;
     read_fields(&raw).map_err(|broken| ReadAnswer { place: broken.at as u64, cause: broken.cause as u64, ..refused(5) })
 }

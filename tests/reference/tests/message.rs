@@ -71,7 +71,7 @@ fn outcomes(text: &str) -> Vec<u8> {
     let mut table = vec![0; 16 + 48 + 96 * 4];
     assert_eq!(open(&request(b"01234", &[(b"000471", 4)]), &mut table), 0);
     let mut outcomes = vec![0; 1024];
-    let answer = flow(&mut table, text.as_bytes(), &mut outcomes);
+    let answer = flow(&mut table, 1, text.as_bytes(), &mut outcomes);
     assert_eq!(answer.code, 0);
     outcomes.truncate(16 * answer.orders as usize);
     outcomes
