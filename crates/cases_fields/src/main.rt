@@ -37,6 +37,14 @@ fn say_value(v: Value) {
             say(b" ");
             say_number(codes::operation_number(o) as u64);
         }
+        Value::Accepted(o) => {
+            say(b" accepted ");
+            say_number(codes::operation_number(o) as u64);
+        }
+        Value::Refused(o) => {
+            say(b" refused ");
+            say_number(codes::operation_number(o) as u64);
+        }
     }
 }
 
@@ -51,7 +59,30 @@ fn say_reading(r: Reading) {
     }
 }
 
-// The form that a name stands for; any other name is a name's.
+// The forms of outcome messages; any other name is a name's.
+fn message_form_of(form: &[u8]) -> Form {
+    if scan::same(form, b"data_ora_esito_operazione") {
+        return Form::DataOraZona;
+    }
+    if scan::same(form, b"testo") {
+        return Form::Testo;
+    }
+    if scan::same(form, b"esito_operazione") {
+        return Form::EsitoOperazione;
+    }
+    if scan::same(form, b"codice_errore") {
+        return Form::CodiceErrore;
+    }
+    if scan::same(form, b"descrizione") {
+        return Form::Descrizione;
+    }
+    if scan::same(form, b"elemento") {
+        return Form::Elemento;
+    }
+    Form::Anagrafica
+}
+
+// The form that a name stands for.
 fn form_of(form: &[u8]) -> Form {
     if scan::same(form, b"codice_ABI_BT") {
         return Form::CodiceAbi;
@@ -83,7 +114,7 @@ fn form_of(form: &[u8]) -> Form {
     if scan::same(form, b"progressivo") {
         return Form::Progressivo;
     }
-    Form::Anagrafica
+    message_form_of(form)
 }
 
 // One case: the line from a up to e.

@@ -1,13 +1,13 @@
 -- Laws of dates and times, a way out of the code at a time.
 use mathlib.Core.Path.{_≡_, refl, sym, _∙_}
 use mathlib.Core.List.{List}
-use mathlib.Core.Bool.{Bool, true, false, cond, not, _&&_}
-use Prim.Native.Nat.{ℕ}
+use mathlib.Core.Bool.{Bool, true, false, cond, not, _&&_, _||_}
+use Prim.Native.Nat.{ℕ, _-_, _≤_, _<_}
 use native.Mathlib.Omega.{arith}
-use lib.ListN.{length}
+use lib.ListN.{length, take, drop, length-take, length-drop}
 use lib.Dec.{eqb}
 use borrow.Author.Tests.{eq-eqb, ne-eqb, eqb-true, not-false}
-use Rattle.scan.specs.Bytes.{byteAt, part}
+use Rattle.scan.specs.Bytes.{bytes, byteAt, part, hasAt, textIs}
 use Rattle.scan.proofs.Laws.{both}
 use Rattle.calendar.specs.declared.Date.{Date}
 use Rattle.calendar.specs.Calendar.{isDate}
@@ -16,7 +16,7 @@ use Rattle.digits.specs.declared.Number.the-variants.{Value, NoNumber}
 use Rattle.digits.specs.Digits.{digits}
 use Rattle.dates.specs.declared.Day.{Day}
 use Rattle.dates.specs.declared.Day.the-variants.{On, NoDay}
-use Rattle.dates.specs.Dates.{dataWritten, dataOf, dayOf, real, clock, isOn, signs, dateIn, timeIn, areNumbers, dataOraWritten, dataOraWithin, dataOra}
+use Rattle.dates.specs.Dates.{dataWritten, dataOf, dayOf, real, clock, isOn, signs, dateIn, timeIn, areNumbers, dataOraWritten, dataOraWithin, dataOra, isSign, zoneSigns, zonaBy, beforeZone, zoneIn, dataOraZona, dataOraZonaWritten, dataOraZonaWithin}
 
 module _ (t : List ℕ) where
   pub data-length : (length t ≡ 10 → ⊥) → dataWritten t ≡ NoDay
@@ -147,3 +147,91 @@ data-real t {d} = go (dataWritten t)
     go : (x : Day) → real x ≡ On d → isDate d ≡ true
     go (On x) e = on x (isDate x) refl e
     go NoDay e = no e
+
+-- a zone
+module _ (z : List ℕ) where
+  pub zone-length : (length z ≡ 6 → ⊥) → zoneSigns z ≡ false
+  unfolding zoneSigns
+  zone-length h = rw (ne-eqb (length z) 6 h)
+
+  module _ (l : length z ≡ 6) where
+    pub zone-no-sign : isSign (byteAt z 0) ≡ false → zoneSigns z ≡ false
+    unfolding zoneSigns
+    zone-no-sign h = rw (eq-eqb (length z) 6 l, h)
+
+    pub zone-colon : isSign (byteAt z 0) ≡ true → zoneSigns z ≡ eqb (byteAt z 3) 58
+    unfolding zoneSigns
+    zone-colon h = rw (eq-eqb (length z) 6 l, h)
+
+pub zone-6 : (z : List ℕ) → zoneSigns z ≡ true → length z ≡ 6
+unfolding zoneSigns
+zone-6 z e = eqb-true (length z) 6 (both (eqb (length z) 6) _ e .0)
+
+pub seen-6 : (z : List ℕ) {x : Bool} → x ≡ zoneSigns z → not x ≡ false → length z ≡ 6
+seen-6 z e f = zone-6 z (sym e ∙ not-false _ f)
+
+module _ (f : Number → Number → Number → Bool) (z : List ℕ) where
+  pub zona-z : textIs (bytes "Z") z ≡ true → zonaBy f z ≡ true
+  unfolding zonaBy
+  zona-z e = rw e
+
+  module _ (e : textIs (bytes "Z") z ≡ false) where
+    pub zona-no-signs : zoneSigns z ≡ false → zonaBy f z ≡ false
+    unfolding zonaBy
+    zona-no-signs h = rw (e, h)
+
+    pub zona-time : zoneSigns z ≡ true → zonaBy f z ≡ f (digits 2 2 (part z 1 3)) (digits 2 2 (part z 4 6)) (Value 0)
+    unfolding zonaBy
+    zona-time h = rw (e, h)
+
+-- a zone of numbers in their range is one of numbers
+zona-written : (z : List ℕ) → zonaBy clock z ≡ true → zonaBy areNumbers z ≡ true
+unfolding zonaBy
+zona-written z = go (textIs (bytes "Z") z) (zoneSigns z) _ _ (clock-written (digits 2 2 (part z 1 3)) (digits 2 2 (part z 4 6)) (Value 0))
+  where
+    go : (b s c n : Bool) → (c ≡ true → n ≡ true) → b || (s && c) ≡ true → b || (s && n) ≡ true
+    go true s c n h e = refl
+    go false true c n h e = h e
+    go false false c n h e = e
+
+-- form and range together
+zoned : (w r n c : Bool) → (c ≡ true → n ≡ true) → (w && r) && c ≡ (w && n) && (r && c)
+zoned false r n c h = refl
+zoned true r true c h = refl
+zoned true true false true h = let e = h refl in let z : _≡_ {A = ℕ} 0 1 = cc in absurd (omega arith)
+zoned true true false false h = refl
+zoned true false false c h = refl
+
+pub zona-both : (t : List ℕ) → dataOraZona t ≡ dataOraZonaWritten t && dataOraZonaWithin t
+unfolding dataOra dataOraZona dataOraZonaWritten dataOraZonaWithin
+zona-both t = zoned (dataOraWritten (beforeZone t)) (dataOraWithin (beforeZone t)) _ _ (zona-written (zoneIn t))
+
+-- how long a zone is, and a time with one
+pub zone-long : (f : Number → Number → Number → Bool) (z : List ℕ) → zonaBy f z ≡ true → length z ≤ 6
+unfolding zonaBy textIs
+zone-long f z = go (textIs (bytes "Z") z) refl
+  where
+    go : (b : Bool) → textIs (bytes "Z") z ≡ b → b || (zoneSigns z && f (digits 2 2 (part z 1 3)) (digits 2 2 (part z 4 6)) (Value 0)) ≡ true → length z ≤ 6
+    go true e h = let l = eqb-true (length z) 1 (both (eqb (length z) 1) (hasAt (bytes "Z") z 0) e .0) in omega arith
+    go false e h = let l = zone-6 z (both (zoneSigns z) _ h .0) in omega arith
+
+pub ora-zona-long : (t : List ℕ) → dataOraZonaWritten t ≡ true → (19 ≤ length t) × (length t ≤ 25)
+unfolding dataOraZonaWritten
+ora-zona-long t e =
+    let b = both (dataOraWritten (beforeZone t)) (zonaBy areNumbers (zoneIn t)) e in
+    let l = ora-19 (beforeZone t) (b .0) in
+    let k = zone-long areNumbers (zoneIn t) (b .1) in
+    let u = length-take 19 t in
+    let v = length-take (length t - 19) (drop 19 t) in
+    let w = length-drop 19 t in
+    (omega arith, omega arith)
+
+-- a text too short for a time
+module _ (t : List ℕ) (h : length t < 19) where
+  pub short-ora : dataOraZona t ≡ false
+  unfolding dataOraZona
+  short-ora = let l = length-take 19 t in rw (ora-no-signs (beforeZone t) (signs-length (beforeZone t) (λ e. omega arith)))
+
+  pub short-written : dataOraZonaWritten t ≡ false
+  unfolding dataOraZonaWritten
+  short-written = let l = length-take 19 t in rw (written-no-signs (beforeZone t) (signs-length (beforeZone t) (λ e. omega arith)))

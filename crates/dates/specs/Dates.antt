@@ -1,10 +1,10 @@
 -- The forms that write a date (document 01, "The fields"). A text is taken as it stands in the flow: nothing is trimmed.
 use Prim.Native.Nat.{ℕ}
 use mathlib.Core.List.{List}
-use mathlib.Core.Bool.{Bool, true, false, cond, _&&_}
+use mathlib.Core.Bool.{Bool, true, false, cond, _&&_, _||_}
 use lib.ListN.{length}
 use lib.Dec.{leb, eqb}
-use Rattle.scan.specs.Bytes.{byte, byteAt, part}
+use Rattle.scan.specs.Bytes.{bytes, byte, byteAt, part, textIs}
 use Rattle.calendar.specs.declared.Date.{Date}
 use Rattle.calendar.specs.Calendar.{isDate}
 use Rattle.digits.specs.declared.Number.{Number}
@@ -79,3 +79,32 @@ dataOraWithin t = isOn (dataOf (dateIn t)) && timeIn clock t
 -- data_ora_creazione_flusso: YYYY-MM-DDThh:mm:ss, of such a date and time
 unfoldable pub dataOra : List ℕ → Bool
 dataOra t = dataOraWritten t && dataOraWithin t
+
+-- A TIME WITH A ZONE (document 02, Req 01): "times are as there with Z or a sign and hh:mm to 23:59"
+abbrev pub isSign : ℕ → Bool
+isSign b = eqb b (byte "+") || eqb b (byte "-")
+
+-- a sign, hh:mm's length and colon
+unfoldable pub zoneSigns : List ℕ → Bool
+zoneSigns z = eqb (length z) 6 && (isSign (byteAt z 0) && eqb (byteAt z 3) (byte ":"))
+
+-- Z, or a sign and hh:mm of which f holds
+unfoldable pub zonaBy : (Number → Number → Number → Bool) → List ℕ → Bool
+zonaBy f z = textIs (bytes "Z") z || (zoneSigns z && f (digits 2 2 (part z 1 3)) (digits 2 2 (part z 4 6)) (Value 0))
+
+-- the time, and what follows it
+abbrev pub beforeZone : List ℕ → List ℕ
+beforeZone t = part t 0 19
+
+abbrev pub zoneIn : List ℕ → List ℕ
+zoneIn t = part t 19 (length t)
+
+unfoldable pub dataOraZona : List ℕ → Bool
+dataOraZona t = dataOra (beforeZone t) && zonaBy clock (zoneIn t)
+
+-- its form, whatever it writes, and its range
+unfoldable pub dataOraZonaWritten : List ℕ → Bool
+dataOraZonaWritten t = dataOraWritten (beforeZone t) && zonaBy areNumbers (zoneIn t)
+
+unfoldable pub dataOraZonaWithin : List ℕ → Bool
+dataOraZonaWithin t = dataOraWithin (beforeZone t) && zonaBy clock (zoneIn t)

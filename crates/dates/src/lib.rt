@@ -1,8 +1,8 @@
-// The forms that write a date: data_mandato, data_reversale and data_ora_creazione_flusso.
+// The forms that write a date: data_mandato, data_reversale, data_ora_creazione_flusso, and the times of an outcome message.
 use calendar::Date;
 use digits::Number;
 ghost use mathlib.Core.Path.{_≡_};
-ghost use Rattle.dates.specs.Dates.{onDate, dayOf, dataWritten, real, dataOf, clock, isOn, signs, areNumbers, dataOraWritten, dataOra};
+ghost use Rattle.dates.specs.Dates.{onDate, dayOf, dataWritten, real, dataOf, clock, isOn, signs, areNumbers, dataOraWritten, dataOra, isSign, zoneSigns, zonaBy, dataOraZona, dataOraZonaWritten};
 
 pub enum Day {
     On(Date),
@@ -160,4 +160,88 @@ pub fn data_ora(t: &[u8]) -> bool
         digits::two_digits(&t[14..16]),
         digits::two_digits(&t[17..19]),
     )
+}
+
+fn is_sign(b: u8) -> bool
+    ensures { λ r. ⌜ r ≡ isSign b ⌝ }
+{
+    if b == b'+' {
+        return true;
+    }
+    b == b'-'
+}
+
+// The length of a sign and hh:mm, the sign and the colon.
+fn zone_signs(z: &[u8]) -> bool
+    ensures { λ r. ⌜ r ≡ zoneSigns (now (z .entry)) ⌝ }
+{
+    if z.len() != 6 {
+        return false;
+    }
+    if !is_sign(z[0]) {
+        return false;
+    }
+    z[3] == b':'
+}
+
+// Z, or a sign and hh:mm to 23:59
+fn zona_of(z: &[u8]) -> bool
+    ensures { λ r. ⌜ r ≡ zonaBy clock (now (z .entry)) ⌝ }
+{
+    if scan::same(z, b"Z") {
+        return true;
+    }
+    if !zone_signs(z) {
+        return false;
+    }
+    clock_stands(
+        digits::two_digits(&z[1..3]),
+        digits::two_digits(&z[4..6]),
+        Number::Value(0),
+    )
+}
+
+// Z, or a sign and hh:mm, whatever it writes
+fn zona_written(z: &[u8]) -> bool
+    ensures { λ r. ⌜ r ≡ zonaBy areNumbers (now (z .entry)) ⌝ }
+{
+    if scan::same(z, b"Z") {
+        return true;
+    }
+    if !zone_signs(z) {
+        return false;
+    }
+    are_numbers(
+        digits::two_digits(&z[1..3]),
+        digits::two_digits(&z[4..6]),
+        Number::Value(0),
+    )
+}
+
+// A time with a zone.
+pub fn data_ora_zona(t: &[u8]) -> bool
+    ensures { λ r. ⌜ r ≡ dataOraZona (now (t .entry)) ⌝ }
+{
+    let n = t.len();
+    if n < 19 {
+        return false;
+    }
+    if !data_ora(&t[0..19]) {
+        return false;
+    }
+    zona_of(&t[19..n])
+}
+
+// A time with a zone, whatever date, time and zone it writes.
+pub fn data_ora_zona_written(t: &[u8]) -> bool
+    ensures { λ r. ⌜ r ≡ dataOraZonaWritten (now (t .entry)) ⌝ }
+{
+    let n = t.len();
+    if n < 19 {
+        return false;
+    }
+    if !data_ora_written(&t[0..19]) {
+        return false;
+    }
+    zona_written(&t[19..n])
 }

@@ -67,3 +67,14 @@ importo t = amountOf (take (run isDigit t) t) (drop (run isDigit t) t)
 -- progressivo: 1 to 3 digits, as a number; leading zeros don't count
 unfoldable pub progressivo : List ℕ → Number
 progressivo t = digits 1 3 t
+
+-- the codes of a refused order: document 01, "Per order", 11 to 19 (document 02, Req 01: "a code no order can get" is any other but 0)
+abbrev pub isRefusal : ℕ → Bool
+isRefusal c = between 11 19 c
+
+-- codice_errore of an outcome message (document 000, 10.2.5): two digits, the code of a refused order
+abbrev pub codiceErroreWritten : List ℕ → Number
+codiceErroreWritten t = digits 2 2 t
+
+unfoldable pub codiceErrore : List ℕ → Number
+codiceErrore t = within isRefusal (codiceErroreWritten t)

@@ -1,8 +1,8 @@
-// The forms that write a number in digits: esercizio, numero, progressivo and the amounts.
+// The forms that write a number in digits: esercizio, numero, progressivo, the amounts, and codice_errore of an outcome message.
 ghost use mathlib.Core.Path.{_≡_};
 ghost use Prim.Native.Nat.{_≤_};
 ghost use Rattle.scan.specs.Bytes.{between};
-ghost use Rattle.digits.specs.Digits.{isValue, within, digits, esercizio, numeroWritten, numero, progressivo, importo};
+ghost use Rattle.digits.specs.Digits.{isValue, within, digits, esercizio, numeroWritten, numero, progressivo, importo, isRefusal, codiceErrore};
 ghost use Rattle.digits.specs.Inner.{zeroFirst};
 
 pub enum Number {
@@ -139,4 +139,28 @@ pub fn importo_of(t: &[u8]) -> Number
         return Number::NoNumber;
     };
     Number::Value(whole * 100 + cents)
+}
+
+// Whether an order can be refused with this code.
+pub fn is_refusal(code: u64) -> bool
+    ensures { λ r. ⌜ r ≡ isRefusal code ⌝ }
+{
+    if code < 11 {
+        return false;
+    }
+    code <= 19
+}
+
+// codice_errore
+pub fn codice_errore(t: &[u8]) -> Number
+    ensures { λ r. ⌜ r ≡ codiceErrore (now (t .entry)) ⌝ }
+{
+    let Number::Value(v) = digits_of(t, 2, 2) else {
+        return Number::NoNumber;
+    };
+    if is_refusal(v) {
+        Number::Value(v)
+    } else {
+        Number::NoNumber
+    }
 }

@@ -7,6 +7,7 @@ use native.Mathlib.Omega.{arith}
 use lib.ListN.{length}
 use borrow.Author.Tests.{eq-eqb, ne-eqb}
 use Rattle.codes.specs.declared.Asked.{Asked}
+use Rattle.codes.specs.declared.Esito.{Esito}
 use Rattle.digits.specs.declared.Number.{Number}
 use Rattle.dates.specs.declared.Day.{Day}
 use Rattle.fields.specs.declared.Judged.the-variants.{Stands, Breaks}
@@ -17,7 +18,7 @@ use Rattle.fields.specs.declared.Longest.{Longest}
 use Rattle.fields.specs.declared.Cause.{Cause}
 use Rattle.fields.specs.declared.Cause.the-variants.{Empty, Long, Misformed, OutOfRange}
 use Rattle.fields.specs.Causes.{longest, longer, formed, causeOf}
-use Rattle.fields.specs.Fields.{Valued, some, none, ofText, ofNumber, ofDay, ofOperation, told, fieldValue, standsBy, readingOf, fieldStands}
+use Rattle.fields.specs.Fields.{Valued, some, none, ofText, ofNumber, ofDay, ofOperation, ofEsito, told, fieldValue, standsBy, readingOf, fieldStands}
 
 -- a reading of what a form's own function answers
 module _ (w : Cause) where
@@ -32,6 +33,9 @@ module _ (w : Cause) where
 
   pub told-operation : {a b : Asked} → a ≡ b → told w (ofOperation a) ≡ told w (ofOperation b)
   told-operation e = rw e
+
+  pub told-esito : {a b : Esito} → a ≡ b → told w (ofEsito a) ≡ told w (ofEsito b)
+  told-esito e = rw e
 
 -- what a reading says of whether its text stands
 module _ (f : Form) (t : List ℕ) where

@@ -15,14 +15,14 @@ use Rattle.ranges.specs.Ranges.{isIdentifying}
 use Rattle.calendar.specs.declared.Date.{Date}
 use Rattle.calendar.specs.Calendar.{leap, monthLength, isDate}
 use Rattle.codes.specs.declared.Asked.the-variants.{NoOperation}
-use Rattle.codes.specs.Codes.{codiceAbi, identificativo, codiceEnte, tipoOperazione, isAsked}
+use Rattle.codes.specs.Codes.{codiceAbi, identificativo, codiceEnte, tipoOperazione, isAsked, lengthIn, acceptedWord, refusedWord, esitoOperazione}
 use Rattle.digits.specs.declared.Number.the-variants.{Value}
-use Rattle.digits.specs.Digits.{digitsAfter, digits, zeroInFront, isValue, valueIs, esercizio, numeroWritten, numero, importo, progressivo}
+use Rattle.digits.specs.Digits.{digitsAfter, digits, zeroInFront, isValue, valueIs, esercizio, numeroWritten, numero, importo, progressivo, codiceErrore}
 use Rattle.dates.specs.declared.Day.the-variants.{On}
-use Rattle.dates.specs.Dates.{isOn, dayIs, dataWritten, dataOf, clock, signs, dataOraWritten, dataOraWithin, dataOra}
+use Rattle.dates.specs.Dates.{isOn, dayIs, dataWritten, dataOf, clock, signs, dataOraWritten, dataOraWithin, dataOra, zoneSigns, zonaBy, dataOraZona}
 use Rattle.names.specs.Names.{replacedAfter, charactersAfter, anagrafica}
 use Rattle.fields.specs.declared.Form.{Form}
-use Rattle.fields.specs.declared.Form.the-variants.{CodiceAbi, Identificativo, DataOra, CodiceEnte, Esercizio, TipoOperazione, Numero, Data, Importo, Progressivo, Anagrafica}
+use Rattle.fields.specs.declared.Form.the-variants.{CodiceAbi, Identificativo, DataOra, CodiceEnte, Esercizio, TipoOperazione, Numero, Data, Importo, Progressivo, Anagrafica, DataOraZona, Testo, EsitoOperazione, CodiceErrore, Descrizione, Elemento}
 use Rattle.fields.specs.declared.Reading.the-variants.{Breaks}
 use Rattle.fields.specs.declared.Cause.{Cause}
 use Rattle.fields.specs.declared.Cause.the-variants.{Empty, Long, Misformed, OutOfRange}
@@ -61,7 +61,7 @@ unknown t e l m = tells TipoOperazione t .first-told Misformed (record { it-appl
     before OutOfRange h = absurd (omega arith)
 
 reached : (f : Form) → Reached f
-unfolding isDigit isLetter isAlnum all run startsWith hasAt textIs isChar sized isTail charSize whichAt leap monthLength isDate isIdentifying codiceAbi identificativo codiceEnte tipoOperazione digitsAfter digits zeroInFront esercizio numero importo progressivo dataOf clock signs dataOraWritten dataOraWithin dataOra replacedAfter charactersAfter anagrafica fieldStands
+unfolding isDigit isLetter isAlnum all run startsWith hasAt textIs isChar sized isTail charSize whichAt leap monthLength isDate isIdentifying codiceAbi identificativo codiceEnte tipoOperazione digitsAfter digits zeroInFront esercizio numero importo progressivo dataOf clock signs dataOraWritten dataOraWithin dataOra replacedAfter charactersAfter anagrafica lengthIn acceptedWord refusedWord esitoOperazione codiceErrore zoneSigns zonaBy dataOraZona fieldStands
 reached CodiceAbi = record { text = bytes "01234"; whole = refl; stands = refl }
 reached Identificativo = record { text = replicate 35 65; whole = refl; stands = refl }
 reached DataOra = record { text = bytes "2021-03-01T09:30:00"; whole = refl; stands = refl }
@@ -73,6 +73,12 @@ reached Data = record { text = bytes "2021-03-01"; whole = refl; stands = refl }
 reached Importo = record { text = bytes "999999999.99"; whole = refl; stands = refl }
 reached Progressivo = record { text = bytes "999"; whole = refl; stands = refl }
 reached Anagrafica = record { text = replicate 140 65; whole = refl; stands = refl }
+reached DataOraZona = record { text = bytes "2021-03-01T09:30:00+01:00"; whole = refl; stands = refl }
+reached Testo = record { text = replicate 140 65; whole = refl; stands = refl }
+reached EsitoOperazione = record { text = bytes "NON SOSTITUITO"; whole = refl; stands = refl }
+reached CodiceErrore = record { text = bytes "19"; whole = refl; stands = refl }
+reached Descrizione = record { text = bytes "19"; whole = refl; stands = refl }
+reached Elemento = record { text = bytes "progressivo_beneficiario"; whole = refl; stands = refl }
 
 pub sentences : Sentences
 sentences = record { told = tells; reached = reached; unreal-date = unreal; unknown-operation = unknown; numero-zero = nothing }

@@ -12,26 +12,28 @@ use Rattle.bounds.specs.Bounds.{isYear, isNumero}
 use Rattle.calendar.specs.Calendar.{isDate}
 use Rattle.codes.specs.declared.Asked.{Asked}
 use Rattle.codes.specs.declared.Asked.the-variants.{Operazione, NoOperation}
-use Rattle.codes.specs.Codes.{codiceAbi, identificativo, codiceEnte, tipoOperazione, isAsked}
-use Rattle.codes.proofs.Laws.{abi-length, identificativo-length, ente-length, operation-length}
+use Rattle.codes.specs.declared.Esito.{Esito}
+use Rattle.codes.specs.declared.Esito.the-variants.{Accepted, Refused, NoEsito}
+use Rattle.codes.specs.Codes.{codiceAbi, identificativo, codiceEnte, tipoOperazione, isAsked, testo, descrizione, elemento, esitoOperazione, isWord}
+use Rattle.codes.proofs.Laws.{abi-length, identificativo-length, ente-length, operation-length, word-length, length-in}
 use Rattle.digits.specs.declared.Number.{Number}
 use Rattle.digits.specs.declared.Number.the-variants.{Value, NoNumber}
-use Rattle.digits.specs.Digits.{isValue, valueIs, within, esercizioWritten, esercizio, numeroWritten, numero, importo, progressivo}
+use Rattle.digits.specs.Digits.{isValue, valueIs, within, esercizioWritten, esercizio, numeroWritten, numero, importo, progressivo, isRefusal, codiceErroreWritten, codiceErrore}
 use Rattle.digits.proofs.Laws.{digits-length, importo-length}
 use Rattle.dates.specs.declared.Day.{Day}
 use Rattle.dates.specs.declared.Day.the-variants.{On, NoDay}
 use Rattle.dates.specs.Dates.{dataWritten, real, isOn, dayIs, dataOf, dataOra}
-use Rattle.dates.proofs.Laws.{data-10, ora-19}
+use Rattle.dates.proofs.Laws.{data-10, ora-19, zona-both, ora-zona-long}
 use Rattle.names.specs.Names.{anagrafica}
 use Rattle.names.proofs.Laws.{anagrafica-length}
 use Rattle.fields.specs.declared.Judged.the-variants.{Breaks}
 use Rattle.fields.specs.declared.Reading.the-variants as reading
 use Rattle.fields.specs.declared.Form.{Form}
-use Rattle.fields.specs.declared.Form.the-variants.{CodiceAbi, Identificativo, DataOra, CodiceEnte, Esercizio, TipoOperazione, Numero, Data, Importo, Progressivo, Anagrafica}
+use Rattle.fields.specs.declared.Form.the-variants.{CodiceAbi, Identificativo, DataOra, CodiceEnte, Esercizio, TipoOperazione, Numero, Data, Importo, Progressivo, Anagrafica, DataOraZona, Testo, EsitoOperazione, CodiceErrore, Descrizione, Elemento}
 use Rattle.fields.specs.declared.Cause.{Cause}
 use Rattle.fields.specs.declared.Cause.the-variants.{Empty, Long, Misformed, OutOfRange}
 use Rattle.fields.specs.Causes.{causeNumber, formed, inRange, applies, causeOf}
-use Rattle.fields.specs.Fields.{Valued, some, none, told, fieldValue, readingOf, standsBy, judged, isNumber, isDay, isOperation, fieldStands}
+use Rattle.fields.specs.Fields.{Valued, some, none, told, fieldValue, readingOf, standsBy, judged, isNumber, isDay, isOperation, isEsito, fieldStands}
 use Rattle.fields.specs.Told.{First, Told}
 
 no : {A : Type 0} → _≡_ {A = Bool} true false → A
@@ -67,8 +69,13 @@ operation-whole : (a : Asked) → isOperation a ≡ judged (isAsked a && true)
 operation-whole (Operazione o) = refl
 operation-whole NoOperation = refl
 
+word-whole : (e : Esito) → isEsito e ≡ judged (isWord e && true)
+word-whole (Accepted o) = refl
+word-whole (Refused o) = refl
+word-whole NoEsito = refl
+
 stands-ranged : (f : Form) (t : List ℕ) → fieldStands f t ≡ judged (formed f t && inRange f t)
-unfolding fieldStands formed inRange dataOra esercizio numero dataOf
+unfolding fieldStands formed inRange dataOra esercizio numero dataOf codiceErrore
 stands-ranged CodiceAbi t = text-whole (codiceAbi t)
 stands-ranged Identificativo t = text-whole (identificativo t)
 stands-ranged DataOra t = refl
@@ -80,6 +87,12 @@ stands-ranged Data t = day-ranged (dataWritten t)
 stands-ranged Importo t = number-whole (importo t)
 stands-ranged Progressivo t = number-whole (progressivo t)
 stands-ranged Anagrafica t = text-whole (anagrafica t)
+stands-ranged DataOraZona t = ap judged (zona-both t)
+stands-ranged Testo t = text-whole (testo t)
+stands-ranged EsitoOperazione t = word-whole (esitoOperazione t)
+stands-ranged CodiceErrore t = number-ranged isRefusal (codiceErroreWritten t)
+stands-ranged Descrizione t = text-whole (descrizione t)
+stands-ranged Elemento t = text-whole (elemento t)
 
 -- A TEXT OF THE RIGHT FORM is neither empty nor too long
 
@@ -102,6 +115,12 @@ formed-sized Data t e = exactly t 10 (omega arith) (data-10 t e)
 formed-sized Importo t e = in-bytes t 4 12 (omega arith) (importo-length t e)
 formed-sized Progressivo t e = in-bytes t 1 3 (omega arith) (digits-length 1 3 t e)
 formed-sized Anagrafica t e = let k = anagrafica-length t e in (ne-eqb (length t) 0 (λ z. omega arith), le-ltb 140 _ (k .1))
+formed-sized DataOraZona t e = in-bytes t 19 25 (omega arith) (ora-zona-long t e)
+formed-sized Testo t e = in-bytes t 1 140 (omega arith) (length-in 1 140 t e)
+formed-sized EsitoOperazione t e = in-bytes t 1 14 (omega arith) (word-length t e)
+formed-sized CodiceErrore t e = in-bytes t 2 2 (omega arith) (digits-length 2 2 t e)
+formed-sized Descrizione t e = in-bytes t 1 2 (omega arith) (length-in 1 2 t e)
+formed-sized Elemento t e = in-bytes t 1 24 (omega arith) (length-in 1 24 t e)
 
 -- THE FOUR CONDITIONS
 

@@ -6,12 +6,12 @@ use lib.ListN.{length}
 use lib.Dec.{ltb, eqb}
 use Rattle.bounds.specs.Bounds.{abiLength, maxCode, isYear, isNumero}
 use Rattle.calendar.specs.Calendar.{isDate}
-use Rattle.codes.specs.Codes.{codiceAbi, identificativo, codiceEnte, tipoOperazione, isAsked}
-use Rattle.digits.specs.Digits.{isValue, valueIs, esercizioWritten, numeroWritten, importo, progressivo}
-use Rattle.dates.specs.Dates.{dataWritten, isOn, dayIs, dataOraWritten, dataOraWithin}
+use Rattle.codes.specs.Codes.{codiceAbi, identificativo, codiceEnte, tipoOperazione, isAsked, testo, descrizione, elemento, esitoOperazione, isWord}
+use Rattle.digits.specs.Digits.{isValue, valueIs, esercizioWritten, numeroWritten, importo, progressivo, isRefusal, codiceErroreWritten}
+use Rattle.dates.specs.Dates.{dataWritten, isOn, dayIs, dataOraWritten, dataOraWithin, dataOraZonaWritten, dataOraZonaWithin}
 use Rattle.names.specs.Names.{replaced, characters, anagrafica}
 use Rattle.fields.specs.declared.Form.{Form}
-use Rattle.fields.specs.declared.Form.the-variants.{CodiceAbi, Identificativo, DataOra, CodiceEnte, Esercizio, TipoOperazione, Numero, Data, Importo, Progressivo, Anagrafica}
+use Rattle.fields.specs.declared.Form.the-variants.{CodiceAbi, Identificativo, DataOra, CodiceEnte, Esercizio, TipoOperazione, Numero, Data, Importo, Progressivo, Anagrafica, DataOraZona, Testo, EsitoOperazione, CodiceErrore, Descrizione, Elemento}
 use Rattle.fields.specs.declared.Longest.{Longest}
 use Rattle.fields.specs.declared.Longest.the-variants.{Bytes, Characters}
 use Rattle.fields.specs.declared.Cause.{Cause}
@@ -36,6 +36,12 @@ longest Data = Bytes 10
 longest Importo = Bytes 12
 longest Progressivo = Bytes 3
 longest Anagrafica = Characters 140
+longest DataOraZona = Bytes 25
+longest Testo = Bytes 140
+longest EsitoOperazione = Bytes 14
+longest CodiceErrore = Bytes 2
+longest Descrizione = Bytes 2
+longest Elemento = Bytes 24
 
 abbrev pub longer : Longest → List ℕ → Bool
 longer (Bytes n) t = ltb n (length t)
@@ -54,6 +60,12 @@ formed Data t = isOn (dataWritten t)
 formed Importo t = isValue (importo t)
 formed Progressivo t = isValue (progressivo t)
 formed Anagrafica t = anagrafica t
+formed DataOraZona t = dataOraZonaWritten t
+formed Testo t = testo t
+formed EsitoOperazione t = isWord (esitoOperazione t)
+formed CodiceErrore t = isValue (codiceErroreWritten t)
+formed Descrizione t = descrizione t
+formed Elemento t = elemento t
 
 -- A VALUE IN ITS RANGE: "2000 to 2099"; "value 1 to 9,999,999"; "a real Gregorian date, years 2000 to 2099"; "hh 00 to 23, mm and ss 00 to 59"
 unfoldable pub inRange : Form → List ℕ → Bool
@@ -68,6 +80,13 @@ inRange Data t = dayIs isDate (dataWritten t)
 inRange Importo t = true
 inRange Progressivo t = true
 inRange Anagrafica t = true
+-- "with Z or a sign and hh:mm to 23:59"; an order's code
+inRange DataOraZona t = dataOraZonaWithin t
+inRange Testo t = true
+inRange EsitoOperazione t = true
+inRange CodiceErrore t = valueIs isRefusal (codiceErroreWritten t)
+inRange Descrizione t = true
+inRange Elemento t = true
 
 -- WHEN EACH CAUSE APPLIES, in document 02's words
 abbrev pub applies : Cause → Form → List ℕ → Bool

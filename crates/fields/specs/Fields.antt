@@ -1,16 +1,19 @@
--- The fields (document 01, "The fields"): which form asks what of a field's text. The forms stand in Codes, Digits, Dates and Names.
+-- The fields (document 01, "The fields", and document 02, Req 01): which form asks what of a field's text. The forms stand in Codes, Digits, Dates and
+-- Names.
 use Prim.Native.Nat.{ℕ}
 use mathlib.Core.List.{List}
 use mathlib.Core.Bool.{Bool, true, false}
 use Rattle.codes.specs.declared.Asked.{Asked}
 use Rattle.codes.specs.declared.Asked.the-variants.{Operazione, NoOperation}
-use Rattle.codes.specs.Codes.{codiceAbi, identificativo, codiceEnte, tipoOperazione}
+use Rattle.codes.specs.declared.Esito.{Esito}
+use Rattle.codes.specs.declared.Esito.the-variants.{Accepted, Refused, NoEsito}
+use Rattle.codes.specs.Codes.{codiceAbi, identificativo, codiceEnte, tipoOperazione, testo, descrizione, elemento, esitoOperazione}
 use Rattle.digits.specs.declared.Number.{Number}
 use Rattle.digits.specs.declared.Number.the-variants.{Value, NoNumber}
-use Rattle.digits.specs.Digits.{esercizio, numero, importo, progressivo}
+use Rattle.digits.specs.Digits.{esercizio, numero, importo, progressivo, codiceErrore}
 use Rattle.dates.specs.declared.Day.{Day}
 use Rattle.dates.specs.declared.Day.the-variants.{On, NoDay}
-use Rattle.dates.specs.Dates.{dataOra, dataOf}
+use Rattle.dates.specs.Dates.{dataOra, dataOf, dataOraZona}
 use Rattle.names.specs.Names.{anagrafica}
 use Rattle.fields.specs.declared.Judged.{Judged}
 use Rattle.fields.specs.declared.Judged.the-variants.{Stands, Breaks}
@@ -20,7 +23,7 @@ use Rattle.fields.specs.declared.Reading.{Reading}
 use Rattle.fields.specs.declared.Reading.the-variants as reading
 use Rattle.fields.specs.declared.Cause.{Cause}
 use Rattle.fields.specs.declared.Form.{Form}
-use Rattle.fields.specs.declared.Form.the-variants.{CodiceAbi, Identificativo, DataOra, CodiceEnte, Esercizio, TipoOperazione, Numero, Data, Importo, Progressivo, Anagrafica}
+use Rattle.fields.specs.declared.Form.the-variants.{CodiceAbi, Identificativo, DataOra, CodiceEnte, Esercizio, TipoOperazione, Numero, Data, Importo, Progressivo, Anagrafica, DataOraZona, Testo, EsitoOperazione, CodiceErrore, Descrizione, Elemento}
 use Rattle.fields.specs.Causes.{causeOf}
 
 -- WHAT A TEXT SAYS: a value of the form, or none. Of a text that stays bytes only that it has the form is said.
@@ -44,6 +47,11 @@ abbrev pub ofOperation : Asked → Valued
 ofOperation (Operazione o) = some (value.Operation o)
 ofOperation NoOperation = none
 
+abbrev pub ofEsito : Esito → Valued
+ofEsito (Accepted o) = some (value.Accepted o)
+ofEsito (Refused o) = some (value.Refused o)
+ofEsito NoEsito = none
+
 -- which form asks what, in the table's order
 abbrev pub fieldValue : Form → List ℕ → Valued
 fieldValue CodiceAbi t = ofText (codiceAbi t)
@@ -57,6 +65,13 @@ fieldValue Data t = ofDay (dataOf t)
 fieldValue Importo t = ofNumber (importo t)
 fieldValue Progressivo t = ofNumber (progressivo t)
 fieldValue Anagrafica t = ofText (anagrafica t)
+-- .. and of outcome messages
+fieldValue DataOraZona t = ofText (dataOraZona t)
+fieldValue Testo t = ofText (testo t)
+fieldValue EsitoOperazione t = ofEsito (esitoOperazione t)
+fieldValue CodiceErrore t = ofNumber (codiceErrore t)
+fieldValue Descrizione t = ofText (descrizione t)
+fieldValue Elemento t = ofText (elemento t)
 
 -- A READING: the value that a text says, or what is wrong with it (Causes)
 abbrev pub told : Cause → Valued → Reading
@@ -86,3 +101,6 @@ isDay d = standsBy (ofDay d)
 
 abbrev pub isOperation : Asked → Judged
 isOperation a = standsBy (ofOperation a)
+
+abbrev pub isEsito : Esito → Judged
+isEsito e = standsBy (ofEsito e)

@@ -1,19 +1,21 @@
-// The eleven forms of document 01's field table: each is read once, for its value, and where it has none for what is wrong.
+// The eleven forms of document 01's field table, and the six that an outcome message adds: each is read once, for its value, and where it has none for
+// what is wrong.
 use calendar::Date;
 use codes::Asked;
+use codes::Esito;
 use codes::Operation;
 use dates::Day;
 use digits::Number;
 ghost use mathlib.Core.Path.{_≡_};
 ghost use Rattle.fields.specs.Causes.{causeNumber, longest, longer, formed, causeOf};
-ghost use Rattle.fields.specs.Fields.{ofText, ofNumber, ofDay, ofOperation, told, readingOf, fieldStands};
+ghost use Rattle.fields.specs.Fields.{ofText, ofNumber, ofDay, ofOperation, ofEsito, told, readingOf, fieldStands};
 
 pub enum Judged {
     Stands,
     Breaks,
 }
 
-// Document 01's eleven forms, in its table's order.
+// Document 01's eleven forms, in its table's order; then those of an outcome message.
 pub enum Form {
     CodiceAbi,
     Identificativo,
@@ -26,6 +28,12 @@ pub enum Form {
     Importo,
     Progressivo,
     Anagrafica,
+    DataOraZona,
+    Testo,
+    EsitoOperazione,
+    CodiceErrore,
+    Descrizione,
+    Elemento,
 }
 
 // What a field's text says: a value of its form; of a text that stays bytes, that it has the form.
@@ -34,6 +42,8 @@ pub enum Value {
     Number(u64),
     Day(Date),
     Operation(Operation),
+    Accepted(Operation),
+    Refused(Operation),
 }
 
 // The longest text that a form allows, in bytes or, of a name, in characters as its form counts them.
@@ -83,6 +93,12 @@ pub fn longest_of(f: Form) -> Longest
         Form::Importo => Longest::Bytes(12),
         Form::Progressivo => Longest::Bytes(3),
         Form::Anagrafica => Longest::Characters(140),
+        Form::DataOraZona => Longest::Bytes(25),
+        Form::Testo => Longest::Bytes(140),
+        Form::EsitoOperazione => Longest::Bytes(14),
+        Form::CodiceErrore => Longest::Bytes(2),
+        Form::Descrizione => Longest::Bytes(2),
+        Form::Elemento => Longest::Bytes(24),
     }
 }
 
@@ -111,6 +127,12 @@ fn is_formed(f: Form, t: &[u8]) -> bool
         Form::Importo => digits::is_value(digits::importo_of(t)),
         Form::Progressivo => digits::is_value(digits::progressivo_of(t)),
         Form::Anagrafica => names::anagrafica_of(t),
+        Form::DataOraZona => dates::data_ora_zona_written(t),
+        Form::Testo => codes::sized_text(t, 1, 140),
+        Form::EsitoOperazione => codes::is_word(codes::esito_operazione(t)),
+        Form::CodiceErrore => digits::is_value(digits::two_digits(t)),
+        Form::Descrizione => codes::sized_text(t, 1, 2),
+        Form::Elemento => codes::sized_text(t, 1, 24),
     }
 }
 
@@ -167,6 +189,16 @@ fn operation_reading(a: Asked, f: Form, t: &[u8]) -> Reading
     }
 }
 
+fn esito_reading(e: Esito, f: Form, t: &[u8]) -> Reading
+    ensures { λ r. ⌜ r ≡ told (causeOf f (now (t .entry))) (ofEsito e) ⌝ }
+{
+    match e {
+        Esito::Accepted(o) => Reading::Holds(Value::Accepted(o)),
+        Esito::Refused(o) => Reading::Holds(Value::Refused(o)),
+        Esito::NoEsito => Reading::Breaks(cause_of(f, t)),
+    }
+}
+
 // A field's text, read by its form.
 pub fn field_of(f: Form, t: &[u8]) -> Reading
     ensures { λ r. ⌜ r ≡ readingOf f (now (t .entry)) ⌝ }
@@ -183,6 +215,12 @@ pub fn field_of(f: Form, t: &[u8]) -> Reading
         Form::Importo => number_reading(digits::importo_of(t), f, t),
         Form::Progressivo => number_reading(digits::progressivo_of(t), f, t),
         Form::Anagrafica => text_reading(names::anagrafica_of(t), f, t),
+        Form::DataOraZona => text_reading(dates::data_ora_zona(t), f, t),
+        Form::Testo => text_reading(codes::sized_text(t, 1, 140), f, t),
+        Form::EsitoOperazione => esito_reading(codes::esito_operazione(t), f, t),
+        Form::CodiceErrore => number_reading(digits::codice_errore(t), f, t),
+        Form::Descrizione => text_reading(codes::sized_text(t, 1, 2), f, t),
+        Form::Elemento => text_reading(codes::sized_text(t, 1, 24), f, t),
     }
 }
 

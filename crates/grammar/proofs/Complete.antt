@@ -45,7 +45,7 @@ unfolding runEnd hasAt
 run-end-is s f n p a e k = ap (λ (j : ℕ). p + j) (run-is f n (drop p s) a e (rw getD-drop k))
 
 -- x, where it stands at the front
-starts-join : (x t : List ℕ) → startsWith x t ≡ true → t ≡ x ++ drop (length x) t
+pub starts-join : (x t : List ℕ) → startsWith x t ≡ true → t ≡ x ++ drop (length x) t
 unfolding startsWith
 starts-join [] t e = refl
 starts-join (a ∷ x) [] e = no (sym e)
@@ -130,7 +130,7 @@ module _ (s : List ℕ) (p : ℕ) where
   reference : (t : List ℕ) {r : Walk} → hasAt (38 ∷ t) s p ≡ true → refAt s p ≡ r → (pieceAt s p ≡ r) × (byteAt s p ≡ 60 → ⊥)
   reference t e f = let b = has-byte s 38 t p e in (piece-ref s p b ∙ f, λ z. omega arith)
 
-  piece-is : {x : List ℕ} → Piece x → hasAt x s p ≡ true → hasAt (bytes "]]>") s p ≡ false → (pieceAt s p ≡ Past (p + length x)) × (byteAt s p ≡ 60 → ⊥)
+  pub piece-is : {x : List ℕ} → Piece x → hasAt x s p ≡ true → hasAt (bytes "]]>") s p ≡ false → (pieceAt s p ≡ Past (p + length x)) × (byteAt s p ≡ 60 → ⊥)
   unfolding refAt whichAt hasAt startsWith
   piece-is (char c f g) e h =
       let a : byteAt s p ≡ 38 → ⊥ = λ z. g (rw z at (char-alone c e (omega arith))) in
@@ -149,7 +149,7 @@ module _ (s : List ℕ) where
   unfolding hasAt all
   no-close t p w e y = not-over (bytes "]]>") t (drop p s) refl e (rw getD-drop y) (not-so (startsWith (bytes "]]>") t) (λ h. w [] (drop 3 t) (starts-join (bytes "]]>") t h)))
 
-  without-rest : (k x t : List ℕ) → Without k (x ++ t) → Without k t
+  pub without-rest : (k x t : List ℕ) → Without k (x ++ t) → Without k t
   without-rest k x t w a b z = w (x ++ a) b (rw z (simp append-assoc))
 
   pub text-is : {t : List ℕ} (p : ℕ) → Pieces t → Without (bytes "]]>") t → hasAt t s p ≡ true → byteAt s (p + length t) ≡ 60 → textAt s p ≡ Past (p + length t)

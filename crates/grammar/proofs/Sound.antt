@@ -157,7 +157,7 @@ module _ (s : List ℕ) where
       let z : byteAt s p ≡ b = cc in
       eqb-false _ _ f z
 
-  piece-sound : (p r : ℕ) → eqb (byteAt s p) 60 ≡ false → pieceAt s p ≡ Past r → Piece (part s p r)
+  pub piece-sound : (p r : ℕ) → eqb (byteAt s p) 60 ≡ false → pieceAt s p ≡ Past r → Piece (part s p r)
   unfolding pieceAt
   piece-sound p r l e = go (eqb (byteAt s p) 38) refl (hasAt (bytes "]]>") s p) e
     where
@@ -167,7 +167,7 @@ module _ (s : List ℕ) where
       go false f false h = let g = char-past s p r h in char (char-sound s p r h) (not-alone p r 60 g l) (not-alone p r 38 g f)
 
   -- ]]> stands nowhere from p up to q
-  abbrev Clean : ℕ → ℕ → Type 0
+  abbrev pub Clean : ℕ → ℕ → Type 0
   Clean p q = (j : ℕ) → p ≤ j → j < q → hasAt (bytes "]]>") s j ≡ false
 
   -- not at a piece's first byte, nor at another of its bytes
@@ -182,7 +182,7 @@ module _ (s : List ℕ) where
       let z : p + (1 + (j - p - 1)) ≡ j = omega arith in
       no (sym (rw (getD-drop, getD-take (r - p) (drop p s) (1 + (j - p - 1)) 0 l, getD-drop, z, b) at a)))
 
-  clean-more : (p r q : ℕ) → eqb (byteAt s p) 60 ≡ false → pieceAt s p ≡ Past r → Clean r q → Clean p q
+  pub clean-more : (p r q : ℕ) → eqb (byteAt s p) 60 ≡ false → pieceAt s p ≡ Past r → Clean r q → Clean p q
   clean-more p r q l e c j h k = go (leb j p) refl (leb r j) refl
     where
       go : (a : Bool) → leb j p ≡ a → (b : Bool) → leb r j ≡ b → hasAt (bytes "]]>") s j ≡ false
@@ -198,14 +198,18 @@ module _ (s : List ℕ) where
       (λ p r q e f h. let g = piece-past s p r f in
       (omega arith, rw (part-join s p r q (omega arith) (h .0)) (more (piece-sound p r e f) (h .1)), clean-more p r q e f (h .2)))
 
+  pub clean-text : (p q : ℕ) → q ≤ length s → Pieces (part s p q) → Clean p q → Text (part s p q)
+  clean-text p q w g c =
+      text g (λ a b z.
+      let l : length (part s p q) ≡ length (a ++ (bytes "]]>") ++ b) = ap length z in
+      let k = rw (part-length s p q w, length-append, length-append) at l in
+      no (sym (part-has s p q a (bytes "]]>") b z) ∙ c (p + length a) (omega arith) (omega arith)))
+
   text-sound : (p q : ℕ) → textAt s p ≡ Past q → Text (part s p q)
   text-sound p q e =
       let g = pieces-sound p q e in
       let w = text-past s p q e in
-      text (g .1) (λ a b z.
-      let l : length (part s p q) ≡ length (a ++ (bytes "]]>") ++ b) = ap length z in
-      let k = rw (part-length s p q (omega arith), length-append, length-append) at l in
-      no (sym (part-has s p q a (bytes "]]>") b z) ∙ g .2 (p + length a) (omega arith) (omega arith)))
+      clean-text p q (omega arith) (g .1) (g .2)
 
   -- NAMES AND TAGS
   pub name-sound : (at e : ℕ) → nameAt s at ≡ Past e → Name (part s at e)

@@ -30,7 +30,7 @@ use Rattle.codes.specs.Codes.{tipoOperazione}
 use Rattle.digits.specs.Digits.{esercizio, numero, importo, progressivo}
 use Rattle.dates.specs.Dates.{dataOf}
 use Rattle.rows.specs.declared.Parent.{Parent}
-use Rattle.rows.specs.declared.Parent.the-variants.{FlussoOrdinativi, Mandato, Reversale, InformazioniBeneficiario, InformazioniVersante, Beneficiario, Versante}
+use Rattle.rows.specs.declared.Parent.the-variants.{FlussoOrdinativi, Mandato, Reversale, InformazioniBeneficiario, InformazioniVersante, Beneficiario, Versante, MessaggiEsito, TestataMessaggio, EsitoReversali, EsitoMandati, ErroriReversali, ErroriMandati}
 use Rattle.rows.specs.declared.Holds.{Holds}
 use Rattle.rows.specs.declared.Holds.the-variants.{Text, Rows}
 use Rattle.rows.specs.declared.Kept.{Kept}
@@ -62,6 +62,9 @@ held-line InformazioniBeneficiario h e w = absurd w
 held-line InformazioniVersante h e w = absurd w
 held-line Beneficiario h e w = absurd w
 held-line Versante h e w = absurd w
+held-line TestataMessaggio h e w = let z : _≡_ {A = ℕ} 9 5 = ap length e in absurd (omega arith)
+held-line EsitoReversali h e w = let z : _≡_ {A = ℕ} 9 5 = ap length e in absurd (omega arith)
+held-line EsitoMandati h e w = let z : _≡_ {A = ℕ} 9 5 = ap length e in absurd (omega arith)
 
 pub held-at : (p : Parent) (s : List ℕ) (i : ℕ) (k : Kept) → nextOf (keptFrom p s i) ≡ Named k → HeldIn (table p) (k .row) (k .holds)
 held-at p s i k e = kept-held p s i k (keptFrom p s (k .child .after)) (next-at p s i k e .rest)
@@ -364,6 +367,12 @@ order-held (Rows InformazioniBeneficiario) e = no-kind e
 order-held (Rows InformazioniVersante) e = no-kind e
 order-held (Rows Beneficiario) e = no-kind e
 order-held (Rows Versante) e = no-kind e
+order-held (Rows MessaggiEsito) e = no-kind e
+order-held (Rows TestataMessaggio) e = no-kind e
+order-held (Rows EsitoReversali) e = no-kind e
+order-held (Rows EsitoMandati) e = no-kind e
+order-held (Rows ErroriReversali) e = no-kind e
+order-held (Rows ErroriMandati) e = no-kind e
 
 -- the first order from i on, as the code that reads it asks for it, and what comes after it
 pub record Order-at (p : Parent) (s : List ℕ) (i : ℕ) (k : Kept) : Type 0 where

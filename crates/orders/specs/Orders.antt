@@ -18,7 +18,7 @@ use Rattle.codes.specs.declared.Asked.the-variants.{Operazione, NoOperation}
 use Rattle.codes.specs.Codes.{tipoOperazione}
 use Rattle.digits.specs.Digits.{esercizio, numero, importo, progressivo}
 use Rattle.dates.specs.Dates.{dataOf}
-use Rattle.rows.specs.declared.Parent.the-variants.{FlussoOrdinativi, Mandato, Reversale, InformazioniBeneficiario, InformazioniVersante, Beneficiario, Versante}
+use Rattle.rows.specs.declared.Parent.the-variants.{FlussoOrdinativi, Mandato, Reversale, InformazioniBeneficiario, InformazioniVersante, Beneficiario, Versante, MessaggiEsito, TestataMessaggio, EsitoReversali, EsitoMandati, ErroriReversali, ErroriMandati}
 use Rattle.rows.specs.declared.Holds.{Holds}
 use Rattle.rows.specs.declared.Holds.the-variants.{Text, Rows}
 use Rattle.rows.specs.declared.Kept.{Kept}
@@ -103,6 +103,12 @@ kindOf (Rows InformazioniBeneficiario) = 0
 kindOf (Rows InformazioniVersante) = 0
 kindOf (Rows Beneficiario) = 0
 kindOf (Rows Versante) = 0
+kindOf (Rows MessaggiEsito) = 0
+kindOf (Rows TestataMessaggio) = 0
+kindOf (Rows EsitoReversali) = 0
+kindOf (Rows EsitoMandati) = 0
+kindOf (Rows ErroriReversali) = 0
+kindOf (Rows ErroriMandati) = 0
 
 abbrev pub orderBy : ℕ → List ℕ → List Kept → Order
 orderBy kind s ks = record {

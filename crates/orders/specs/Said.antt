@@ -4,7 +4,7 @@ use Rattle.calendar.specs.declared.Date.{Date}
 use Rattle.codes.specs.declared.Operation.{Operation as Operazione}
 use Rattle.codes.specs.declared.Operation.the-variants.{Sostituzione}
 use Rattle.fields.specs.declared.Value.{Value}
-use Rattle.fields.specs.declared.Value.the-variants.{Text, Number, Day, Operation}
+use Rattle.fields.specs.declared.Value.the-variants.{Text, Number, Day, Operation, Accepted, Refused}
 use Rattle.rows.specs.declared.FieldRead.{FieldRead}
 use Rattle.rows.specs.declared.FieldRead.the-variants.{Said, Broken}
 
@@ -16,6 +16,8 @@ numberSaid Text = 0
 numberSaid (Number n) = n
 numberSaid (Day d) = 0
 numberSaid (Operation o) = 0
+numberSaid (Accepted o) = 0
+numberSaid (Refused o) = 0
 
 abbrev pub numberOf : FieldRead → ℕ
 numberOf (Said v i) = numberSaid v
@@ -26,6 +28,8 @@ daySaid Text = noDate
 daySaid (Number n) = noDate
 daySaid (Day d) = d
 daySaid (Operation o) = noDate
+daySaid (Accepted o) = noDate
+daySaid (Refused o) = noDate
 
 abbrev pub dayOf : FieldRead → Date
 dayOf (Said v i) = daySaid v
@@ -36,6 +40,8 @@ operationSaid Text = Sostituzione
 operationSaid (Number n) = Sostituzione
 operationSaid (Day d) = Sostituzione
 operationSaid (Operation o) = o
+operationSaid (Accepted o) = o
+operationSaid (Refused o) = o
 
 abbrev pub saidOperation : FieldRead → Operazione
 saidOperation (Said v i) = operationSaid v

@@ -35,6 +35,8 @@ fn number_said(v: Value) -> u64
         Value::Number(n) => n,
         Value::Day(_) => 0,
         Value::Operation(_) => 0,
+        Value::Accepted(_) => 0,
+        Value::Refused(_) => 0,
     }
 }
 
@@ -60,6 +62,8 @@ fn day_said(v: Value) -> Date
         Value::Number(_) => none,
         Value::Day(d) => d,
         Value::Operation(_) => none,
+        Value::Accepted(_) => none,
+        Value::Refused(_) => none,
     }
 }
 
@@ -84,6 +88,8 @@ fn operation_said(v: Value) -> Operation
         Value::Number(_) => Operation::Sostituzione,
         Value::Day(_) => Operation::Sostituzione,
         Value::Operation(o) => o,
+        Value::Accepted(o) => o,
+        Value::Refused(o) => o,
     }
 }
 
@@ -182,6 +188,12 @@ fn kind_of(parent: Parent) -> u8
         Parent::InformazioniVersante => 0,
         Parent::Beneficiario => 0,
         Parent::Versante => 0,
+        Parent::MessaggiEsito => 0,
+        Parent::TestataMessaggio => 0,
+        Parent::EsitoReversali => 0,
+        Parent::EsitoMandati => 0,
+        Parent::ErroriReversali => 0,
+        Parent::ErroriMandati => 0,
     }
 }
 

@@ -37,6 +37,16 @@ fn say_form(f: Form) -> bool {
         Form::Anagrafica => say(
             b"1 to 140 characters, each of the five references counting as one",
         ),
+        Form::DataOraZona => say(
+            b"YYYY-MM-DDThh:mm:ss as a flow's time, then Z or a sign and hh:mm to 23:59",
+        ),
+        Form::Testo => say(b"1 to 140 bytes"),
+        Form::EsitoOperazione => say(
+            b"ACQUISITO, VARIATO, ANNULLATO or SOSTITUITO, refused with NON in front",
+        ),
+        Form::CodiceErrore => say(b"two digits, the code of a refused order"),
+        Form::Descrizione => say(b"the two digits of codice_errore again"),
+        Form::Elemento => say(b"the name of the element that the code speaks of"),
     }
 }
 

@@ -1,4 +1,4 @@
--- The structure (document 01, "The structure"): for each parent its named children, in this order.
+-- The structure (document 01, "The structure", and of outcome messages document 000, 10.2.5): for each parent its named children, in this order.
 use Prim.Native.Nat.{ℕ, suc, _-_}
 use Prim.Native.String.{String}
 use mathlib.Core.List.{List, [], _∷_}
@@ -6,9 +6,9 @@ use mathlib.Core.Bool.{Bool, cond, _&&_}
 use lib.ListN.{length}
 use lib.Dec.{eqb}
 use Rattle.scan.specs.Bytes.{bytes, hasAt}
-use Rattle.fields.specs.declared.Form.the-variants.{CodiceAbi, Identificativo, DataOra, CodiceEnte, Esercizio, TipoOperazione, Numero, Data, Importo, Progressivo, Anagrafica}
+use Rattle.fields.specs.declared.Form.the-variants.{CodiceAbi, Identificativo, DataOra, CodiceEnte, Esercizio, TipoOperazione, Numero, Data, Importo, Progressivo, Anagrafica, DataOraZona, Testo, EsitoOperazione, CodiceErrore, Descrizione, Elemento}
 use Rattle.rows.specs.declared.Parent.{Parent}
-use Rattle.rows.specs.declared.Parent.the-variants.{FlussoOrdinativi, Mandato, Reversale, InformazioniBeneficiario, InformazioniVersante, Beneficiario, Versante}
+use Rattle.rows.specs.declared.Parent.the-variants.{FlussoOrdinativi, Mandato, Reversale, InformazioniBeneficiario, InformazioniVersante, Beneficiario, Versante, MessaggiEsito, TestataMessaggio, EsitoReversali, EsitoMandati, ErroriReversali, ErroriMandati}
 use Rattle.rows.specs.declared.Holds.{Holds}
 use Rattle.rows.specs.declared.Holds.the-variants.{Text, Rows}
 use Rattle.rows.specs.declared.Spot.{Spot}
@@ -31,6 +31,37 @@ once n = record { names = n ∷ []; least = 1; most = 1 }
 
 abbrev pub many : ℕ → ℕ → List Named → Row
 many least most ns = record { names = ns; least = least; most = most }
+
+-- document 02, Req 01: "an empty ISTAT code left out", "if refused one error"
+abbrev pub optional : Named → Row
+optional n = record { names = n ∷ []; least = 0; most = 1 }
+
+-- a name of document 000's tables that isn't written: where it stands the structure breaks
+abbrev pub never : Named → Row
+never n = record { names = n ∷ []; least = 0; most = 0 }
+
+-- an entry of an outcome message (document 000, Tab. 17) ..
+abbrev pub entryRows : String → String → String → Parent → List Row
+entryRows number progressivo date errors =
+    once ("identificativo_flusso" is Text Identificativo)
+    ∷ once ("esercizio" is Text Esercizio)
+    ∷ once (number is Text Numero)
+    ∷ never (progressivo is Text Progressivo)
+    ∷ once (date is Text Data)
+    ∷ once ("importo" is Text Importo)
+    ∷ once ("esito_operazione" is Text EsitoOperazione)
+    ∷ once ("data_ora_esito_operazione" is Text DataOraZona)
+    ∷ optional ("lista_errori" is Rows errors)
+    ∷ []
+
+-- .. and its list of errors
+abbrev pub errorRows : String → List Row
+errorRows progressivo =
+    never (progressivo is Text Progressivo)
+    ∷ once ("codice_errore" is Text CodiceErrore)
+    ∷ once ("descrizione" is Text Descrizione)
+    ∷ once ("elemento" is Text Elemento)
+    ∷ []
 
 -- THE TABLE
 abbrev pub table : Parent → List Row
@@ -69,6 +100,29 @@ table InformazioniVersante =
     ∷ once ("versante" is Rows Versante)
     ∷ []
 table Versante = once ("anagrafica_versante" is Text Anagrafica) ∷ []
+-- OUTCOME MESSAGES: "the messaggio di esito applicativo of source document 000, 10.2.5" (Tab. 17, its testata Tab. 13), as Req 01 has it written. (That
+-- there are 1 to 64 entries in all is asked where a message is read)
+table MessaggiEsito =
+    once ("testata_messaggio" is Rows TestataMessaggio)
+    ∷ once ("identificativo_flusso_BT" is Text Testo)
+    ∷ many 0 64 (("esito_reversali" is Rows EsitoReversali) ∷ [])
+    ∷ many 0 64 (("esito_mandati" is Rows EsitoMandati) ∷ [])
+    ∷ []
+table TestataMessaggio =
+    once ("codice_ABI_BT" is Text CodiceAbi)
+    ∷ once ("data_ora_creazione_flusso" is Text DataOraZona)
+    ∷ once ("codice_ente" is Text Testo)
+    ∷ once ("descrizione_ente" is Text Testo)
+    ∷ optional ("codice_istat_ente" is Text Testo)
+    ∷ once ("codice_fiscale_ente" is Text Testo)
+    ∷ once ("codice_tramite_ente" is Text Testo)
+    ∷ once ("codice_tramite_BT" is Text Testo)
+    ∷ once ("codice_ente_BT" is Text CodiceEnte)
+    ∷ []
+table EsitoReversali = entryRows "numero_reversale" "progressivo_versante" "data_reversale" ErroriReversali
+table EsitoMandati = entryRows "numero_mandato" "progressivo_beneficiario" "data_mandato" ErroriMandati
+table ErroriReversali = errorRows "progressivo_versante"
+table ErroriMandati = errorRows "progressivo_beneficiario"
 
 -- the name that stands from a up to e is x
 unfoldable pub nameIs : List ℕ → List ℕ → ℕ → ℕ → Bool

@@ -1,4 +1,4 @@
-// The rows of document 01's structure table: which of an element's children its parent names.
+// The rows of document 01's structure table, and of outcome messages: which of an element's children its parent names.
 use children::Child;
 use children::Step;
 use fields::Cause;
@@ -13,7 +13,7 @@ ghost use Rattle.rows.specs.Table.{nameIs, table, spotIn};
 ghost use Rattle.rows.specs.Kept.{keptFrom, nextOf};
 ghost use Rattle.rows.specs.Read.{fieldRead};
 
-// The parents of document 01's table.
+// The parents of document 01's table; then those of outcome messages.
 pub enum Parent {
     FlussoOrdinativi,
     Mandato,
@@ -22,6 +22,12 @@ pub enum Parent {
     InformazioniVersante,
     Beneficiario,
     Versante,
+    MessaggiEsito,
+    TestataMessaggio,
+    EsitoReversali,
+    EsitoMandati,
+    ErroriReversali,
+    ErroriMandati,
 }
 
 // What a named child holds.
@@ -189,6 +195,165 @@ fn versante_spot(s: &[u8], a: usize, e: usize) -> Spot
     Spot::Passed
 }
 
+fn messaggi_spot(s: &[u8], a: usize, e: usize) -> Spot
+    requires { ⌜ (a ≤ e) × (e ≤ length (now s)) ⌝ }
+    ensures { λ r. ⌜ r ≡ spotIn (table Parent.MessaggiEsito) 0 (now (s .entry)) a e ⌝ }
+{
+    if is(s, a, e, b"testata_messaggio") {
+        return Spot::At(0, Holds::Rows(Parent::TestataMessaggio));
+    }
+    if is(s, a, e, b"identificativo_flusso_BT") {
+        return Spot::At(1, Holds::Text(Form::Testo));
+    }
+    if is(s, a, e, b"esito_reversali") {
+        return Spot::At(2, Holds::Rows(Parent::EsitoReversali));
+    }
+    if is(s, a, e, b"esito_mandati") {
+        return Spot::At(3, Holds::Rows(Parent::EsitoMandati));
+    }
+    Spot::Passed
+}
+
+fn testata_spot(s: &[u8], a: usize, e: usize) -> Spot
+    requires { ⌜ (a ≤ e) × (e ≤ length (now s)) ⌝ }
+    ensures { λ r. ⌜ r ≡ spotIn (table Parent.TestataMessaggio) 0 (now (s .entry)) a e ⌝ }
+{
+    if is(s, a, e, b"codice_ABI_BT") {
+        return Spot::At(0, Holds::Text(Form::CodiceAbi));
+    }
+    if is(s, a, e, b"data_ora_creazione_flusso") {
+        return Spot::At(1, Holds::Text(Form::DataOraZona));
+    }
+    if is(s, a, e, b"codice_ente") {
+        return Spot::At(2, Holds::Text(Form::Testo));
+    }
+    if is(s, a, e, b"descrizione_ente") {
+        return Spot::At(3, Holds::Text(Form::Testo));
+    }
+    if is(s, a, e, b"codice_istat_ente") {
+        return Spot::At(4, Holds::Text(Form::Testo));
+    }
+    if is(s, a, e, b"codice_fiscale_ente") {
+        return Spot::At(5, Holds::Text(Form::Testo));
+    }
+    if is(s, a, e, b"codice_tramite_ente") {
+        return Spot::At(6, Holds::Text(Form::Testo));
+    }
+    if is(s, a, e, b"codice_tramite_BT") {
+        return Spot::At(7, Holds::Text(Form::Testo));
+    }
+    if is(s, a, e, b"codice_ente_BT") {
+        return Spot::At(8, Holds::Text(Form::CodiceEnte));
+    }
+    Spot::Passed
+}
+
+fn esito_reversali_spot(s: &[u8], a: usize, e: usize) -> Spot
+    requires { ⌜ (a ≤ e) × (e ≤ length (now s)) ⌝ }
+    ensures { λ r. ⌜ r ≡ spotIn (table Parent.EsitoReversali) 0 (now (s .entry)) a e ⌝ }
+{
+    if is(s, a, e, b"identificativo_flusso") {
+        return Spot::At(0, Holds::Text(Form::Identificativo));
+    }
+    if is(s, a, e, b"esercizio") {
+        return Spot::At(1, Holds::Text(Form::Esercizio));
+    }
+    if is(s, a, e, b"numero_reversale") {
+        return Spot::At(2, Holds::Text(Form::Numero));
+    }
+    if is(s, a, e, b"progressivo_versante") {
+        return Spot::At(3, Holds::Text(Form::Progressivo));
+    }
+    if is(s, a, e, b"data_reversale") {
+        return Spot::At(4, Holds::Text(Form::Data));
+    }
+    if is(s, a, e, b"importo") {
+        return Spot::At(5, Holds::Text(Form::Importo));
+    }
+    if is(s, a, e, b"esito_operazione") {
+        return Spot::At(6, Holds::Text(Form::EsitoOperazione));
+    }
+    if is(s, a, e, b"data_ora_esito_operazione") {
+        return Spot::At(7, Holds::Text(Form::DataOraZona));
+    }
+    if is(s, a, e, b"lista_errori") {
+        return Spot::At(8, Holds::Rows(Parent::ErroriReversali));
+    }
+    Spot::Passed
+}
+
+fn esito_mandati_spot(s: &[u8], a: usize, e: usize) -> Spot
+    requires { ⌜ (a ≤ e) × (e ≤ length (now s)) ⌝ }
+    ensures { λ r. ⌜ r ≡ spotIn (table Parent.EsitoMandati) 0 (now (s .entry)) a e ⌝ }
+{
+    if is(s, a, e, b"identificativo_flusso") {
+        return Spot::At(0, Holds::Text(Form::Identificativo));
+    }
+    if is(s, a, e, b"esercizio") {
+        return Spot::At(1, Holds::Text(Form::Esercizio));
+    }
+    if is(s, a, e, b"numero_mandato") {
+        return Spot::At(2, Holds::Text(Form::Numero));
+    }
+    if is(s, a, e, b"progressivo_beneficiario") {
+        return Spot::At(3, Holds::Text(Form::Progressivo));
+    }
+    if is(s, a, e, b"data_mandato") {
+        return Spot::At(4, Holds::Text(Form::Data));
+    }
+    if is(s, a, e, b"importo") {
+        return Spot::At(5, Holds::Text(Form::Importo));
+    }
+    if is(s, a, e, b"esito_operazione") {
+        return Spot::At(6, Holds::Text(Form::EsitoOperazione));
+    }
+    if is(s, a, e, b"data_ora_esito_operazione") {
+        return Spot::At(7, Holds::Text(Form::DataOraZona));
+    }
+    if is(s, a, e, b"lista_errori") {
+        return Spot::At(8, Holds::Rows(Parent::ErroriMandati));
+    }
+    Spot::Passed
+}
+
+fn errori_reversali_spot(s: &[u8], a: usize, e: usize) -> Spot
+    requires { ⌜ (a ≤ e) × (e ≤ length (now s)) ⌝ }
+    ensures { λ r. ⌜ r ≡ spotIn (table Parent.ErroriReversali) 0 (now (s .entry)) a e ⌝ }
+{
+    if is(s, a, e, b"progressivo_versante") {
+        return Spot::At(0, Holds::Text(Form::Progressivo));
+    }
+    if is(s, a, e, b"codice_errore") {
+        return Spot::At(1, Holds::Text(Form::CodiceErrore));
+    }
+    if is(s, a, e, b"descrizione") {
+        return Spot::At(2, Holds::Text(Form::Descrizione));
+    }
+    if is(s, a, e, b"elemento") {
+        return Spot::At(3, Holds::Text(Form::Elemento));
+    }
+    Spot::Passed
+}
+
+fn errori_mandati_spot(s: &[u8], a: usize, e: usize) -> Spot
+    requires { ⌜ (a ≤ e) × (e ≤ length (now s)) ⌝ }
+    ensures { λ r. ⌜ r ≡ spotIn (table Parent.ErroriMandati) 0 (now (s .entry)) a e ⌝ }
+{
+    if is(s, a, e, b"progressivo_beneficiario") {
+        return Spot::At(0, Holds::Text(Form::Progressivo));
+    }
+    if is(s, a, e, b"codice_errore") {
+        return Spot::At(1, Holds::Text(Form::CodiceErrore));
+    }
+    if is(s, a, e, b"descrizione") {
+        return Spot::At(2, Holds::Text(Form::Descrizione));
+    }
+    if is(s, a, e, b"elemento") {
+        return Spot::At(3, Holds::Text(Form::Elemento));
+    }
+    Spot::Passed
+}
+
 // Where a name stands in its parent's table.
 pub fn spot_of(s: &[u8], a: usize, e: usize, parent: Parent) -> Spot
     requires { ⌜ (a ≤ e) × (e ≤ length (now s)) ⌝ }
@@ -202,6 +367,12 @@ pub fn spot_of(s: &[u8], a: usize, e: usize, parent: Parent) -> Spot
         Parent::InformazioniVersante => informazioni_versante_spot(s, a, e),
         Parent::Beneficiario => beneficiario_spot(s, a, e),
         Parent::Versante => versante_spot(s, a, e),
+        Parent::MessaggiEsito => messaggi_spot(s, a, e),
+        Parent::TestataMessaggio => testata_spot(s, a, e),
+        Parent::EsitoReversali => esito_reversali_spot(s, a, e),
+        Parent::EsitoMandati => esito_mandati_spot(s, a, e),
+        Parent::ErroriReversali => errori_reversali_spot(s, a, e),
+        Parent::ErroriMandati => errori_mandati_spot(s, a, e),
     }
 }
 

@@ -13,7 +13,7 @@ use Rattle.scan.specs.Bytes.{between, run}
 use Rattle.tokens.specs.Tokens.{whiteAt}
 use Rattle.children.specs.declared.Child.{Child}
 use Rattle.rows.specs.declared.Parent.{Parent}
-use Rattle.rows.specs.declared.Parent.the-variants.{FlussoOrdinativi, Mandato, Reversale, InformazioniBeneficiario, InformazioniVersante, Beneficiario, Versante}
+use Rattle.rows.specs.declared.Parent.the-variants.{FlussoOrdinativi, Mandato, Reversale, InformazioniBeneficiario, InformazioniVersante, Beneficiario, Versante, MessaggiEsito, TestataMessaggio, EsitoReversali, EsitoMandati, ErroriReversali, ErroriMandati}
 use Rattle.children.specs.declared.Step.the-variants.{One, End}
 use Rattle.rows.specs.declared.Kept.{Kept}
 use Rattle.children.specs.Child.{childAt}
@@ -61,6 +61,12 @@ some-row InformazioniBeneficiario = omega arith
 some-row InformazioniVersante = omega arith
 some-row Beneficiario = omega arith
 some-row Versante = omega arith
+some-row MessaggiEsito = omega arith
+some-row TestataMessaggio = omega arith
+some-row EsitoReversali = omega arith
+some-row EsitoMandati = omega arith
+some-row ErroriReversali = omega arith
+some-row ErroriMandati = omega arith
 
 -- filledFrom, a row at a time
 module _ (rs : List Range) (i m to : ℕ) where

@@ -24,6 +24,21 @@ const BENEFICIARIO: [u8; 2] = *b"\x01\x01";
 
 const VERSANTE: [u8; 2] = *b"\x01\x01";
 
+const MESSAGGI_ESITO: [u8; 8] = *b"\x01\x01\x01\x01\x00\x40\x00\x40";
+
+const TESTATA_MESSAGGIO: [u8; 18] =
+    *b"\x01\x01\x01\x01\x01\x01\x01\x01\x00\x01\x01\x01\x01\x01\x01\x01\x01\x01";
+
+const ESITO_REVERSALI: [u8; 18] =
+    *b"\x01\x01\x01\x01\x01\x01\x00\x00\x01\x01\x01\x01\x01\x01\x01\x01\x00\x01";
+
+const ESITO_MANDATI: [u8; 18] =
+    *b"\x01\x01\x01\x01\x01\x01\x00\x00\x01\x01\x01\x01\x01\x01\x01\x01\x00\x01";
+
+const ERRORI_REVERSALI: [u8; 8] = *b"\x00\x00\x01\x01\x01\x01\x01\x01";
+
+const ERRORI_MANDATI: [u8; 8] = *b"\x00\x00\x01\x01\x01\x01\x01\x01";
+
 // A byte as a number.
 fn wide(b: u8) -> usize
     ensures { λ r. ⌜ r ≡ b ⌝ }
@@ -57,6 +72,12 @@ pub fn rows(parent: Parent) -> usize
         Parent::InformazioniVersante => 3,
         Parent::Beneficiario => 1,
         Parent::Versante => 1,
+        Parent::MessaggiEsito => 4,
+        Parent::TestataMessaggio => 9,
+        Parent::EsitoReversali => 9,
+        Parent::EsitoMandati => 9,
+        Parent::ErroriReversali => 4,
+        Parent::ErroriMandati => 4,
     }
 }
 
@@ -84,34 +105,19 @@ pub fn filled(parent: Parent, row: usize, n: usize, to: usize) -> bool
     ensures { λ r. ⌜ r ≡ filledFrom (ranges (table parent)) row n to ⌝ }
 {
     match parent {
-        Parent::FlussoOrdinativi => {
-            let pairs = FLUSSO_ORDINATIVI;
-            filled_in(row, n, to, &pairs)
-        }
-        Parent::Mandato => {
-            let pairs = MANDATO;
-            filled_in(row, n, to, &pairs)
-        }
-        Parent::Reversale => {
-            let pairs = REVERSALE;
-            filled_in(row, n, to, &pairs)
-        }
-        Parent::InformazioniBeneficiario => {
-            let pairs = INFORMAZIONI_BENEFICIARIO;
-            filled_in(row, n, to, &pairs)
-        }
-        Parent::InformazioniVersante => {
-            let pairs = INFORMAZIONI_VERSANTE;
-            filled_in(row, n, to, &pairs)
-        }
-        Parent::Beneficiario => {
-            let pairs = BENEFICIARIO;
-            filled_in(row, n, to, &pairs)
-        }
-        Parent::Versante => {
-            let pairs = VERSANTE;
-            filled_in(row, n, to, &pairs)
-        }
+        Parent::FlussoOrdinativi => filled_in(row, n, to, &FLUSSO_ORDINATIVI),
+        Parent::Mandato => filled_in(row, n, to, &MANDATO),
+        Parent::Reversale => filled_in(row, n, to, &REVERSALE),
+        Parent::InformazioniBeneficiario => filled_in(row, n, to, &INFORMAZIONI_BENEFICIARIO),
+        Parent::InformazioniVersante => filled_in(row, n, to, &INFORMAZIONI_VERSANTE),
+        Parent::Beneficiario => filled_in(row, n, to, &BENEFICIARIO),
+        Parent::Versante => filled_in(row, n, to, &VERSANTE),
+        Parent::MessaggiEsito => filled_in(row, n, to, &MESSAGGI_ESITO),
+        Parent::TestataMessaggio => filled_in(row, n, to, &TESTATA_MESSAGGIO),
+        Parent::EsitoReversali => filled_in(row, n, to, &ESITO_REVERSALI),
+        Parent::EsitoMandati => filled_in(row, n, to, &ESITO_MANDATI),
+        Parent::ErroriReversali => filled_in(row, n, to, &ERRORI_REVERSALI),
+        Parent::ErroriMandati => filled_in(row, n, to, &ERRORI_MANDATI),
     }
 }
 

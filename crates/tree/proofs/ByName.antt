@@ -10,7 +10,7 @@ use borrow.Author.Tests.{leb-true, ne-eqb}
 use Rattle.scan.specs.Bytes.{bytes, between, run, textIs}
 use Rattle.scan.proofs.Laws.{both}
 use Rattle.rows.specs.declared.Parent.{Parent}
-use Rattle.rows.specs.declared.Parent.the-variants.{FlussoOrdinativi, Mandato, Reversale, InformazioniBeneficiario, InformazioniVersante, Beneficiario, Versante}
+use Rattle.rows.specs.declared.Parent.the-variants.{FlussoOrdinativi, Mandato, Reversale, InformazioniBeneficiario, InformazioniVersante, Beneficiario, Versante, MessaggiEsito, TestataMessaggio, EsitoReversali, EsitoMandati, ErroriReversali, ErroriMandati}
 use Rattle.rows.specs.declared.Holds.{Holds}
 use Rattle.rows.specs.declared.Holds.the-variants.{Text, Rows}
 use Rattle.rows.specs.declared.Spot.{Spot}
@@ -116,6 +116,12 @@ rank InformazioniBeneficiario = 1
 rank InformazioniVersante = 1
 rank Beneficiario = 0
 rank Versante = 0
+rank MessaggiEsito = 2
+rank TestataMessaggio = 0
+rank EsitoReversali = 1
+rank EsitoMandati = 1
+rank ErroriReversali = 0
+rank ErroriMandati = 0
 
 abbrev below : ℕ → Said → Bool
 below n (named (Text f)) = true
@@ -151,6 +157,12 @@ ranked InformazioniBeneficiario = refl
 ranked InformazioniVersante = refl
 ranked Beneficiario = refl
 ranked Versante = refl
+ranked MessaggiEsito = refl
+ranked TestataMessaggio = refl
+ranked EsitoReversali = refl
+ranked EsitoMandati = refl
+ranked ErroriReversali = refl
+ranked ErroriMandati = refl
 
 -- no parent is deeper than the levels that are looked at
 pub rank-levels : (p : Parent) → rank p < levels
@@ -161,6 +173,12 @@ rank-levels InformazioniBeneficiario = omega arith
 rank-levels InformazioniVersante = omega arith
 rank-levels Beneficiario = omega arith
 rank-levels Versante = omega arith
+rank-levels MessaggiEsito = omega arith
+rank-levels TestataMessaggio = omega arith
+rank-levels EsitoReversali = omega arith
+rank-levels EsitoMandati = omega arith
+rank-levels ErroriReversali = omega arith
+rank-levels ErroriMandati = omega arith
 
 rank-said : (p q : Parent) (x : List ℕ) → said (table p) x ≡ named (Rows q) → rank q < rank p
 rank-said p q x e = let b = below-rows (rank p) x (table p) (ranked p) in leb-true (suc (rank q)) (rank p) (rw e at b)

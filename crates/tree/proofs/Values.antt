@@ -36,9 +36,9 @@ use Rattle.rows.specs.Table.{_is_, Row, once, many, table}
 use Rattle.structure.specs.Structure.{Range, ranges, takes, isRow, inOrder}
 use Rattle.orders.specs.Orders.{valueOf, dateOf, operationOf, noLine, eight}
 use Rattle.tree.specs.Tree.{Tree, tree, says, holds, Trees, none, more, nameOf, heldOf, kidsIn}
-use Rattle.tree.specs.Orders.{childrenNamed, OneText, OneValue, Each, each-none, each-next, HeaderIn, Words, mandatoWords, reversaleWords, joined, LineIn, OrderIn, AnOrder, OrdersIn}
+use Rattle.tree.specs.Orders.{childrenNamed, firstText, textNamed, OneText, OneValue, Each, each-none, each-next, HeaderIn, Words, mandatoWords, reversaleWords, joined, LineIn, OrderIn, AnOrder, OrdersIn}
 use Rattle.order.specs.Ordinativo.{Ordinativo, ordinativo}
-use Rattle.tree.proofs.Levels.{KeptTree, keepTree, keptTrees, rowsOfTrees, allTrees, keptFits, fitsTree, fieldsHeld, fieldsOfTrees, fieldsTree, firstText, textNamed, headerTree, lineTree, linesTree, orderTree, ordersTree, inPlaces, allInPlaces}
+use Rattle.tree.proofs.Levels.{KeptTree, keepTree, keptTrees, rowsOfTrees, allTrees, keptFits, fitsTree, fieldsHeld, fieldsOfTrees, fieldsTree, headerTree, lineTree, linesTree, orderTree, ordersTree, inPlaces, allInPlaces}
 use Rattle.tree.proofs.Names.{text-same, HasRow, has-names, inRowTrees, pick, asKept, row-picked}
 use Rattle.tree.proofs.Orders.{one-name, all-row, Spelled, spelled-mandato, spelled-reversale, orderNames}
 use Rattle.tree.proofs.Stand.{stand, allStand, Right, stand-both, stand-is}
@@ -106,7 +106,7 @@ count-trees n (k ∷ ks) = go (eqb (k .row) n) (count-trees n ks)
     go false e = e
 
 -- EACH CHILD IS RIGHT: it holds what its row says, and its fields stand
-abbrev right : ℕ → KeptTree → Bool
+abbrev pub right : ℕ → KeptTree → Bool
 right d k = keptFits (fitsTree d) k && allStand (fieldsHeld (fieldsTree d) (k .tree) (k .holds))
 
 all-right : (d : ℕ) (ks : List KeptTree) → allTrees (keptFits (fitsTree d)) ks ≡ true → allStand (fieldsOfTrees (fieldsTree d) ks) ≡ true → allTrees (right d) ks ≡ true
@@ -136,14 +136,14 @@ module _ (d : ℕ) (p : Parent) (ts : Trees) (r : Right (suc d) p ts) (n : ℕ) 
   row-children : inRowTrees n (keptTrees p ts) ≡ asKept n g (childrenNamed (x ∷ []) ts)
   row-children = row-picked p n ts ∙ ap (λ ns. pick ns n ts) (has-names p n (many least most ((x is g) ∷ [])) h) ∙ one-name x g n ts
 
-  row-length : between least most (length (childrenNamed (x ∷ []) ts)) ≡ true
+  pub row-length : between least most (length (childrenNamed (x ∷ []) ts)) ≡ true
   row-length =
       let c = row-count (table p) 0 n (many least most ((x is g) ∷ [])) (h .0) (rowsOfTrees (keptTrees p ts)) (h .1) (right-parts d p ts r .rows) in
       let z : length (childrenNamed (x ∷ []) ts) ≡ countRow (0 + n) (rowsOfTrees (keptTrees p ts)) =
       sym (kept-length n g (childrenNamed (x ∷ []) ts)) ∙ ap length (sym row-children) ∙ count-trees n (keptTrees p ts) ∙ ap (λ (m : ℕ). countRow m (rowsOfTrees (keptTrees p ts))) (omega arith) in
       rw z c
 
-  row-right : allTrees (right d) (asKept n g (childrenNamed (x ∷ []) ts)) ≡ true
+  pub row-right : allTrees (right d) (asKept n g (childrenNamed (x ∷ []) ts)) ≡ true
   row-right = rw (← row-children) (all-row (right d) n (keptTrees p ts) (right-parts d p ts r .each))
 
 -- a child of the name x has it
@@ -178,11 +178,11 @@ module _ (d : ℕ) (p : Parent) (ts : Trees) (r : Right (suc d) p ts) where
   text-of n x f h = text-one x f n d ts (childrenNamed (x ∷ []) ts) refl (row-length d p ts r n x (Text f) 1 1 h) (row-right d p ts r n x (Text f) 1 1 h)
 
 -- VALUES
-number-there : (n : Number) → isNumber n ≡ Stands → n ≡ Value (valueOf n)
+pub number-there : (n : Number) → isNumber n ≡ Stands → n ≡ Value (valueOf n)
 number-there (Value v) e = refl
 number-there NoNumber e = let z : _≡_ {A = ℕ} 0 1 = cc in absurd (omega arith)
 
-day-there : (n : Day) → isDay n ≡ Stands → n ≡ On (dateOf n)
+pub day-there : (n : Day) → isDay n ≡ Stands → n ≡ On (dateOf n)
 day-there (On v) e = refl
 day-there NoDay e = let z : _≡_ {A = ℕ} 0 1 = cc in absurd (omega arith)
 

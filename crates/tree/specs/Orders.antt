@@ -18,7 +18,7 @@ use Rattle.record.specs.Slot.{mandatoKind, reversaleKind}
 use Rattle.order.specs.declared.Line.{Line}
 use Rattle.order.specs.Ordinativo.{Ordinativo}
 use Rattle.orders.specs.Orders.{Header}
-use Rattle.tree.specs.Tree.{Tree, tree, says, Trees, none, more, nameOf, heldOf, kidsIn}
+use Rattle.tree.specs.Tree.{Tree, tree, Held, says, holds, Trees, none, more, nameOf, heldOf, kidsIn}
 
 -- CHILDREN BY NAME
 abbrev pub isOneOf : List String → List ℕ → Bool
@@ -29,6 +29,18 @@ isOneOf (x ∷ xs) n = textIs (bytes x) n || isOneOf xs n
 unfoldable pub childrenNamed : List String → Trees → List Tree
 childrenNamed xs none = []
 childrenNamed xs (more t ts) = cond (isOneOf xs (nameOf t)) (t ∷ childrenNamed xs ts) (childrenNamed xs ts)
+
+-- the text of the first child of the name x: none where there is no such child, or one that holds elements
+abbrev pub heldText : Held → List ℕ
+heldText (says t) = t
+heldText (holds ts) = []
+
+abbrev pub firstText : List Tree → List ℕ
+firstText [] = []
+firstText (t ∷ ts) = heldText (heldOf t)
+
+abbrev pub textNamed : String → Trees → List ℕ
+textNamed x kids = firstText (childrenNamed (x ∷ []) kids)
 
 -- one child has the name x, and holds the text
 pub record OneText (x : String) (kids : Trees) (text : List ℕ) : Type 0 where

@@ -1,8 +1,10 @@
 -- A tree written out: its bytes, with no white space between elements, and the places that its elements then have. What is written is read back.
 use mathlib.Core.Path.{_≡_}
 use Prim.Native.Nat.{ℕ, suc, _+_}
+use Prim.Native.String.{String}
 use mathlib.Core.List.{List, [], _++_}
 use lib.ListN.{length}
+use Rattle.scan.specs.Bytes.{bytes}
 use Rattle.grammar.specs.Grammar.{Name, Text, startTag, endTag}
 use Rattle.rows.specs.declared.Parent.the-variants.{FlussoOrdinativi}
 use Rattle.flow.specs.declared.Verdict.the-variants.{Stands}
@@ -12,6 +14,13 @@ use Rattle.tree.specs.Fields.{AllStand}
 use Rattle.tree.specs.Orders.{HeaderIn, OrdersIn}
 use Rattle.order.specs.Ordinativo.{ordinativo}
 use Rattle.tree.specs.Flow.{Structured, fieldsOf}
+
+-- an element of text, and one of elements. (What is written gets its places by being written)
+abbrev pub leaf : String → List ℕ → Tree
+leaf x t = tree 0 (bytes x) (says t)
+
+abbrev pub node : String → Trees → Tree
+node x ts = tree 0 (bytes x) (holds ts)
 
 unfoldable mutual
   pub bytesOf : Tree → List ℕ
@@ -52,13 +61,13 @@ mutual
     good-next : {d : ℕ} {t : Tree} {ts : Trees} → Good d t → GoodTrees d ts → GoodTrees d (more t ts)
 
 -- A TREE THAT IS A FLOW, but for its length: it can be written, has the structure, and its fields stand. (None of these sees its places)
-pub record Message (t : Tree) : Type 0 where
+pub record FlowTree (t : Tree) : Type 0 where
   pub good : Good 12 t
   pub structured : Structured "flusso_ordinativi" FlussoOrdinativi t
   pub fields : AllStand (fieldsOf FlussoOrdinativi t)
 
 -- WRITTEN AND READ BACK: it is read as that tree, its elements at the places that they then have; it stands, and its header and orders are the tree's.
--- Proved: `message-read-back` (proofs/Places.antt)
+-- Proved: `flow-read-back` (proofs/Places.antt)
 pub record ReadBack (t : Tree) (at : ℕ) : Type 0 where
   pub tree-again : Reads (bytesOf t) (placed 0 t)
   pub stands : verdictOf (bytesOf t) ≡ Stands at

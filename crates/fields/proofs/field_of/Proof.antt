@@ -1,5 +1,5 @@
 use mathlib.Core.Path.{_∙_}
-use Rattle.fields.proofs.Laws.{told-text, told-number, told-day, told-operation}
+use Rattle.fields.proofs.Laws.{told-text, told-number, told-day, told-operation, told-esito}
 use borrow.Author.Needs.{needs}
 use Rattle.fields.proofs.field_of.Statement.{statement}
 use Rattle.fields.proofs.field_of.Tie as tie
@@ -103,6 +103,60 @@ anagrafica-of-requires c κs = search needs
 text-reading-requires-5 : tie.Need-text-reading-requires-5
 text-reading-requires-5 c κs = search needs
 
+enum-told-12 : tie.Need-enum-told-12
+enum-told-12 c = search needs
+
+data-ora-zona-requires : tie.Need-data-ora-zona-requires
+data-ora-zona-requires c κs = search needs
+
+text-reading-requires-6 : tie.Need-text-reading-requires-6
+text-reading-requires-6 c κs = search needs
+
+enum-told-13 : tie.Need-enum-told-13
+enum-told-13 c = search needs
+
+sized-text-requires : tie.Need-sized-text-requires
+sized-text-requires c κs = search needs
+
+text-reading-requires-7 : tie.Need-text-reading-requires-7
+text-reading-requires-7 c κs = search needs
+
+enum-told-14 : tie.Need-enum-told-14
+enum-told-14 c = search needs
+
+esito-operazione-requires : tie.Need-esito-operazione-requires
+esito-operazione-requires c κs = search needs
+
+esito-reading-requires : tie.Need-esito-reading-requires
+esito-reading-requires c κs = search needs
+
+enum-told-15 : tie.Need-enum-told-15
+enum-told-15 c = search needs
+
+codice-errore-requires : tie.Need-codice-errore-requires
+codice-errore-requires c κs = search needs
+
+number-reading-requires-5 : tie.Need-number-reading-requires-5
+number-reading-requires-5 c κs = search needs
+
+enum-told-16 : tie.Need-enum-told-16
+enum-told-16 c = search needs
+
+sized-text-requires-2 : tie.Need-sized-text-requires-2
+sized-text-requires-2 c κs = search needs
+
+text-reading-requires-8 : tie.Need-text-reading-requires-8
+text-reading-requires-8 c κs = search needs
+
+enum-told-17 : tie.Need-enum-told-17
+enum-told-17 c = search needs
+
+sized-text-requires-3 : tie.Need-sized-text-requires-3
+sized-text-requires-3 c κs = search needs
+
+text-reading-requires-9 : tie.Need-text-reading-requires-9
+text-reading-requires-9 c κs = search needs
+
 returns : tie.Need-returns
 returns c = rw (c .before .before .enum-told .given .1) (rw (c .before .before .enum-told .given .1) at (c .text-reading .ensures) ∙ told-text _ (c .before .codice-abi .ensures))
 
@@ -135,6 +189,24 @@ returns-10 c = rw (c .before .before .enum-told10 .given .1) (rw (c .before .bef
 
 returns-11 : tie.Need-returns-11
 returns-11 c = rw (c .before .before .enum-told11 .given .1) (rw (c .before .before .enum-told11 .given .1) at (c .text-reading5 .ensures) ∙ told-text _ (c .before .anagrafica-of .ensures))
+
+returns-12 : tie.Need-returns-12
+returns-12 c = rw (c .before .before .enum-told12 .given .1) (rw (c .before .before .enum-told12 .given .1) at (c .text-reading6 .ensures) ∙ told-text _ (c .before .data-ora-zona .ensures))
+
+returns-13 : tie.Need-returns-13
+returns-13 c = rw (c .before .before .enum-told13 .given .1) (rw (c .before .before .enum-told13 .given .1) at (c .text-reading7 .ensures) ∙ told-text _ (c .before .sized-text .ensures))
+
+returns-14 : tie.Need-returns-14
+returns-14 c = rw (c .before .before .enum-told14 .given .1) (rw (c .before .before .enum-told14 .given .1) at (c .esito-reading .ensures) ∙ told-esito _ (c .before .esito-operazione .ensures))
+
+returns-15 : tie.Need-returns-15
+returns-15 c = rw (c .before .before .enum-told15 .given .1) (rw (c .before .before .enum-told15 .given .1) at (c .number-reading5 .ensures) ∙ told-number _ (c .before .codice-errore .ensures))
+
+returns-16 : tie.Need-returns-16
+returns-16 c = rw (c .before .before .enum-told16 .given .1) (rw (c .before .before .enum-told16 .given .1) at (c .text-reading8 .ensures) ∙ told-text _ (c .before .sized-text2 .ensures))
+
+returns-17 : tie.Need-returns-17
+returns-17 c = rw (c .before .before .enum-told17 .given .1) (rw (c .before .before .enum-told17 .given .1) at (c .text-reading9 .ensures) ∙ told-text _ (c .before .sized-text3 .ensures))
 
 pub field-of-spec : {M : Type 1} → statement M
 field-of-spec =
@@ -173,6 +245,24 @@ field-of-spec =
     enum-told-11
     anagrafica-of-requires
     text-reading-requires-5
+    enum-told-12
+    data-ora-zona-requires
+    text-reading-requires-6
+    enum-told-13
+    sized-text-requires
+    text-reading-requires-7
+    enum-told-14
+    esito-operazione-requires
+    esito-reading-requires
+    enum-told-15
+    codice-errore-requires
+    number-reading-requires-5
+    enum-told-16
+    sized-text-requires-2
+    text-reading-requires-8
+    enum-told-17
+    sized-text-requires-3
+    text-reading-requires-9
     returns
     returns-2
     returns-3
@@ -183,4 +273,10 @@ field-of-spec =
     returns-8
     returns-9
     returns-10
-    returns-11)
+    returns-11
+    returns-12
+    returns-13
+    returns-14
+    returns-15
+    returns-16
+    returns-17)

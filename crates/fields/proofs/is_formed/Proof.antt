@@ -1,5 +1,5 @@
 use mathlib.Core.Path.{ap, _∙_}
-use Rattle.codes.specs.Codes.{isAsked}
+use Rattle.codes.specs.Codes.{isAsked, isWord}
 use Rattle.digits.specs.Digits.{isValue}
 use Rattle.dates.specs.Dates.{isOn}
 use Rattle.fields.specs.Causes.{formed}
@@ -91,6 +91,48 @@ enum-told-11 c = search needs
 anagrafica-of-requires : tie.Need-anagrafica-of-requires
 anagrafica-of-requires c κs = search needs
 
+enum-told-12 : tie.Need-enum-told-12
+enum-told-12 c = search needs
+
+data-ora-zona-written-requires : tie.Need-data-ora-zona-written-requires
+data-ora-zona-written-requires c κs = search needs
+
+enum-told-13 : tie.Need-enum-told-13
+enum-told-13 c = search needs
+
+sized-text-requires : tie.Need-sized-text-requires
+sized-text-requires c κs = search needs
+
+enum-told-14 : tie.Need-enum-told-14
+enum-told-14 c = search needs
+
+esito-operazione-requires : tie.Need-esito-operazione-requires
+esito-operazione-requires c κs = search needs
+
+is-word-requires : tie.Need-is-word-requires
+is-word-requires c κs = search needs
+
+enum-told-15 : tie.Need-enum-told-15
+enum-told-15 c = search needs
+
+two-digits-requires : tie.Need-two-digits-requires
+two-digits-requires c κs = search needs
+
+is-value-requires-5 : tie.Need-is-value-requires-5
+is-value-requires-5 c κs = search needs
+
+enum-told-16 : tie.Need-enum-told-16
+enum-told-16 c = search needs
+
+sized-text-requires-2 : tie.Need-sized-text-requires-2
+sized-text-requires-2 c κs = search needs
+
+enum-told-17 : tie.Need-enum-told-17
+enum-told-17 c = search needs
+
+sized-text-requires-3 : tie.Need-sized-text-requires-3
+sized-text-requires-3 c κs = search needs
+
 returns : tie.Need-returns
 unfolding formed
 returns c = rw (c .before .enum-told .given .1) (c .codice-abi .ensures)
@@ -135,6 +177,30 @@ returns-11 : tie.Need-returns-11
 unfolding formed
 returns-11 c = rw (c .before .enum-told11 .given .1) (c .anagrafica-of .ensures)
 
+returns-12 : tie.Need-returns-12
+unfolding formed
+returns-12 c = rw (c .before .enum-told12 .given .1) (c .data-ora-zona-written .ensures)
+
+returns-13 : tie.Need-returns-13
+unfolding formed
+returns-13 c = rw (c .before .enum-told13 .given .1) (c .sized-text .ensures)
+
+returns-14 : tie.Need-returns-14
+unfolding formed
+returns-14 c = rw (c .before .before .enum-told14 .given .1) (c .is-word .ensures ∙ ap isWord (c .before .esito-operazione .ensures))
+
+returns-15 : tie.Need-returns-15
+unfolding formed
+returns-15 c = rw (c .before .before .enum-told15 .given .1) (c .is-value5 .ensures ∙ ap isValue (c .before .two-digits .ensures))
+
+returns-16 : tie.Need-returns-16
+unfolding formed
+returns-16 c = rw (c .before .enum-told16 .given .1) (c .sized-text2 .ensures)
+
+returns-17 : tie.Need-returns-17
+unfolding formed
+returns-17 c = rw (c .before .enum-told17 .given .1) (c .sized-text3 .ensures)
+
 pub is-formed-spec : {M : Type 1} → statement M
 is-formed-spec =
     tie.close
@@ -167,6 +233,20 @@ is-formed-spec =
     is-value-requires-4
     enum-told-11
     anagrafica-of-requires
+    enum-told-12
+    data-ora-zona-written-requires
+    enum-told-13
+    sized-text-requires
+    enum-told-14
+    esito-operazione-requires
+    is-word-requires
+    enum-told-15
+    two-digits-requires
+    is-value-requires-5
+    enum-told-16
+    sized-text-requires-2
+    enum-told-17
+    sized-text-requires-3
     returns
     returns-2
     returns-3
@@ -177,4 +257,10 @@ is-formed-spec =
     returns-8
     returns-9
     returns-10
-    returns-11)
+    returns-11
+    returns-12
+    returns-13
+    returns-14
+    returns-15
+    returns-16
+    returns-17)

@@ -68,6 +68,60 @@ slice-aggregate-filled-in-7 c = search needs
 filled-in-requires-7 : tie.Need-filled-in-requires-7
 filled-in-requires-7 c κs = search needs
 
+enum-told-8 : tie.Need-enum-told-8
+enum-told-8 c = search needs
+
+slice-aggregate-filled-in-8 : tie.Need-slice-aggregate-filled-in-8
+slice-aggregate-filled-in-8 c = search needs
+
+filled-in-requires-8 : tie.Need-filled-in-requires-8
+filled-in-requires-8 c κs = search needs
+
+enum-told-9 : tie.Need-enum-told-9
+enum-told-9 c = search needs
+
+slice-aggregate-filled-in-9 : tie.Need-slice-aggregate-filled-in-9
+slice-aggregate-filled-in-9 c = search needs
+
+filled-in-requires-9 : tie.Need-filled-in-requires-9
+filled-in-requires-9 c κs = search needs
+
+enum-told-10 : tie.Need-enum-told-10
+enum-told-10 c = search needs
+
+slice-aggregate-filled-in-10 : tie.Need-slice-aggregate-filled-in-10
+slice-aggregate-filled-in-10 c = search needs
+
+filled-in-requires-10 : tie.Need-filled-in-requires-10
+filled-in-requires-10 c κs = search needs
+
+enum-told-11 : tie.Need-enum-told-11
+enum-told-11 c = search needs
+
+slice-aggregate-filled-in-11 : tie.Need-slice-aggregate-filled-in-11
+slice-aggregate-filled-in-11 c = search needs
+
+filled-in-requires-11 : tie.Need-filled-in-requires-11
+filled-in-requires-11 c κs = search needs
+
+enum-told-12 : tie.Need-enum-told-12
+enum-told-12 c = search needs
+
+slice-aggregate-filled-in-12 : tie.Need-slice-aggregate-filled-in-12
+slice-aggregate-filled-in-12 c = search needs
+
+filled-in-requires-12 : tie.Need-filled-in-requires-12
+filled-in-requires-12 c κs = search needs
+
+enum-told-13 : tie.Need-enum-told-13
+enum-told-13 c = search needs
+
+slice-aggregate-filled-in-13 : tie.Need-slice-aggregate-filled-in-13
+slice-aggregate-filled-in-13 c = search needs
+
+filled-in-requires-13 : tie.Need-filled-in-requires-13
+filled-in-requires-13 c κs = search needs
+
 returns : tie.Need-returns
 returns c = rw (c .before .before .enum-told .given .1) (c .filled-in .ensures)
 
@@ -88,6 +142,24 @@ returns-6 c = rw (c .before .before .enum-told6 .given .1) (c .filled-in6 .ensur
 
 returns-7 : tie.Need-returns-7
 returns-7 c = rw (c .before .before .enum-told7 .given .1) (c .filled-in7 .ensures)
+
+returns-8 : tie.Need-returns-8
+returns-8 c = rw (c .before .before .enum-told8 .given .1) (c .filled-in8 .ensures)
+
+returns-9 : tie.Need-returns-9
+returns-9 c = rw (c .before .before .enum-told9 .given .1) (c .filled-in9 .ensures)
+
+returns-10 : tie.Need-returns-10
+returns-10 c = rw (c .before .before .enum-told10 .given .1) (c .filled-in10 .ensures)
+
+returns-11 : tie.Need-returns-11
+returns-11 c = rw (c .before .before .enum-told11 .given .1) (c .filled-in11 .ensures)
+
+returns-12 : tie.Need-returns-12
+returns-12 c = rw (c .before .before .enum-told12 .given .1) (c .filled-in12 .ensures)
+
+returns-13 : tie.Need-returns-13
+returns-13 c = rw (c .before .before .enum-told13 .given .1) (c .filled-in13 .ensures)
 
 pub filled-spec : {M : Type 1} → statement M
 filled-spec =
@@ -114,10 +186,34 @@ filled-spec =
     enum-told-7
     slice-aggregate-filled-in-7
     filled-in-requires-7
+    enum-told-8
+    slice-aggregate-filled-in-8
+    filled-in-requires-8
+    enum-told-9
+    slice-aggregate-filled-in-9
+    filled-in-requires-9
+    enum-told-10
+    slice-aggregate-filled-in-10
+    filled-in-requires-10
+    enum-told-11
+    slice-aggregate-filled-in-11
+    filled-in-requires-11
+    enum-told-12
+    slice-aggregate-filled-in-12
+    filled-in-requires-12
+    enum-told-13
+    slice-aggregate-filled-in-13
+    filled-in-requires-13
     returns
     returns-2
     returns-3
     returns-4
     returns-5
     returns-6
-    returns-7)
+    returns-7
+    returns-8
+    returns-9
+    returns-10
+    returns-11
+    returns-12
+    returns-13)

@@ -1,0 +1,9 @@
+pub mod Kept
+pub mod Blind
+pub mod Values
+pub mod Decimal
+pub mod Write
+pub mod Short
+pub mod Theorem
+pub mod From
+pub mod Sample

@@ -1,0 +1,5 @@
+pub mod Message
+pub mod Written
+pub mod Read
+pub mod From
+pub mod Statements

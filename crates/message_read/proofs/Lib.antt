@@ -1,0 +1,5 @@
+pub mod Laws
+pub mod Match
+pub mod Entry
+pub mod Book
+pub mod NoSecond

@@ -1,0 +1,59 @@
+use mathlib.Core.Path.{sym, _∙_}
+use mathlib.Core.Bool.{false}
+use Rattle.flow.proofs.Laws.{root-lies}
+use Rattle.message_read.proofs.Book.{root-promise, broken-promise}
+use borrow.Author.Needs.{needs}
+use Rattle.message_read.proofs.read_noted.Statement.{statement}
+use Rattle.message_read.proofs.read_noted.Tie as tie
+use Rattle.message_read.proofs.read_noted.Reads as reads
+use Rattle.message_read.proofs.read_noted.Lts as lts
+use Rattle.markup.proofs.markup_noted.Reads as markup-noted-reads
+use Rattle.message_read.proofs.read_root.Reads as read-root-reads
+use Rattle.message_read.proofs.refusal.Reads as refusal-reads
+
+markup-noted-requires : tie.Need-markup-noted-requires
+markup-noted-requires c κs = search needs
+
+enum-known-lt : tie.Need-enum-known-lt
+enum-known-lt c = search needs
+
+read-root-requires : tie.Need-read-root-requires
+read-root-requires c κs =
+    let l = root-lies false (c .before .before .before .before .before .before .before .before .before .before .before .before .args .s .now) _ _ _ (sym (c .before .before .before .before .before .before .before .markup-noted .ensures .0) ∙ c .before .before .before .lt .given .1) in
+    (l .named, l .inside, l .within, c .before .before .before .before .before .before .before .before .before .before .before .before .pre .0, c .before .before .before .before .before .before .before .markup-noted .ensures .1)
+
+enum-told : tie.Need-enum-told
+enum-told c = search needs
+
+refusal-requires : tie.Need-refusal-requires
+refusal-requires c κs = search needs
+
+same-length : tie.Need-same-length
+same-length c = search needs
+
+same-length-2 : tie.Need-same-length-2
+same-length-2 c = search needs
+
+returns : tie.Need-returns
+returns c = root-promise (c .before .before .before .before .before .before .before .before .before .before .before .before .before .before .before .args .s .now) (c .before .before .before .before .before .before .before .before .before .before .before .before .before .before .before .args .values .now) _ _ _ (c .before .before .before .before .before .before .before .before .before .before .before .before .before .before .before .pre .0) (sym (c .before .before .before .before .before .before .before .before .before .before .markup-noted .ensures .0) ∙ c .before .before .before .before .before .before .lt .given .1) _ _ (c .before .before .read-root .ensures)
+
+same-length-3 : tie.Need-same-length-3
+same-length-3 c = search needs
+
+returns-2 : tie.Need-returns-2
+returns-2 c = broken-promise (c .before .before .before .before .before .before .before .before .before .before .args .s .now) (c .before .before .before .before .before .before .before .before .before .before .args .values .now) _ (c .before .before .before .before .before .before .before .before .before .before .pre .0) (sym (c .before .before .before .before .before .markup-noted .ensures .0) ∙ c .before .enum-told .given .1) _ (c .refusal .ensures)
+
+pub read-noted-spec : {M : Type 1} → statement M
+read-noted-spec =
+    tie.close
+    (tie.spec
+    markup-noted-requires
+    enum-known-lt
+    read-root-requires
+    enum-told
+    refusal-requires
+    same-length
+    same-length-2
+    returns
+    same-length-3
+    returns-2)

@@ -1,0 +1,5 @@
+pub mod Places
+pub mod Laws
+pub mod Bridge
+pub mod Whole
+pub mod Call

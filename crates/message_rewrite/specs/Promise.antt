@@ -1,0 +1,20 @@
+-- A MESSAGE READ AND WRITTEN AGAIN (document 02, Req 01: "whatever is read and written again has the same meaning"): its answer, and every byte of the
+-- buffer that it leaves. Refusals: 2 to 5 of the message, then 40.
+use mathlib.Core.Path.{_≡_}
+use mathlib.Core.List.{List}
+use Prim.Native.Nat.{ℕ, _≤_, _<_}
+use lib.ListN.{length}
+use Rattle.words.specs.Numbers.{put}
+use Rattle.message.specs.Message.{Message}
+use Rattle.message.specs.Written.{messageBytes}
+use Rattle.message.specs.Read.{read, refused, MessageOf}
+use Rattle.message_rewrite.specs.declared.RewriteReply.{RewriteReply}
+
+pub data RewritePromise (s b : List ℕ) : RewriteReply → List ℕ → Type 0 where
+  -- "a message that can't be read, or is above 65,536 bytes, answers as 2 to 5 do"; "a refusal gives length 0 and leaves the buffer"
+  not-read : {code place cause : ℕ} → MessageOf s (refused code place cause) → RewritePromise s b (record { code = code; length = 0 }) b
+  -- "40 (the buffer is shorter than the message)"
+  too-small : {m : Message} → MessageOf s (read m) → length b < length (messageBytes m) → RewritePromise s b (record { code = 40; length = 0 }) b
+  -- the values read are written; bytes past the message stay
+  rewritten : {m : Message} → MessageOf s (read m) → length (messageBytes m) ≤ length b
+      → RewritePromise s b (record { code = 0; length = length (messageBytes m) }) (put b 0 (messageBytes m))

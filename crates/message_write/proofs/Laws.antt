@@ -1,0 +1,255 @@
+-- The writer of a flow's message: entries while the orders are walked, the whole, and one law for each way out of the call.
+use mathlib.Core.Path.{_≡_, refl, sym, ap, subst, _∙_}
+use mathlib.Core.List.{List, [], _∷_}
+use mathlib.Core.Bool.{Bool, true, false, cond, _&&_}
+use Prim.Native.Nat.{ℕ, _+_, _-_, _≤_, _<_}
+use Prim.Native.String.{String}
+use native.Mathlib.Omega.{arith}
+use lib.ListN.{length, drop, length-drop}
+use lib.Seq.{drop-drop}
+use lib.Dec.{eqb, leb}
+use borrow.Author.Tests.{eq-eqb, ne-eqb, eqb-true, le-leb, lt-leb, leb-true}
+use Rattle.scan.specs.Bytes.{byteAt, part, isWhite}
+use Rattle.scan.proofs.Laws.{both, run-within}
+use Rattle.tokens.specs.Tokens.{whiteAt}
+use Rattle.markup.specs.Noted.{Noted}
+use Rattle.rows.specs.declared.Parent.the-variants.{FlussoOrdinativi}
+use Rattle.rows.specs.declared.Kept.{Kept}
+use Rattle.rows.specs.declared.Next.the-variants.{Named, Done}
+use Rattle.rows.specs.Kept.{keptFrom, nextOf}
+use Rattle.structure.proofs.Laws.{fits-parts}
+use Rattle.order.specs.declared.Order.{Order}
+use Rattle.order.specs.Ordinativo.{Ordinativo, ordinativo}
+use Rattle.orders.specs.Shape.{Filled}
+use Rattle.orders.specs.Orders.{those, isOrder, orderOf, Header, headerIn}
+use Rattle.orders.proofs.Laws.{Order-at, order-at, orders-end, standing}
+use Rattle.header.specs.declared.Heading.{Heading}
+use Rattle.header.specs.Heading.{rootRows, headingFrom}
+use Rattle.header.proofs.Laws.{heading-header, heading-within}
+use Rattle.flow.specs.declared.Verdict.{Verdict}
+use Rattle.flow.specs.declared.Verdict.the-variants.{Stands}
+use Rattle.flow.specs.Flow.{verdictOf}
+use Rattle.flow.proofs.Laws.{flow-stood}
+use Rattle.tree.specs.Tree.{Trees, none, more}
+use Rattle.tree.specs.Orders.{Words}
+use Rattle.tree.specs.Written.{node}
+use Rattle.message.specs.Message.{Entry, Message}
+use Rattle.message.specs.Written.{entryOut, entriesOut, messageTree, messageBytes}
+use Rattle.message.specs.From.{Caller, outcomeFits, outcomesFit, entriesFrom, messageFrom}
+use Rattle.message.proofs.From.{written-ok}
+use Rattle.message.proofs.Short.{message-short}
+use Rattle.message_pen.specs.Parts.{RoomFor, WroteAll, RoomOf, WroteTree, join, wordsFor, entryName}
+use Rattle.message_pen.proofs.Laws.{wrote-none, first-room, wrote-first, join-room, join-rest, wrote-join}
+use Rattle.message_fit.specs.Fit.{callerOk}
+use Rattle.message_fit.specs.Walk.{ordersFrom, Rooted}
+use Rattle.message_fit.proofs.Laws.{drop-byte, drop-first, caller-told}
+use Rattle.message_write.specs.declared.WriteAnswer.{WriteAnswer}
+use Rattle.message_write.specs.declared.WriteAnswer.the-variants.{TooLong, Unfit, NoRoom, Written}
+use Rattle.message_write.specs.Write.{writes, maxFlow, writingOf, writeReads, Leaves, WritePromise}
+use Rattle.message_write.specs.Parts.{entryIf, kindOut, entryHere, kindFrom, allEntries, beginningOut, headerWith, flowName, messageAt}
+
+-- ENTRIES OF A KIND: the first order's, if it has one, and the others'
+one-then : (kind : ℕ) (flow : List ℕ) (year : ℕ) (time : List ℕ) (q : Ordinativo) (qs : List Ordinativo) (o : List ℕ)
+    → kindOut kind (entriesFrom kind flow year time (q ∷ qs) o) ≡ join (kindOut kind (entryIf kind flow year time q (byteAt o 2))) (kindOut kind (entriesFrom kind flow year time qs (drop 16 o)))
+unfolding entriesFrom
+one-then kind flow year time q qs o = go (eqb (q .kind) kind)
+  where
+    go : (b : Bool) → kindOut kind (cond b (record { operation = q .operation; code = byteAt o 2; flow = flow; esercizio = year; number = q .number; date = q .date; total = q .total; time = time } ∷ entriesFrom kind flow year time qs (drop 16 o)) (entriesFrom kind flow year time qs (drop 16 o)))
+        ≡ join (kindOut kind (cond b (record { operation = q .operation; code = byteAt o 2; flow = flow; esercizio = year; number = q .number; date = q .date; total = q .total; time = time } ∷ []) [])) (kindOut kind (entriesFrom kind flow year time qs (drop 16 o)))
+    go true = refl
+    go false = refl
+
+-- while the orders are walked: those from i on are to come, their outcome bytes from k on; whatever is written of their entries from `to` on
+-- makes the whole
+pub record Entering (f past out : List ℕ) (kind : ℕ) (name : List ℕ) (year : ℕ) (time : List ℕ) (from at : ℕ) (m₀ m : List ℕ) (i k to : ℕ) : Type 0 where
+  pub rooted : Rooted FlussoOrdinativi f past i
+  pub within : k ≤ length out
+  pub fits : outcomesFit (ordersFrom FlussoOrdinativi f i) (drop k out) ≡ true
+  pub room : RoomFor to (kindFrom kind name year time f i (drop k out))
+  pub size : length m ≡ length m₀
+  pub on : (u : List ℕ) (r : ℕ) → WroteAll m u to (kindFrom kind name year time f i (drop k out)) r → WroteAll m₀ u at (kindFrom kind name year time f from out) r
+
+module _ (f past out : List ℕ) (kind : ℕ) (name : List ℕ) (year : ℕ) (time : List ℕ) (from at : ℕ) (m₀ : List ℕ) where
+  pub entering-start : Rooted FlussoOrdinativi f past from → outcomesFit (ordersFrom FlussoOrdinativi f from) out ≡ true → RoomFor at (kindFrom kind name year time f from out)
+      → Entering f past out kind name year time from at m₀ m₀ from 0 at
+  entering-start r e h = record { rooted = r; within = omega arith; fits = e; room = h; size = refl; on = λ u q w. w }
+
+  module _ {m : List ℕ} {i k to : ℕ} (s : Entering f past out kind name year time from at m₀ m i k to) where
+    pub entering-end : nextOf (those isOrder (keptFrom FlussoOrdinativi f i)) ≡ Done → WroteAll m₀ m at (kindFrom kind name year time f from out) to
+    unfolding entriesFrom
+    entering-end e = s .on m to (rw (orders-end FlussoOrdinativi f i e) (wrote-none m to))
+
+    module _ (n : Kept) (e : nextOf (those isOrder (keptFrom FlussoOrdinativi f i)) ≡ Named n) where
+      pub entering-order : Order-at FlussoOrdinativi f i n
+      entering-order = order-at FlussoOrdinativi f i n (s .rooted .holds) e
+
+      -- its outcome bytes are there, and those of the others fit
+      fitted : ((leb 16 (length (drop k out)) && outcomeFits (ordinativo (orderOf f n)) (drop k out)) && outcomesFit (ordersFrom FlussoOrdinativi f (n .child .after)) (drop (k + 16) out)) ≡ true
+      unfolding outcomesFit
+      fitted = rw (entering-order .rest, drop-drop 16 k out) at (s .fits)
+
+      pub entering-long : k + 16 ≤ length out
+      entering-long =
+          let a = both (leb 16 (length (drop k out)) && outcomeFits (ordinativo (orderOf f n)) (drop k out)) (outcomesFit (ordersFrom FlussoOrdinativi f (n .child .after)) (drop (k + 16) out)) fitted in
+          let b = both (leb 16 (length (drop k out))) (outcomeFits (ordinativo (orderOf f n)) (drop k out)) (a .0) in
+          let l = leb-true 16 (length (drop k out)) (b .0) in
+          let d = length-drop k out in
+          omega arith
+
+      -- its kind is the one that its outcome bytes say
+      pub entering-kind : byteAt out k ≡ orderOf f n .kind
+      entering-kind =
+          let q = ordinativo (orderOf f n) in
+          let a = both (leb 16 (length (drop k out)) && outcomeFits q (drop k out)) (outcomesFit (ordersFrom FlussoOrdinativi f (n .child .after)) (drop (k + 16) out)) fitted in
+          let b = both (leb 16 (length (drop k out))) (outcomeFits q (drop k out)) (a .0) in
+          sym (drop-first out k) ∙ eqb-true _ _ (both (eqb (byteAt (drop k out) 0) (q .kind)) _ (b .1) .0)
+
+      rest : kindFrom kind name year time f i (drop k out) ≡ join (entryHere kind name year time f n out k) (kindFrom kind name year time f (n .child .after) (drop (k + 16) out))
+      rest =
+          rw (entering-order .rest, ← drop-drop 16 k out, ← drop-byte out k 2)
+          (one-then kind name year time (ordinativo (orderOf f n)) (ordersFrom FlussoOrdinativi f (n .child .after)) (drop k out))
+
+      pub entering-room : RoomFor to (entryHere kind name year time f n out k)
+      entering-room = join-room _ _ (subst (RoomFor to) rest (s .room))
+
+      pub entering-step : {m′ : List ℕ} {q : ℕ} → WroteAll m m′ to (entryHere kind name year time f n out k) q
+          → Entering f past out kind name year time from at m₀ m′ (n .child .after) (k + 16) q
+      entering-step {m′} {q} w =
+          let p = entering-order in
+          let l = entering-long in
+          let a = both (leb 16 (length (drop k out)) && outcomeFits (ordinativo (orderOf f n)) (drop k out)) (outcomesFit (ordersFrom FlussoOrdinativi f (n .child .after)) (drop (k + 16) out)) fitted in
+          record {
+            rooted = record { within = p .lies .within; holds = p .on; noted = s .rooted .noted };
+            within = l;
+            fits = a .1;
+            room = join-rest _ _ (subst (RoomFor to) rest (s .room)) w;
+            size = w .wrote .size ∙ s .size;
+            on = λ u r x. s .on u r (subst (λ (ts : Trees). WroteAll m u to ts r) (sym rest) (wrote-join _ _ w x));
+          }
+
+-- the entry of an order of this kind, from the values that were read
+module _ (kind : ℕ) (name : List ℕ) (year : ℕ) (time f : List ℕ) (n : Kept) (out : List ℕ) (k : ℕ) {x : ℕ} (e : x ≡ byteAt out k) (d : byteAt out k ≡ orderOf f n .kind) where
+  pub entry-other : (x ≡ kind → ⊥) → entryHere kind name year time f n out k ≡ none
+  entry-other h = rw (← d, ← e, ne-eqb x kind h)
+
+  abbrev pub entryBy : Order → ℕ → Entry
+  entryBy o code = record { operation = o .operation; code = code; flow = name; esercizio = year; number = o .number; date = o .date; total = o .total; time = time }
+
+  module _ (h : x ≡ kind) {o : Order} {code : ℕ} (eo : o ≡ orderOf f n) (ec : code ≡ byteAt out (k + 2)) where
+    same : entryHere kind name year time f n out k ≡ more (node (entryName kind) (entryOut (wordsFor kind) (entryBy o code))) none
+    same = rw (← d, ← e, eq-eqb x kind h, eo, ec)
+
+    pub entry-room : {at : ℕ} → RoomFor at (entryHere kind name year time f n out k) → RoomOf at (node (entryName kind) (entryOut (wordsFor kind) (entryBy o code)))
+    entry-room {at} r = first-room (subst (RoomFor at) same r)
+
+    pub entry-wrote : {s u : List ℕ} {at r : ℕ} → WroteTree s u at (node (entryName kind) (entryOut (wordsFor kind) (entryBy o code))) r → WroteAll s u at (entryHere kind name year time f n out k) r
+    entry-wrote {s} {u} {at} {r} w = subst (λ (ts : Trees). WroteAll s u at ts r) (sym same) (wrote-first w (wrote-none u r))
+
+-- THE WHOLE
+entries-join : (x : String) (w : Words) (es : List Entry) (ts : Trees) → entriesOut x w es ts ≡ join (entriesOut x w es none) ts
+entries-join x w [] ts = refl
+entries-join x w (e ∷ es) ts = ap (more (node x (entryOut w e))) (entries-join x w es ts)
+
+-- what stands before the entries, and the entries
+module _ (abi body : List ℕ) (year : ℕ) (name f : List ℕ) (from : ℕ) (o : List ℕ) (c : Caller) where
+  abbrev pub Before : Trees
+  Before = beginningOut abi (c .created) (c .ente) (c .described) (c .istat) (c .fiscal) (c .tramiteEnte) (c .tramiteBT) body (c .flowBT)
+
+  abbrev pub Entries : Trees
+  Entries = allEntries name year (c .outcome) f from o
+
+  parts : messageTree (messageFrom (headerWith abi body year) name (ordersFrom FlussoOrdinativi f from) o c) ≡ node "messaggi_esito_applicativo" (join Before Entries)
+  parts = ap (λ (ts : Trees). node "messaggi_esito_applicativo" (join Before ts)) (entries-join (entryName 2) (wordsFor 2) (entriesFrom 2 name year (c .outcome) (ordersFrom FlussoOrdinativi f from) o) (kindFrom 1 name year (c .outcome) f from o))
+
+  pub parts-room : RoomOf 0 (messageTree (messageFrom (headerWith abi body year) name (ordersFrom FlussoOrdinativi f from) o c)) → RoomOf 0 (node "messaggi_esito_applicativo" (join Before Entries))
+  parts-room h = subst (RoomOf 0) parts h
+
+  pub parts-wrote : {s u : List ℕ} {r : ℕ} → WroteTree s u 0 (node "messaggi_esito_applicativo" (join Before Entries)) r
+      → WroteTree s u 0 (messageTree (messageFrom (headerWith abi body year) name (ordersFrom FlussoOrdinativi f from) o c)) r
+  parts-wrote {s} {u} {r} w = subst (λ t. WroteTree s u 0 t r) (sym parts) w
+
+  -- its texts are the flow's
+  module _ (a : abi ≡ headerIn f (keptFrom FlussoOrdinativi f from) .abi) (b : body ≡ headerIn f (keptFrom FlussoOrdinativi f from) .ente)
+      (y : year ≡ headerIn f (keptFrom FlussoOrdinativi f from) .esercizio) (n : name ≡ flowName f from) where
+    own : messageFrom (headerWith abi body year) name (ordersFrom FlussoOrdinativi f from) o c ≡ messageAt f from o c
+    own = rw (a, b, y, n)
+
+    pub own-room : RoomOf 0 (messageTree (messageAt f from o c)) → RoomOf 0 (messageTree (messageFrom (headerWith abi body year) name (ordersFrom FlussoOrdinativi f from) o c))
+    own-room h = subst (λ m. RoomOf 0 (messageTree m)) (sym own) h
+
+    pub own-wrote : {s u : List ℕ} {r : ℕ} → WroteTree s u 0 (messageTree (messageFrom (headerWith abi body year) name (ordersFrom FlussoOrdinativi f from) o c)) r → WroteTree s u 0 (messageTree (messageAt f from o c)) r
+    own-wrote {s} {u} {r} w = subst (λ m. WroteTree s u 0 (messageTree m) r) own w
+
+-- COUNTED, then refused or written
+module _ (m : List ℕ) (x : Message) {s u : List ℕ} {n : ℕ} (w : WroteTree s u 0 (messageTree x) n) where
+  pub counted-none : length m < n → Leaves m (writes x) NoRoom m
+  counted-none l = let t = w .wrote .to in rw (lt-leb (length (messageBytes x)) (length m) (omega arith)) (refl, refl)
+
+  pub counted-some : {m′ : List ℕ} {r : ℕ} → n ≤ length m → WroteTree m m′ 0 (messageTree x) r → Leaves m (writes x) (Written r) m′
+  counted-some {m′} {r} l v =
+      let t = w .wrote .to in
+      let q = v .wrote .to in
+      let z : r ≡ length (messageBytes x) = omega arith in
+      rw (le-leb (length (messageBytes x)) (length m) (omega arith)) (ap Written z, v .wrote .wrote (omega arith))
+
+-- THE HEADER'S VALUES where they stand
+module _ (s : List ℕ) (i : ℕ) (h : Heading) (e : h ≡ headingFrom s i) where
+  pub abi-part : part s (h .abi .from) (h .abi .to) ≡ headerIn s (keptFrom FlussoOrdinativi s i) .abi
+  abi-part = ap (λ (x : Heading). part s (x .abi .from) (x .abi .to)) e ∙ ap (λ (x : Header). x .abi) (heading-header s i)
+
+  pub ente-part : part s (h .ente .from) (h .ente .to) ≡ headerIn s (keptFrom FlussoOrdinativi s i) .ente
+  ente-part = ap (λ (x : Heading). part s (x .ente .from) (x .ente .to)) e ∙ ap (λ (x : Header). x .ente) (heading-header s i)
+
+  pub year-part : h .esercizio ≡ headerIn s (keptFrom FlussoOrdinativi s i) .esercizio
+  year-part = ap (λ (x : Heading). x .esercizio) e ∙ ap (λ (x : Header). x .esercizio) (heading-header s i)
+
+  pub abi-within : (h .abi .from ≤ h .abi .to) × (h .abi .to ≤ length s)
+  abi-within = subst (λ (x : Heading). (x .abi .from ≤ x .abi .to) × (x .abi .to ≤ length s)) (sym e) (heading-within s i .abi)
+
+  pub ente-within : (h .ente .from ≤ h .ente .to) × (h .ente .to ≤ length s)
+  ente-within = subst (λ (x : Heading). (x .ente .from ≤ x .ente .to) × (x .ente .to ≤ length s)) (sym e) (heading-within s i .ente)
+
+-- A FLOW THAT STANDS, its root's children from a place on
+module _ (f : List ℕ) (at from : ℕ) (z : from ≡ whiteAt f at) where
+  pub flow-rooted : (past : List ℕ) → verdictOf f ≡ Stands at → Noted f past → Rooted FlussoOrdinativi f past from
+  flow-rooted past e n =
+      let s = flow-stood f at e in
+      subst (λ (x : ℕ). Rooted FlussoOrdinativi f past x) (sym z) (record { within = run-within isWhite f at (s .within); holds = standing FlussoOrdinativi f at (s .fits); noted = n })
+
+  pub flow-filled : verdictOf f ≡ Stands at → Filled rootRows 3 FlussoOrdinativi f 0 from
+  flow-filled e =
+      let s = flow-stood f at e in
+      let b = fits-parts 3 FlussoOrdinativi f at (s .fits) in
+      subst (λ (x : ℕ). Filled rootRows 3 FlussoOrdinativi f 0 x) (sym z) (record { within = run-within isWhite f at (s .within); rows = b .0; each = b .1 })
+
+  module _ (m o : List ℕ) (c : Caller) {g : Bool} (eg : g ≡ outcomesFit (ordersFrom FlussoOrdinativi f from) o) where
+    fit-is : outcomesFit (ordersFrom FlussoOrdinativi f (whiteAt f at)) o ≡ g
+    fit-is = ap (λ (x : ℕ). outcomesFit (ordersFrom FlussoOrdinativi f x) o) (sym z) ∙ sym eg
+
+    pub unfit-outcomes : g ≡ false → Leaves m (writingOf f o c (Stands at)) Unfit m
+    unfit-outcomes n = rw (fit-is, n) (refl, refl)
+
+    module _ (y : g ≡ true) {h : Bool} (eh : h ≡ callerOk c) where
+      pub unfit-caller : h ≡ false → Leaves m (writingOf f o c (Stands at)) Unfit m
+      unfit-caller n = rw (fit-is, y, ← eh, n) (refl, refl)
+
+      module _ (v : h ≡ true) where
+        pub fit-written : {a : WriteAnswer} {m′ : List ℕ} → Leaves m (writes (messageAt f from o c)) a m′ → Leaves m (writingOf f o c (Stands at)) a m′
+        fit-written {a} {m′} w = rw (fit-is, y, ← eh, v) (subst (λ (x : ℕ). Leaves m (writes (messageAt f x o c)) a m′) z w)
+
+        -- the longest message is far below what a count can hold
+        pub fit-room : verdictOf f ≡ Stands at → RoomOf 0 (messageTree (messageAt f from o c))
+        fit-room e =
+            let k = written-ok f at e o c (fit-is ∙ y) (caller-told c .sound (sym eh ∙ v)) in
+            let l = message-short (messageAt f (whiteAt f at) o c) k in
+            subst (λ (x : ℕ). RoomOf 0 (messageTree (messageAt f x o c))) (sym z) (record { room = record { fits = omega arith } })
+
+-- THE CALL
+module _ (f o : List ℕ) (c : Caller) (m : List ℕ) where
+  pub write-long : maxFlow < length f → WritePromise f o c m TooLong m
+  unfolding writeReads
+  write-long l = rw (lt-leb (length f) maxFlow l) (refl, refl)
+
+  pub write-read : {v : Verdict} {a : WriteAnswer} {m′ : List ℕ} → length f ≤ maxFlow → verdictOf f ≡ v → Leaves m (writingOf f o c v) a m′ → WritePromise f o c m a m′
+  unfolding writeReads
+  write-read l e w = rw (le-leb (length f) maxFlow l, e) w

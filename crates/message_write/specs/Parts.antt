@@ -1,0 +1,70 @@
+-- A message of a flow as its writer takes it up: names for the contracts of its functions.
+use mathlib.Core.Path.{_≡_}
+use Prim.Native.Nat.{ℕ, _+_, _≤_}
+use mathlib.Core.List.{List, [], _∷_}
+use mathlib.Core.Bool.{true, cond}
+use lib.ListN.{length}
+use lib.Dec.{eqb}
+use Rattle.scan.specs.Bytes.{byteAt, part}
+use Rattle.rows.specs.declared.Parent.the-variants.{FlussoOrdinativi}
+use Rattle.rows.specs.declared.Kept.{Kept}
+use Rattle.rows.specs.Kept.{keptFrom}
+use Rattle.record.specs.Slot.{mandatoKind, reversaleKind}
+use Rattle.order.specs.Ordinativo.{Ordinativo, ordinativo}
+use Rattle.orders.specs.Orders.{textIn, orderOf, Header, headerIn}
+use Rattle.header.specs.declared.Span.{Span}
+use Rattle.header.specs.declared.Heading.{Heading}
+use Rattle.header.specs.Heading.{headingFrom}
+use Rattle.tree.specs.Tree.{Trees, none}
+use Rattle.tree.specs.Written.{leaf}
+use Rattle.message.specs.Message.{Entry, Message}
+use Rattle.message.specs.Written.{_and_, entriesOut, messageTree}
+use Rattle.message.specs.From.{Caller, outcomesFit, entryFrom, entriesFrom, messageFrom}
+use Rattle.message_pen.specs.Parts.{RoomOf, wordsFor, entryName, join, headTree}
+use Rattle.message_fit.specs.Walk.{ordersFrom, Rooted}
+
+-- the entry of an order of this kind, and none of another's
+abbrev pub entryIf : ℕ → List ℕ → ℕ → List ℕ → Ordinativo → ℕ → List Entry
+entryIf kind flow year time q code = cond (eqb (q .kind) kind) (entryFrom flow year time q code ∷ []) []
+
+-- entries of a kind as elements
+abbrev pub kindOut : ℕ → List Entry → Trees
+kindOut kind es = entriesOut (entryName kind) (wordsFor kind) es none
+
+-- the entry, as an element, of the order that a named child is, with its outcome bytes at a place
+abbrev pub entryHere : ℕ → List ℕ → ℕ → List ℕ → List ℕ → Kept → List ℕ → ℕ → Trees
+entryHere kind flow year time f n o k = kindOut kind (entryIf kind flow year time (ordinativo (orderOf f n)) (byteAt o (k + 2)))
+
+-- the entries of a kind, of the orders from a place on with their outcome bytes
+abbrev pub kindFrom : ℕ → List ℕ → ℕ → List ℕ → List ℕ → ℕ → List ℕ → Trees
+kindFrom kind flow year time f from o = kindOut kind (entriesFrom kind flow year time (ordersFrom FlussoOrdinativi f from) o)
+
+-- all entries: "reversali" first
+abbrev pub allEntries : List ℕ → ℕ → List ℕ → List ℕ → ℕ → List ℕ → Trees
+allEntries flow year time f from o = join (kindFrom reversaleKind flow year time f from o) (kindFrom mandatoKind flow year time f from o)
+
+-- what stands before them: the header, and identificativo_flusso_BT
+abbrev pub beginningOut : List ℕ → List ℕ → List ℕ → List ℕ → List ℕ → List ℕ → List ℕ → List ℕ → List ℕ → List ℕ → Trees
+beginningOut abi created ente described istat fiscal tramite bank body flow =
+    headTree abi created ente described istat fiscal tramite bank body and leaf "identificativo_flusso_BT" flow and none
+
+-- the header of a flow by its three values
+abbrev pub headerWith : List ℕ → List ℕ → ℕ → Header
+headerWith abi body year = record { abi = abi; ente = body; esercizio = year }
+
+-- identificativo_flusso of the root's children from a place on, and the message of these
+abbrev pub flowName : List ℕ → ℕ → List ℕ
+flowName f from = textIn 1 f (keptFrom FlussoOrdinativi f from)
+
+abbrev pub messageAt : List ℕ → ℕ → List ℕ → Caller → Message
+messageAt f from o c = messageFrom (headerIn f (keptFrom FlussoOrdinativi f from)) (flowName f from) (ordersFrom FlussoOrdinativi f from) o c
+
+-- WHAT THE WRITER IS GIVEN: the orders from a place on with outcome bytes that fit, where the header's values and identificativo_flusso stand, and room
+-- for the whole
+pub record Written (f past : List ℕ) (from : ℕ) (h : Heading) (w : Span) (o : List ℕ) (c : Caller) : Type 0 where
+  pub rooted : Rooted FlussoOrdinativi f past from
+  pub fits : outcomesFit (ordersFrom FlussoOrdinativi f from) o ≡ true
+  pub heading : h ≡ headingFrom f from
+  pub name : part f (w .from) (w .to) ≡ flowName f from
+  pub within : (w .from ≤ w .to) × (w .to ≤ length f)
+  pub room : RoomOf 0 (messageTree (messageAt f from o c))

@@ -1,0 +1,533 @@
+// The call that writes an outcome message, on any bytes at all: the flow is read, the outcome bytes and the caller's values are judged, the message's length
+// is counted by a run that writes nothing, and only then is it written.
+use flow::Verdict;
+use header::Heading;
+use header::Span;
+use message_pen::Saying;
+use rows::Kept;
+use rows::Next;
+use rows::Parent;
+ghost use mathlib.Core.Path.{_≡_};
+ghost use mathlib.Core.Bool.{true};
+ghost use Prim.Native.Nat.{_+_, _≤_};
+ghost use lib.ListN.{length};
+ghost use Rattle.scan.specs.Bytes.{byteAt, part};
+ghost use Rattle.markup.specs.Noted.{Noted};
+ghost use Rattle.rows.specs.declared.Parent.the-variants.{FlussoOrdinativi};
+ghost use Rattle.orders.specs.Shape.{orderRows, Shaped, Filled};
+ghost use Rattle.orders.specs.Orders.{orderOf};
+ghost use Rattle.header.specs.Heading.{rootRows, headingFrom};
+ghost use Rattle.flow.specs.declared.Verdict.the-variants.{Stands};
+ghost use Rattle.flow.specs.Flow.{verdictOf};
+ghost use Rattle.message.specs.Written.{messageTree};
+ghost use Rattle.message.specs.From.{outcomesFit, messageFrom};
+ghost use Rattle.message_pen.specs.Parts.{RoomFor, WroteAll, RoomOf, WroteTree};
+ghost use Rattle.message_fit.specs.Fit.{callerBy};
+ghost use Rattle.message_fit.specs.Walk.{ordersFrom, Rooted};
+ghost use Rattle.message_write.specs.Write.{Writing, maxFlow, writingOf, Leaves, WritePromise, writeReply};
+ghost use Rattle.message_write.specs.Parts.{entryHere, kindFrom, allEntries, beginningOut, headerWith, flowName, messageAt, Written as Made};
+
+// What the call answers.
+pub enum WriteAnswer {
+    TooLong,
+    BrokenMarkup,
+    BrokenStructure,
+    BrokenField,
+    Unfit,
+    NoRoom,
+    Written(usize),
+}
+
+// Document 02's numbers of an answer.
+pub struct WriteReply {
+    pub code: u64,
+    pub length: u64,
+}
+
+// The entry of an order whose outcome bytes stand at a place, where it is of this kind: only then is the order read.
+fn entry_at(
+    m: &mut [u8],
+    at: usize,
+    kind: u8,
+    f: &[u8],
+    n: Kept,
+    past: &[u32],
+    out: &[u8],
+    k: usize,
+    year: u64,
+    name: &[u8],
+    time: &[u8],
+) -> usize
+    requires { ⌜ Shaped orderRows 3 (now f) n × Noted (now f) (now past) × (byteAt (now out) k ≡ orderOf (now f) n .kind) × (k + 16 ≤ length (now out))
+        × RoomFor at (entryHere kind (now name) year (now time) (now f) n (now out) k) ⌝ }
+    ensures { λ r. ⌜ WroteAll (now (m .entry)) (now (m .exit)) at
+        (entryHere kind (now (name .entry)) year (now (time .entry)) (now (f .entry)) n (now (out .entry)) k) r ⌝ }
+{
+    if scan::byte(out, k) != kind {
+        return at;
+    }
+    let code = message_fit::wide(scan::byte(out, k + 2));
+    let o = orders::order_of(f, n, past);
+    let operation = o.operation;
+    let date = o.date;
+    let v = Saying {
+        kind,
+        operation,
+        code,
+        esercizio: year,
+        number: o.number,
+        date,
+        total: o.total,
+    };
+    message_pen::entry(m, at, v, name, time)
+}
+
+// The entries of a kind, of the orders from a place on with their outcome bytes.
+fn entries_of(
+    m: &mut [u8],
+    at: usize,
+    kind: u8,
+    f: &[u8],
+    from: usize,
+    past: &[u32],
+    out: &[u8],
+    year: u64,
+    name: &[u8],
+    time: &[u8],
+) -> usize
+    requires { ⌜ Rooted FlussoOrdinativi (now f) (now past) from × (outcomesFit (ordersFrom FlussoOrdinativi (now f) from) (now out) ≡ true)
+        × RoomFor at (kindFrom kind (now name) year (now time) (now f) from (now out)) ⌝ }
+    ensures { λ r. ⌜ WroteAll (now (m .entry)) (now (m .exit)) at
+        (kindFrom kind (now (name .entry)) year (now (time .entry)) (now (f .entry)) from (now (out .entry))) r ⌝ }
+{
+    let mut i = from;
+    let mut k: usize = 0;
+    let mut to = at;
+    loop {
+        let Next::Named(n) = orders::next_order(f, i, Parent::FlussoOrdinativi, past) else {
+            return to;
+        };
+        let c = n.child;
+        to = entry_at(m, to, kind, f, n, past, out, k, year, name, time);
+        k += 16;
+        i = c.after;
+    }
+}
+
+// All entries: those of reversali, then those of mandati.
+fn entries(
+    m: &mut [u8],
+    at: usize,
+    f: &[u8],
+    from: usize,
+    past: &[u32],
+    out: &[u8],
+    year: u64,
+    name: &[u8],
+    time: &[u8],
+) -> usize
+    requires { ⌜ Rooted FlussoOrdinativi (now f) (now past) from × (outcomesFit (ordersFrom FlussoOrdinativi (now f) from) (now out) ≡ true)
+        × RoomFor at (allEntries (now name) year (now time) (now f) from (now out)) ⌝ }
+    ensures { λ r. ⌜ WroteAll (now (m .entry)) (now (m .exit)) at
+        (allEntries (now (name .entry)) year (now (time .entry)) (now (f .entry)) from (now (out .entry))) r ⌝ }
+{
+    let a = entries_of(m, at, 2, f, from, past, out, year, name, time);
+    entries_of(m, a, 1, f, from, past, out, year, name, time)
+}
+
+// What stands before the entries.
+fn beginning(
+    m: &mut [u8],
+    at: usize,
+    abi: &[u8],
+    created: &[u8],
+    ente: &[u8],
+    described: &[u8],
+    istat: &[u8],
+    fiscal: &[u8],
+    tramite: &[u8],
+    bank: &[u8],
+    body: &[u8],
+    flow: &[u8],
+) -> usize
+    requires { ⌜ RoomFor at (beginningOut (now abi) (now created) (now ente) (now described) (now istat) (now fiscal) (now tramite) (now bank) (now body) (now flow)) ⌝ }
+    ensures { λ r. ⌜ WroteAll (now (m .entry)) (now (m .exit)) at
+        (beginningOut (now (abi .entry)) (now (created .entry)) (now (ente .entry)) (now (described .entry)) (now (istat .entry))
+        (now (fiscal .entry)) (now (tramite .entry)) (now (bank .entry)) (now (body .entry)) (now (flow .entry))) r ⌝ }
+{
+    let a = message_pen::head(
+        m,
+        at,
+        abi,
+        created,
+        ente,
+        described,
+        istat,
+        fiscal,
+        tramite,
+        bank,
+        body,
+    );
+    pen::leaf(m, a, b"identificativo_flusso_BT", flow)
+}
+
+// A whole message, from its header's texts and the orders of a flow.
+fn framed(
+    m: &mut [u8],
+    abi: &[u8],
+    body: &[u8],
+    year: u64,
+    name: &[u8],
+    f: &[u8],
+    from: usize,
+    past: &[u32],
+    out: &[u8],
+    created: &[u8],
+    outcome: &[u8],
+    ente: &[u8],
+    described: &[u8],
+    istat: &[u8],
+    fiscal: &[u8],
+    tramite: &[u8],
+    bank: &[u8],
+    flow: &[u8],
+) -> usize
+    requires { ⌜ Rooted FlussoOrdinativi (now f) (now past) from × (outcomesFit (ordersFrom FlussoOrdinativi (now f) from) (now out) ≡ true)
+        × RoomOf 0 (messageTree (messageFrom (headerWith (now abi) (now body) year) (now name) (ordersFrom FlussoOrdinativi (now f) from) (now out)
+        (callerBy (now created) (now outcome) (now ente) (now described) (now istat) (now fiscal) (now tramite) (now bank) (now flow)))) ⌝ }
+    ensures { λ r. ⌜ WroteTree (now (m .entry)) (now (m .exit)) 0
+        (messageTree (messageFrom (headerWith (now (abi .entry)) (now (body .entry)) year) (now (name .entry)) (ordersFrom FlussoOrdinativi (now (f .entry)) from) (now (out .entry))
+        (callerBy (now (created .entry)) (now (outcome .entry)) (now (ente .entry)) (now (described .entry))
+        (now (istat .entry)) (now (fiscal .entry)) (now (tramite .entry)) (now (bank .entry)) (now (flow .entry))))) r ⌝ }
+{
+    let a = pen::open_tag(m, 0, b"messaggi_esito_applicativo");
+    let b = beginning(
+        m,
+        a,
+        abi,
+        created,
+        ente,
+        described,
+        istat,
+        fiscal,
+        tramite,
+        bank,
+        body,
+        flow,
+    );
+    let c = entries(m, b, f, from, past, out, year, name, outcome);
+    pen::close_tag(m, c, b"messaggi_esito_applicativo")
+}
+
+// Where identificativo_flusso stands.
+fn name_of(f: &[u8], from: usize, past: &[u32]) -> Span
+    requires { ⌜ Filled rootRows 3 FlussoOrdinativi (now f) 0 from × Noted (now f) (now past) ⌝ }
+    ensures { λ r. ⌜ (part (now (f .entry)) (r .from) (r .to) ≡ flowName (now (f .entry)) from) × (r .from ≤ r .to) × (r .to ≤ length (now (f .entry))) ⌝ }
+{
+    let a = orders::first_named(f, from, Parent::FlussoOrdinativi, past).child;
+    let b = orders::first_named(f, a.after, Parent::FlussoOrdinativi, past).child;
+    Span {
+        from: b.gt + 1,
+        to: b.to,
+    }
+}
+
+// The message of a flow that stands, its texts where they stand in the flow.
+fn whole(
+    m: &mut [u8],
+    f: &[u8],
+    from: usize,
+    h: Heading,
+    w: Span,
+    past: &[u32],
+    out: &[u8],
+    created: &[u8],
+    outcome: &[u8],
+    ente: &[u8],
+    described: &[u8],
+    istat: &[u8],
+    fiscal: &[u8],
+    tramite: &[u8],
+    bank: &[u8],
+    flow: &[u8],
+) -> usize
+    requires { ⌜ Made (now f) (now past) from h w (now out) (callerBy (now created) (now outcome) (now ente) (now described) (now istat) (now fiscal) (now tramite) (now bank) (now flow)) ⌝ }
+    ensures { λ r. ⌜ WroteTree (now (m .entry)) (now (m .exit)) 0
+        (messageTree (messageAt (now (f .entry)) from (now (out .entry)) (callerBy (now (created .entry)) (now (outcome .entry)) (now (ente .entry)) (now (described .entry))
+        (now (istat .entry)) (now (fiscal .entry)) (now (tramite .entry)) (now (bank .entry)) (now (flow .entry))))) r ⌝ }
+{
+    let x = h.abi;
+    let y = h.ente;
+    let abi = header::part_at(f, x);
+    let body = header::part_at(f, y);
+    let name = header::part_at(f, w);
+    framed(
+        m,
+        abi,
+        body,
+        h.esercizio,
+        name,
+        f,
+        from,
+        past,
+        out,
+        created,
+        outcome,
+        ente,
+        described,
+        istat,
+        fiscal,
+        tramite,
+        bank,
+        flow,
+    )
+}
+
+// A message that can be written: counted first, then 40, or it is written.
+fn counted(
+    m: &mut [u8],
+    f: &[u8],
+    from: usize,
+    h: Heading,
+    w: Span,
+    past: &[u32],
+    out: &[u8],
+    created: &[u8],
+    outcome: &[u8],
+    ente: &[u8],
+    described: &[u8],
+    istat: &[u8],
+    fiscal: &[u8],
+    tramite: &[u8],
+    bank: &[u8],
+    flow: &[u8],
+) -> WriteAnswer
+    requires { ⌜ Made (now f) (now past) from h w (now out) (callerBy (now created) (now outcome) (now ente) (now described) (now istat) (now fiscal) (now tramite) (now bank) (now flow)) ⌝ }
+    ensures { λ r. ⌜ Leaves (now (m .entry)) (Writing.writes (messageAt (now (f .entry)) from (now (out .entry)) (callerBy (now (created .entry)) (now (outcome .entry)) (now (ente .entry)) (now (described .entry))
+        (now (istat .entry)) (now (fiscal .entry)) (now (tramite .entry)) (now (bank .entry)) (now (flow .entry))))) r (now (m .exit)) ⌝ }
+{
+    let mut none = [0u8; 1];
+    let n = whole(
+        &mut none,
+        f,
+        from,
+        h,
+        w,
+        past,
+        out,
+        created,
+        outcome,
+        ente,
+        described,
+        istat,
+        fiscal,
+        tramite,
+        bank,
+        flow,
+    );
+    if m.len() < n {
+        return WriteAnswer::NoRoom;
+    }
+    WriteAnswer::Written(whole(
+        m,
+        f,
+        from,
+        h,
+        w,
+        past,
+        out,
+        created,
+        outcome,
+        ente,
+        described,
+        istat,
+        fiscal,
+        tramite,
+        bank,
+        flow,
+    ))
+}
+
+// The message of a flow that stands, its root's content at a place: 41, or as the room says.
+fn standing(
+    m: &mut [u8],
+    f: &[u8],
+    at: usize,
+    past: &[u32],
+    out: &[u8],
+    created: &[u8],
+    outcome: &[u8],
+    ente: &[u8],
+    described: &[u8],
+    istat: &[u8],
+    fiscal: &[u8],
+    tramite: &[u8],
+    bank: &[u8],
+    flow: &[u8],
+) -> WriteAnswer
+    requires { ⌜ (verdictOf (now f) ≡ Stands at) × Noted (now f) (now past) ⌝ }
+    ensures { λ r. ⌜ Leaves (now (m .entry)) (writingOf (now (f .entry)) (now (out .entry)) (callerBy (now (created .entry)) (now (outcome .entry)) (now (ente .entry)) (now (described .entry))
+        (now (istat .entry)) (now (fiscal .entry)) (now (tramite .entry)) (now (bank .entry)) (now (flow .entry))) (Stands at)) r (now (m .exit)) ⌝ }
+{
+    let from = scan::white_end(f, at);
+    if !message_fit::outcomes_fit(f, from, Parent::FlussoOrdinativi, out, past) {
+        return WriteAnswer::Unfit;
+    }
+    if !message_fit::caller_ok(
+        created,
+        outcome,
+        ente,
+        described,
+        istat,
+        fiscal,
+        tramite,
+        bank,
+        flow,
+    ) {
+        return WriteAnswer::Unfit;
+    }
+    let h = header::header_from(f, from, past);
+    let w = name_of(f, from, past);
+    counted(
+        m,
+        f,
+        from,
+        h,
+        w,
+        past,
+        out,
+        created,
+        outcome,
+        ente,
+        described,
+        istat,
+        fiscal,
+        tramite,
+        bank,
+        flow,
+    )
+}
+
+// Reads a flow that is not too long, noting in `past` where its elements end, and writes its message.
+fn write_noted(
+    m: &mut [u8],
+    past: &mut [u32],
+    f: &[u8],
+    out: &[u8],
+    created: &[u8],
+    outcome: &[u8],
+    ente: &[u8],
+    described: &[u8],
+    istat: &[u8],
+    fiscal: &[u8],
+    tramite: &[u8],
+    bank: &[u8],
+    flow: &[u8],
+) -> WriteAnswer
+    requires { ⌜ (length (now f) ≤ maxFlow) × Noted (now f) (now past) ⌝ }
+    ensures { λ r. ⌜ WritePromise (now (f .entry)) (now (out .entry)) (callerBy (now (created .entry)) (now (outcome .entry)) (now (ente .entry)) (now (described .entry))
+        (now (istat .entry)) (now (fiscal .entry)) (now (tramite .entry)) (now (bank .entry)) (now (flow .entry))) (now (m .entry)) r (now (m .exit)) ⌝ }
+{
+    match flow::verdict_of(f, past) {
+        Verdict::MarkupBreaks(_) => WriteAnswer::BrokenMarkup,
+        Verdict::StructureBreaks => WriteAnswer::BrokenStructure,
+        Verdict::FieldBreaks(_, _) => WriteAnswer::BrokenField,
+        Verdict::Stands(at) => standing(
+            m,
+            f,
+            at,
+            past,
+            out,
+            created,
+            outcome,
+            ente,
+            described,
+            istat,
+            fiscal,
+            tramite,
+            bank,
+            flow,
+        ),
+    }
+}
+
+// Writes the outcome message of a flow. Every byte of the buffer is determined, and none changes where the call is refused.
+pub fn write_message(
+    f: &[u8],
+    out: &[u8],
+    created: &[u8],
+    outcome: &[u8],
+    ente: &[u8],
+    described: &[u8],
+    istat: &[u8],
+    fiscal: &[u8],
+    tramite: &[u8],
+    bank: &[u8],
+    flow: &[u8],
+    m: &mut [u8],
+) -> WriteAnswer
+    ensures { λ r. ⌜ WritePromise (now (f .entry)) (now (out .entry)) (callerBy (now (created .entry)) (now (outcome .entry)) (now (ente .entry)) (now (described .entry))
+        (now (istat .entry)) (now (fiscal .entry)) (now (tramite .entry)) (now (bank .entry)) (now (flow .entry))) (now (m .entry)) r (now (m .exit)) ⌝ }
+{
+    if 32768 < f.len() {
+        return WriteAnswer::TooLong;
+    }
+    if f.len() < 4096 {
+        let mut few = [0u32; 1024];
+        return write_noted(
+            m,
+            &mut few,
+            f,
+            out,
+            created,
+            outcome,
+            ente,
+            described,
+            istat,
+            fiscal,
+            tramite,
+            bank,
+            flow,
+        );
+    }
+    let mut past = [0u32; 8193];
+    write_noted(
+        m,
+        &mut past,
+        f,
+        out,
+        created,
+        outcome,
+        ente,
+        described,
+        istat,
+        fiscal,
+        tramite,
+        bank,
+        flow,
+    )
+}
+
+fn no_message(code: u64) -> WriteReply
+    ensures { λ r. ⌜ (r .code ≡ code) × (r .length ≡ 0) ⌝ }
+{
+    WriteReply { code, length: 0 }
+}
+
+// The numbers of an answer.
+pub fn reply_of(a: WriteAnswer) -> WriteReply
+    ensures { λ r. ⌜ (r .code ≡ writeReply a .code) × (r .length ≡ writeReply a .length) ⌝ }
+{
+    match a {
+        WriteAnswer::TooLong => no_message(2),
+        WriteAnswer::BrokenMarkup => no_message(3),
+        WriteAnswer::BrokenStructure => no_message(4),
+        WriteAnswer::BrokenField => no_message(5),
+        WriteAnswer::Unfit => no_message(41),
+        WriteAnswer::NoRoom => no_message(40),
+        WriteAnswer::Written(n) => WriteReply {
+            code: 0,
+            length: n as u64,
+        },
+    }
+}

@@ -1,0 +1,25 @@
+use Rattle.pen.specs.Decimal.{decimal}
+use Rattle.pen.proofs.Laws.{room-open, room-in, room-close, wrote-tagged}
+use borrow.Author.Needs.{needs}
+use Rattle.pen.proofs.number_leaf.Statement.{statement}
+use Rattle.pen.proofs.number_leaf.Tie as tie
+
+open-tag-requires : tie.Need-open-tag-requires
+open-tag-requires c κs = room-open (c .before .before .before .args .name .now) (decimal (c .before .before .before .args .n)) (c .before .before .before .pre)
+
+decimal-digits-requires : tie.Need-decimal-digits-requires
+decimal-digits-requires c κs = room-in (c .before .before .before .before .before .before .before .args .name .now) (decimal (c .before .before .before .before .before .before .before .args .n)) (c .before .before .before .before .before .before .before .pre) (c .before .before .before .open-tag .ensures)
+
+close-tag-requires : tie.Need-close-tag-requires
+close-tag-requires c κs = room-close (c .before .before .before .before .before .before .before .before .before .before .before .args .name .now) (decimal (c .before .before .before .before .before .before .before .before .before .before .before .args .n)) (c .before .before .before .before .before .before .before .before .before .before .before .pre) (c .before .before .before .before .before .before .before .open-tag .ensures) (c .before .before .before .decimal-digits .ensures)
+
+same-length : tie.Need-same-length
+same-length c = search needs
+
+returns : tie.Need-returns
+returns c = wrote-tagged (c .before .before .before .before .before .before .before .before .before .before .before .before .before .before .args .name .now) (decimal (c .before .before .before .before .before .before .before .before .before .before .before .before .before .before .args .n)) (c .before .before .before .before .before .before .before .before .before .before .open-tag .ensures) (c .before .before .before .before .before .before .decimal-digits .ensures) (c .before .before .close-tag .ensures)
+
+pub number-leaf-spec : {M : Type 1} → statement M
+number-leaf-spec =
+    tie.close
+    (tie.spec open-tag-requires decimal-digits-requires close-tag-requires same-length returns)
