@@ -137,9 +137,9 @@ enum {
 #define HONDIVOLE_TOTALS_STACK 8192u
 #define HONDIVOLE_JOURNAL_STACK 32768u
 #define HONDIVOLE_FIELD_AT_STACK 8192u
-#define HONDIVOLE_MESSAGE_WRITE_STACK 65536u
-#define HONDIVOLE_MESSAGE_READ_STACK 65536u
-#define HONDIVOLE_MESSAGE_REWRITE_STACK 65536u
+#define HONDIVOLE_MESSAGE_WRITE_STACK 49152u
+#define HONDIVOLE_MESSAGE_READ_STACK 73728u
+#define HONDIVOLE_MESSAGE_REWRITE_STACK 81920u
 
 /*
  * Opens a table. The request is five ABI digits and then 20 bytes per body: the code's length, the code in 16 bytes with zeros after it,
