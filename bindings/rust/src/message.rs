@@ -2,7 +2,7 @@
 
 use std::fmt;
 
-use crate::{Date, Kind, Operation, Refusal, Table, ffi};
+use crate::{Date, Edition, Kind, Operation, Refusal, Table, ffi};
 
 /// The most bytes of a message that is written: 64 refused reversali, every value as long as it may be.
 ///
