@@ -1,4 +1,7 @@
-// The C interface: ten thin functions over the desk, each with its promise. Every result is written on every path.
+// The C interface: thin functions over the desk, each with its promise; those of outcome messages stand in messages.rt. Every result is written on every
+// path.
+pub mod messages;
+
 use calendar::Date;
 use record::Key;
 ghost use mathlib.Core.Bool.{true, false};
