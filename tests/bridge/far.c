@@ -225,8 +225,8 @@ uint64_t hondivole_days_between(uint64_t year, uint64_t month, uint64_t day, uin
     return answer.code;
 }
 
-uint64_t hondivole_message_write(const uint8_t *flow, size_t flow_len, const uint8_t *outcomes, size_t outcomes_len, const uint8_t *created,
-                                 size_t created_len, const uint8_t *outcome, size_t outcome_len, const uint8_t *codice_ente,
+uint64_t hondivole_message_write(uint64_t edition, const uint8_t *flow, size_t flow_len, const uint8_t *outcomes, size_t outcomes_len,
+                                 const uint8_t *created, size_t created_len, const uint8_t *outcome, size_t outcome_len, const uint8_t *codice_ente,
                                  size_t codice_ente_len, const uint8_t *descrizione_ente, size_t descrizione_ente_len,
                                  const uint8_t *codice_istat_ente, size_t codice_istat_ente_len, const uint8_t *codice_fiscale_ente,
                                  size_t codice_fiscale_ente_len, const uint8_t *codice_tramite_ente, size_t codice_tramite_ente_len,
@@ -236,7 +236,8 @@ uint64_t hondivole_message_write(const uint8_t *flow, size_t flow_len, const uin
     struct call call = {.function = MESSAGE_WRITE,
                         .lengths = {written_len, flow_len, outcomes_len, created_len, outcome_len, codice_ente_len, descrizione_ente_len,
                                     codice_istat_ente_len, codice_fiscale_ente_len, codice_tramite_ente_len, codice_tramite_BT_len,
-                                    identificativo_flusso_BT_len}};
+                                    identificativo_flusso_BT_len},
+                        .numbers = {edition}};
     const uint8_t *lent[BUFFERS] = {written, flow, outcomes, created, outcome, codice_ente, descrizione_ente, codice_istat_ente,
                                     codice_fiscale_ente, codice_tramite_ente, codice_tramite_BT, identificativo_flusso_BT};
     struct answer answer = carry(&call, lent, written, none);
@@ -244,10 +245,10 @@ uint64_t hondivole_message_write(const uint8_t *flow, size_t flow_len, const uin
     return answer.code;
 }
 
-uint64_t hondivole_message_read(const uint8_t *read, size_t read_len, uint8_t *values, size_t values_len, uint64_t *entries, uint64_t *place,
-                                uint64_t *cause)
+uint64_t hondivole_message_read(uint64_t edition, const uint8_t *read, size_t read_len, uint8_t *values, size_t values_len,
+                                uint64_t *entries, uint64_t *place, uint64_t *cause)
 {
-    struct call call = {.function = MESSAGE_READ, .lengths = {values_len, read_len, 0}};
+    struct call call = {.function = MESSAGE_READ, .lengths = {values_len, read_len, 0}, .numbers = {edition}};
     struct answer answer = forward(&call, values, read, none);
     *entries = answer.results[0];
     *place = answer.results[1];
@@ -255,9 +256,9 @@ uint64_t hondivole_message_read(const uint8_t *read, size_t read_len, uint8_t *v
     return answer.code;
 }
 
-uint64_t hondivole_message_rewrite(const uint8_t *read, size_t read_len, uint8_t *again, size_t again_len, uint64_t *length)
+uint64_t hondivole_message_rewrite(uint64_t edition, const uint8_t *read, size_t read_len, uint8_t *again, size_t again_len, uint64_t *length)
 {
-    struct call call = {.function = MESSAGE_REWRITE, .lengths = {again_len, read_len, 0}};
+    struct call call = {.function = MESSAGE_REWRITE, .lengths = {again_len, read_len, 0}, .numbers = {edition}};
     struct answer answer = forward(&call, again, read, none);
     *length = answer.results[0];
     return answer.code;

@@ -143,11 +143,11 @@ static void look_over(const struct call *call)
 }
 
 /* Writes a message from what the pens hold. */
-static uint64_t write_message(uint64_t *length)
+static uint64_t write_message(uint64_t edition, uint64_t *length)
 {
     const struct pen *p = pens, *v = pens + FIRST_VALUE;
-    return hondivole_message_write(p[INPUT].lent, p[INPUT].length, p[OUTCOMES].lent, p[OUTCOMES].length, v[0].lent, v[0].length, v[1].lent,
-                                   v[1].length, v[2].lent, v[2].length, v[3].lent, v[3].length, v[4].lent, v[4].length, v[5].lent,
+    return hondivole_message_write(edition, p[INPUT].lent, p[INPUT].length, p[OUTCOMES].lent, p[OUTCOMES].length, v[0].lent, v[0].length,
+                                   v[1].lent, v[1].length, v[2].lent, v[2].length, v[3].lent, v[3].length, v[4].lent, v[4].length, v[5].lent,
                                    v[5].length, v[6].lent, v[6].length, v[7].lent, v[7].length, v[8].lent, v[8].length, p[TABLE].lent,
                                    p[TABLE].length, length);
 }
@@ -187,11 +187,11 @@ static uint64_t make(const struct call *call)
     case DAYS_BETWEEN:
         return hondivole_days_between(n[0], n[1], n[2], n[3], n[4], n[5], (int64_t *)results[0]);
     case MESSAGE_WRITE:
-        return write_message(results[0]);
+        return write_message(n[0], results[0]);
     case MESSAGE_READ:
-        return hondivole_message_read(input, input_len, table, table_len, results[0], results[1], results[2]);
+        return hondivole_message_read(n[0], input, input_len, table, table_len, results[0], results[1], results[2]);
     case MESSAGE_REWRITE:
-        return hondivole_message_rewrite(input, input_len, table, table_len, results[0]);
+        return hondivole_message_rewrite(n[0], input, input_len, table, table_len, results[0]);
     default:
         stop("a call came of no known function", "", "");
     }

@@ -3,14 +3,14 @@
 //! In bindings/rust, after `./library`: `cargo run --example message`
 
 use hondivole::{
-    MOST_OUTCOME_BYTES, MOST_VALUES_BYTES, MOST_WRITTEN_BYTES, MessageValues, Refusal, Table, read_message, write_message,
+    Edition, MOST_OUTCOME_BYTES, MOST_VALUES_BYTES, MOST_WRITTEN_BYTES, MessageValues, Refusal, Table, read_message, write_message,
 };
 
 fn main() -> Result<(), Refusal> {
     let flow = include_bytes!("../src/run.xml");
     let mut table = Table::open("01234", &[("000471", 4), ("471", 4)])?;
     let mut outcomes = [0; MOST_OUTCOME_BYTES];
-    let taken = table.flow(flow, &mut outcomes)?;
+    let taken = table.flow(Edition::Oil, flow, &mut outcomes)?;
     eprintln!("{} of {} orders accepted", taken.accepted(), taken.orders());
 
     let values = MessageValues {
@@ -25,11 +25,11 @@ fn main() -> Result<(), Refusal> {
         identificativo_flusso_bt: "BT-238444",
     };
     let mut buffer = [0; MOST_WRITTEN_BYTES];
-    let message = write_message(flow, &outcomes, &values, &mut buffer)?;
+    let message = write_message(Edition::Oil, flow, &outcomes, &values, &mut buffer)?;
     print!("{message}");
 
     let mut shown = [0; MOST_VALUES_BYTES];
-    for entry in read_message(message.as_bytes(), &mut shown)?.entries() {
+    for entry in read_message(Edition::Oil, message.as_bytes(), &mut shown)?.entries() {
         match entry.verdict {
             Ok(()) => eprintln!("{:?} {}: accepted", entry.kind, entry.number),
             Err(refusal) => eprintln!("{:?} {}: {refusal}", entry.kind, entry.number),

@@ -165,6 +165,7 @@ unsafe extern "C" {
     /// Each pointer is good for the length that follows it, the last for one number; `message` and `length` can be written, and neither
     /// overlaps with anything else.
     pub fn hondivole_message_write(
+        edition: u64,
         flow: *const u8,
         flow_len: usize,
         outcomes: *const u8,
@@ -199,6 +200,7 @@ unsafe extern "C" {
     /// Each pointer is good for its length, the last three for one number each; `values` and the numbers can be written, and no two of all
     /// these overlap.
     pub fn hondivole_message_read(
+        edition: u64,
         message: *const u8,
         message_len: usize,
         values: *mut u8,
@@ -214,6 +216,7 @@ unsafe extern "C" {
     ///
     /// Each pointer is good for its length, the last for one number; `again` and `length` can be written, and no two of them overlap.
     pub fn hondivole_message_rewrite(
+        edition: u64,
         message: *const u8,
         message_len: usize,
         again: *mut u8,

@@ -2,7 +2,7 @@
 
 use std::fmt;
 
-use crate::{Date, Kind, Operation, Refusal, Table, ffi};
+use crate::{Date, Edition, Kind, Operation, Refusal, Table, ffi};
 
 /// The most bytes of a message that is written: 64 refused reversali, every value as long as it may be.
 ///
@@ -190,7 +190,7 @@ fn is_time(text: &[u8]) -> Option<()> {
     (month > 0 && (1..=last).contains(&day) && in_the_day && zone).then_some(())
 }
 
-/// Writes the outcome message of a flow and its outcome bytes into the lent buffer; [`MOST_WRITTEN_BYTES`] are enough for any. The answer is
+/// Writes the outcome message of a flow of an edition and its outcome bytes into the lent buffer; it is the same from both editions; [`MOST_WRITTEN_BYTES`] are enough for any. The answer is
 /// the message, which is the buffer's beginning; bytes past it stay as they are. All reversali stand before all mandati.
 ///
 /// # Errors
@@ -199,12 +199,12 @@ fn is_time(text: &[u8]) -> Option<()> {
 /// changes then.
 ///
 /// ```
-/// use hondivole::{Given, MOST_WRITTEN_BYTES, MessageValues, Refusal, Table, write_message};
+/// use hondivole::{Edition, Given, MOST_WRITTEN_BYTES, MessageValues, Refusal, Table, write_message};
 ///
 /// # let flow = include_bytes!("run.xml").as_slice();
 /// let mut table = Table::open("01234", &[("000471", 4)])?;
 /// let mut outcomes = [0; 32];
-/// table.flow(flow, &mut outcomes)?;
+/// table.flow(Edition::Oil, flow, &mut outcomes)?;
 /// let values = MessageValues {
 ///     created: "2021-03-01T09:31:00+01:00",
 ///     outcome: "2021-03-01T09:30:30+01:00",
@@ -217,21 +217,28 @@ fn is_time(text: &[u8]) -> Option<()> {
 ///     identificativo_flusso_bt: "BT-238444",
 /// };
 /// let mut buffer = [0; MOST_WRITTEN_BYTES];
-/// let message = write_message(flow, &outcomes, &values, &mut buffer)?;
+/// let message = write_message(Edition::Oil, flow, &outcomes, &values, &mut buffer)?;
 /// assert!(message.starts_with("<messaggi_esito_applicativo><testata_messaggio><codice_ABI_BT>01234</codice_ABI_BT>"));
 ///
-/// let refusal = write_message(flow, &outcomes, &MessageValues { codice_ente: "", ..values }, &mut buffer).unwrap_err();
+/// let refusal = write_message(Edition::Oil, flow, &outcomes, &MessageValues { codice_ente: "", ..values }, &mut buffer).unwrap_err();
 /// assert_eq!(refusal, Refusal::ValuesWrong { given: Some(Given::CodiceEnte) });
 /// assert_eq!((refusal.code(), refusal.to_string().as_str()), (41, "codice_ente hasn't 1 to 140 bytes of text"));
 /// # Ok::<(), Refusal>(())
 /// ```
-pub fn write_message<'b>(flow: &[u8], outcomes: &[u8], values: &MessageValues, buffer: &'b mut [u8]) -> Result<&'b str, Refusal> {
+pub fn write_message<'b>(
+    edition: Edition,
+    flow: &[u8],
+    outcomes: &[u8],
+    values: &MessageValues,
+    buffer: &'b mut [u8],
+) -> Result<&'b str, Refusal> {
     let [created, outcome, ente, descrizione, istat, fiscale, tramite_ente, tramite_bt, flusso_bt] =
         values.all().map(|given| given.1);
     let mut length = 0;
     // SAFETY: the pointers and lengths are those of slices, of which the buffer alone is written, and of a number that lives here.
     let code = unsafe {
         ffi::hondivole_message_write(
+            edition as u64,
             flow.as_ptr(),
             flow.len(),
             outcomes.as_ptr(),
@@ -260,16 +267,16 @@ pub fn write_message<'b>(flow: &[u8], outcomes: &[u8], values: &MessageValues, b
         )
     };
     match code {
-        5 => Err(where_it_breaks(flow)),
+        5 => Err(where_it_breaks(edition, flow)),
         41 => Err(Refusal::ValuesWrong { given: Some(values.misformed().unwrap_or(Given::Outcomes)) }),
         _ => Refusal::answer(code, 0, 0).map(|()| written(buffer, length)),
     }
 }
 
 /// The field that a flow is refused for with code 5. The writer tells neither its place nor its cause; a table does, any table.
-fn where_it_breaks(flow: &[u8]) -> Refusal {
+fn where_it_breaks(edition: Edition, flow: &[u8]) -> Refusal {
     let mut table = Table::open("00000", &[("0", 1)]).expect("a table of one body and one slot is opened");
-    table.flow(flow, &mut []).expect_err("a flow that the writer refuses with 5 is refused by every table")
+    table.flow(edition, flow, &mut []).expect_err("a flow that the writer refuses with 5 is refused by every table")
 }
 
 fn written(buffer: &[u8], length: u64) -> &str {
@@ -285,28 +292,36 @@ fn written(buffer: &[u8], length: u64) -> &str {
 /// The refusals of codes 2 to 5, which [`Refusal::of_message`] tells in words, and [`Refusal::BufferTooShort`]. No byte changes then.
 ///
 /// ```
-/// use hondivole::{MOST_WRITTEN_BYTES, Refusal, rewrite_message};
+/// use hondivole::{Edition, MOST_WRITTEN_BYTES, Refusal, rewrite_message};
 ///
 /// let message = include_str!("message.xml");
 /// let mut buffer = [0; MOST_WRITTEN_BYTES];
 /// let wider = message.replace("><", ">\n<");
-/// assert_eq!(rewrite_message(wider.as_bytes(), &mut buffer)?, message);
+/// assert_eq!(rewrite_message(Edition::Oil, wider.as_bytes(), &mut buffer)?, message);
 /// # Ok::<(), Refusal>(())
 /// ```
-pub fn rewrite_message<'b>(message: &[u8], buffer: &'b mut [u8]) -> Result<&'b str, Refusal> {
+pub fn rewrite_message<'b>(edition: Edition, message: &[u8], buffer: &'b mut [u8]) -> Result<&'b str, Refusal> {
     let mut length = 0;
     // SAFETY: the pointers and lengths are those of slices that don't overlap and of a number that lives here.
-    let code =
-        unsafe { ffi::hondivole_message_rewrite(message.as_ptr(), message.len(), buffer.as_mut_ptr(), buffer.len(), &mut length) };
+    let code = unsafe {
+        ffi::hondivole_message_rewrite(
+            edition as u64,
+            message.as_ptr(),
+            message.len(),
+            buffer.as_mut_ptr(),
+            buffer.len(),
+            &mut length,
+        )
+    };
     if code == 5 {
         // Reading tells the place and the cause too.
-        return Err(read_message(message, &mut []).expect_err("a message that isn't rewritten for a field can't be read"));
+        return Err(read_message(edition, message, &mut []).expect_err("a message that isn't rewritten for a field can't be read"));
     }
     Refusal::answer(code, 0, 0)?;
     Ok(written(buffer, length))
 }
 
-/// Reads a message. Its texts are shown as parts of the message, not as copies; what its entries say is written into the lent values, for
+/// Reads a message of an edition; in edition 2 an Id may stand on its root, which is not shown. Its texts are shown as parts of the message, not as copies; what its entries say is written into the lent values, for
 /// which [`MOST_VALUES_BYTES`] are always enough. Bytes past what is needed stay as they are.
 ///
 /// # Errors
@@ -314,21 +329,22 @@ pub fn rewrite_message<'b>(message: &[u8], buffer: &'b mut [u8]) -> Result<&'b s
 /// The refusals of codes 2 to 5, which [`Refusal::of_message`] tells in words, and [`Refusal::BufferTooShort`]. No byte changes then.
 ///
 /// ```
-/// use hondivole::{Kind, MOST_VALUES_BYTES, Refusal, read_message};
+/// use hondivole::{Edition, Kind, MOST_VALUES_BYTES, Refusal, read_message};
 ///
 /// let bytes = include_bytes!("message.xml");
 /// let mut values = [0; MOST_VALUES_BYTES];
-/// let message = read_message(bytes, &mut values)?;
+/// let message = read_message(Edition::Oil, bytes, &mut values)?;
 /// assert_eq!((message.codice_ente_bt, message.codice_istat_ente), ("000471", None));
 /// let refused: Vec<_> = message.entries().filter(|entry| entry.verdict.is_err()).collect();
 /// assert_eq!((refused.len(), refused[0].kind, refused[0].number), (1, Kind::Reversale, 12));
 /// # Ok::<(), Refusal>(())
 /// ```
-pub fn read_message<'m, 'v>(message: &'m [u8], values: &'v mut [u8]) -> Result<Message<'m, 'v>, Refusal> {
+pub fn read_message<'m, 'v>(edition: Edition, message: &'m [u8], values: &'v mut [u8]) -> Result<Message<'m, 'v>, Refusal> {
     let (mut entries, mut place, mut cause) = (0, 0, 0);
     // SAFETY: the pointers and lengths are those of slices that don't overlap and of numbers that live here.
     let code = unsafe {
         ffi::hondivole_message_read(
+            edition as u64,
             message.as_ptr(),
             message.len(),
             values.as_mut_ptr(),
@@ -368,11 +384,11 @@ fn part<'m>(message: &'m [u8], pair: &[u8; 8]) -> &'m str {
 /// A message that was read: its header, and its entries.
 ///
 /// ```
-/// use hondivole::{Refusal, read_message};
+/// use hondivole::{Edition, Refusal, read_message};
 ///
 /// let bytes = include_bytes!("message.xml");
 /// let mut values = [0; 80 + 2 * 48];
-/// let message = read_message(bytes, &mut values)?;
+/// let message = read_message(Edition::Oil, bytes, &mut values)?;
 /// assert_eq!(message.created, "2021-03-01T09:31:00+01:00");
 /// assert_eq!(message.entries().len(), 2);
 /// # Ok::<(), Refusal>(())
@@ -406,11 +422,11 @@ pub struct Message<'m, 'v> {
 /// What a message says of one order.
 ///
 /// ```
-/// use hondivole::{Date, Operation, Refusal, read_message};
+/// use hondivole::{Date, Edition, Operation, Refusal, read_message};
 ///
 /// let bytes = include_bytes!("message.xml");
 /// let mut values = [0; 80 + 2 * 48];
-/// let message = read_message(bytes, &mut values)?;
+/// let message = read_message(Edition::Oil, bytes, &mut values)?;
 /// let entry = message.entries().next().unwrap();
 /// assert_eq!((entry.operation, entry.verdict), (Operation::Inserimento, Err(Refusal::LinesDontSum)));
 /// assert_eq!((entry.esercizio, entry.total), (2021, 2_000));
@@ -443,10 +459,10 @@ impl<'m, 'v> Message<'m, 'v> {
     /// The entries, in the message's order: reversali, then mandati.
     ///
     /// ```
-    /// # use hondivole::{Kind, Refusal, read_message};
+    /// # use hondivole::{Edition, Kind, Refusal, read_message};
     /// let bytes = include_bytes!("message.xml");
     /// let mut values = [0; 80 + 2 * 48];
-    /// let kinds: Vec<_> = read_message(bytes, &mut values)?.entries().map(|entry| entry.kind).collect();
+    /// let kinds: Vec<_> = read_message(Edition::Oil, bytes, &mut values)?.entries().map(|entry| entry.kind).collect();
     /// assert_eq!(kinds, [Kind::Reversale, Kind::Mandato]);
     /// # Ok::<(), Refusal>(())
     /// ```

@@ -1,7 +1,7 @@
 //! Outcome messages through the safe types: written, read, written again, and a refusal of each kind.
 
 use hondivole::{
-    Cause, Date, Entry, Given, Kind, MOST_VALUES_BYTES, MOST_WRITTEN_BYTES, MessageValues, Operation, Refusal, Table, read_message,
+    Cause, Date, Edition, Entry, Given, Kind, MOST_VALUES_BYTES, MOST_WRITTEN_BYTES, MessageValues, Operation, Refusal, Table, read_message,
     rewrite_message, write_message,
 };
 
@@ -22,17 +22,17 @@ const VALUES: MessageValues = MessageValues {
 
 fn outcomes() -> [u8; 32] {
     let mut outcomes = [0; 32];
-    Table::open("01234", &[("000471", 4)]).unwrap().flow(RUN, &mut outcomes).unwrap();
+    Table::open("01234", &[("000471", 4)]).unwrap().flow(Edition::Oil, RUN, &mut outcomes).unwrap();
     outcomes
 }
 
 #[test]
 fn written_and_read() {
     let mut buffer = [7; MOST_WRITTEN_BYTES];
-    assert_eq!(write_message(RUN, &outcomes(), &VALUES, &mut buffer), Ok(MESSAGE));
+    assert_eq!(write_message(Edition::Oil, RUN, &outcomes(), &VALUES, &mut buffer), Ok(MESSAGE));
     assert!(buffer[MESSAGE.len()..].iter().all(|&byte| byte == 7));
     let mut values = [7; MOST_VALUES_BYTES];
-    let message = read_message(MESSAGE.as_bytes(), &mut values).unwrap();
+    let message = read_message(Edition::Oil, MESSAGE.as_bytes(), &mut values).unwrap();
     assert_eq!((message.codice_abi_bt, message.codice_ente_bt), ("01234", "000471"));
     assert_eq!(
         (message.created, message.codice_ente, message.descrizione_ente),
@@ -61,35 +61,35 @@ fn written_and_read() {
 fn an_istat_code() {
     let mut buffer = [0; MOST_WRITTEN_BYTES];
     let values = MessageValues { codice_istat_ente: "000123456", ..VALUES };
-    let message = write_message(RUN, &outcomes(), &values, &mut buffer).unwrap();
+    let message = write_message(Edition::Oil, RUN, &outcomes(), &values, &mut buffer).unwrap();
     let mut read = [0; MOST_VALUES_BYTES];
-    assert_eq!(read_message(message.as_bytes(), &mut read).unwrap().codice_istat_ente, Some("000123456"));
+    assert_eq!(read_message(Edition::Oil, message.as_bytes(), &mut read).unwrap().codice_istat_ente, Some("000123456"));
 }
 
 #[test]
 fn written_again() {
     let mut buffer = [0; MOST_WRITTEN_BYTES];
-    assert_eq!(rewrite_message(MESSAGE.as_bytes(), &mut buffer), Ok(MESSAGE));
+    assert_eq!(rewrite_message(Edition::Oil, MESSAGE.as_bytes(), &mut buffer), Ok(MESSAGE));
     let wider = format!(
         "\u{FEFF}{}\n",
         MESSAGE.replace("><", "> <").replace("<numero_mandato>12", "<causale>x</causale><numero_mandato>0012")
     );
-    assert_eq!(rewrite_message(wider.as_bytes(), &mut buffer), Ok(MESSAGE));
+    assert_eq!(rewrite_message(Edition::Oil, wider.as_bytes(), &mut buffer), Ok(MESSAGE));
     let mut short = vec![7; MESSAGE.len() - 1];
-    assert_eq!(rewrite_message(wider.as_bytes(), &mut short), Err(Refusal::BufferTooShort));
+    assert_eq!(rewrite_message(Edition::Oil, wider.as_bytes(), &mut short), Err(Refusal::BufferTooShort));
     assert!(short.iter().all(|&byte| byte == 7));
 }
 
 #[test]
 fn refused_flows_and_buffers() {
     let mut short = vec![7; MESSAGE.len() - 1];
-    assert_eq!(write_message(RUN, &outcomes(), &VALUES, &mut short), Err(Refusal::BufferTooShort));
-    assert_eq!(write_message(&[b' '; 32_769], &outcomes(), &VALUES, &mut short), Err(Refusal::FlowTooLong));
-    assert_eq!(write_message(b"", &outcomes(), &VALUES, &mut short), Err(Refusal::MarkupBreaks));
-    assert_eq!(write_message(b"<a></a>", &outcomes(), &VALUES, &mut short), Err(Refusal::StructureBreaks));
+    assert_eq!(write_message(Edition::Oil, RUN, &outcomes(), &VALUES, &mut short), Err(Refusal::BufferTooShort));
+    assert_eq!(write_message(Edition::Oil, &[b' '; 32_769], &outcomes(), &VALUES, &mut short), Err(Refusal::FlowTooLong));
+    assert_eq!(write_message(Edition::Oil, b"", &outcomes(), &VALUES, &mut short), Err(Refusal::MarkupBreaks));
+    assert_eq!(write_message(Edition::Oil, b"<a></a>", &outcomes(), &VALUES, &mut short), Err(Refusal::StructureBreaks));
     let broken = String::from_utf8_lossy(RUN).replace("2021-03-01<", "2021-02-29<");
     let place = broken.find("<data_mandato").unwrap();
-    let refusal = write_message(broken.as_bytes(), &outcomes(), &VALUES, &mut short).unwrap_err();
+    let refusal = write_message(Edition::Oil, broken.as_bytes(), &outcomes(), &VALUES, &mut short).unwrap_err();
     assert_eq!(refusal, Refusal::FieldBreaks { place, cause: Cause::OutOfRange });
     assert!(short.iter().all(|&byte| byte == 7));
 }
@@ -98,11 +98,11 @@ fn refused_flows_and_buffers() {
 fn outcomes_that_are_not_this_flows() {
     let refusal = Refusal::ValuesWrong { given: Some(Given::Outcomes) };
     let mut buffer = [0; MOST_WRITTEN_BYTES];
-    assert_eq!(write_message(RUN, &outcomes()[..31], &VALUES, &mut buffer), Err(refusal));
+    assert_eq!(write_message(Edition::Oil, RUN, &outcomes()[..31], &VALUES, &mut buffer), Err(refusal));
     for at in 0..32 {
         let mut other = outcomes();
         other[at] ^= 0x40;
-        assert_eq!(write_message(RUN, &other, &VALUES, &mut buffer), Err(refusal), "byte {at}");
+        assert_eq!(write_message(Edition::Oil, RUN, &other, &VALUES, &mut buffer), Err(refusal), "byte {at}");
     }
     assert_eq!(refusal.to_string(), "the outcome bytes aren't this flow's");
 }
@@ -161,7 +161,7 @@ fn which_value_is_wrong() {
     let mut tried = [0; 2];
     for (given, change) in CHANGES {
         for text in &texts {
-            let answer = write_message(RUN, &outcomes(), &change(VALUES, text), &mut buffer);
+            let answer = write_message(Edition::Oil, RUN, &outcomes(), &change(VALUES, text), &mut buffer);
             let stands = answer.is_ok();
             tried[usize::from(stands)] += 1;
             assert_eq!(change(VALUES, text).misformed().is_none(), stands, "{given:?} {text:?}");
@@ -201,13 +201,13 @@ fn messages_that_cant_be_read() {
     ];
     for (message, refusal, words) in cases {
         let mut values = [7; MOST_VALUES_BYTES];
-        assert_eq!(read_message(message.as_bytes(), &mut values), Err(refusal));
-        assert_eq!(rewrite_message(message.as_bytes(), &mut values), Err(refusal));
+        assert_eq!(read_message(Edition::Oil, message.as_bytes(), &mut values), Err(refusal));
+        assert_eq!(rewrite_message(Edition::Oil, message.as_bytes(), &mut values), Err(refusal));
         assert_eq!(refusal.of_message(message.as_bytes()).to_string(), words);
         assert_eq!(values, [7; MOST_VALUES_BYTES]);
     }
     let mut short = [7; 175];
-    assert_eq!(read_message(MESSAGE.as_bytes(), &mut short), Err(Refusal::BufferTooShort));
+    assert_eq!(read_message(Edition::Oil, MESSAGE.as_bytes(), &mut short), Err(Refusal::BufferTooShort));
     assert_eq!(short, [7; 175]);
     assert_eq!(Refusal::BufferTooShort.to_string(), "the buffer is shorter than the message or its values");
 }

@@ -223,6 +223,7 @@ impl Engine for Library {
         // SAFETY: the pointers and lengths are those of slices and of a number that don't overlap.
         unsafe {
             hondivole::ffi::hondivole_message_write(
+                1,
                 flow.as_ptr(),
                 flow.len(),
                 outcomes.as_ptr(),
@@ -256,6 +257,7 @@ impl Engine for Library {
         // SAFETY: the pointers and lengths are those of slices and numbers that don't overlap.
         unsafe {
             hondivole::ffi::hondivole_message_read(
+                1,
                 message.as_ptr(),
                 message.len(),
                 values.as_mut_ptr(),
@@ -270,7 +272,7 @@ impl Engine for Library {
     fn message_rewrite(&self, message: &[u8], again: &mut [u8], length: &mut u64) -> u64 {
         // SAFETY: the pointers and lengths are those of slices and of a number that don't overlap.
         unsafe {
-            hondivole::ffi::hondivole_message_rewrite(message.as_ptr(), message.len(), again.as_mut_ptr(), again.len(), length)
+            hondivole::ffi::hondivole_message_rewrite(1, message.as_ptr(), message.len(), again.as_mut_ptr(), again.len(), length)
         }
     }
     fn journal(&self, table: &[u8], body: &[u8], movements: &[u8]) -> u64 {

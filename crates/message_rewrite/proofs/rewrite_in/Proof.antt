@@ -31,7 +31,7 @@ same-length : tie.Need-same-length
 same-length c = search needs
 
 returns-2 : tie.Need-returns-2
-returns-2 c = ready-done (c .before .before .before .before .before .before .before .before .before .before .before .before .args .ed) (c .before .before .before .before .before .before .before .before .before .before .before .before .args .s .now) (c .before .before .before .before .before .before .before .before .read-in .last .1 .0) (c .before .before .before .before .before .before .before .before .before .before .before .before .args .b .now) (c .before .before .counted .last .0) (c .before .before .before .before .before .before .before .before .read-in .result .entries) (c .before .before .counted .result) (read-done (c .before .before .before .before .before .before .before .before .before .before .before .before .args .ed) (c .before .before .before .before .before .before .before .before .before .before .before .before .args .s .now) (c .before .before .before .before .before .before .before .before .read-in .ensures) (let g = c .before .before .before .before .before .before .before .values2 .given in omega arith) (c .before .before .before .before .before .if1 .left)) (c .before .before .counted .ensures)
+returns-2 c = ready-done (c .before .before .before .before .before .before .before .before .before .before .before .before .args .ed) (c .before .before .before .before .before .before .before .before .before .before .before .before .args .s .now) (c .before .before .before .before .before .before .before .before .read-in .last .1 .1 .0) (c .before .before .before .before .before .before .before .before .before .before .before .before .args .b .now) (c .before .before .counted .last .0) (c .before .before .before .before .before .before .before .before .read-in .result .entries) (c .before .before .counted .result) (read-done (c .before .before .before .before .before .before .before .before .before .before .before .before .args .ed) (c .before .before .before .before .before .before .before .before .before .before .before .before .args .s .now) (c .before .before .before .before .before .before .before .before .read-in .ensures) (let g = c .before .before .before .before .before .before .before .values2 .given in omega arith) (c .before .before .before .before .before .if1 .left)) (c .before .before .counted .ensures)
 
 pub rewrite-in-spec : {M : Type 1} → statement M
 rewrite-in-spec =
