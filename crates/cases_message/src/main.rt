@@ -36,11 +36,11 @@ fn text(s: &[u8], a: usize, e: usize, k: usize) -> &[u8]
 // What was written, read back and written again.
 fn say_again(m: &[u8]) {
     let mut values = [0u8; 3152];
-    let r = message_read::read_message(m, &mut values);
+    let r = message_read::read_message(1, m, &mut values);
     say_next(r.code);
     say_next(r.entries);
     let mut again = [0u8; 65536];
-    let w = message_rewrite::rewrite_message(m, &mut again);
+    let w = message_rewrite::rewrite_message(1, m, &mut again);
     say_next(w.code);
     say_next(w.length);
     if scan::same(m, first(&again, w.length)) {
@@ -66,6 +66,7 @@ fn say_case(flow: &[u8], s: &[u8], a: usize, e: usize, m: &mut [u8])
     let mut out = [0u8; 2048];
     let n = casebook::bytes(s, a, e, 2, &mut out);
     let answer = message_write::write_message(
+        1,
         flow,
         &out[..n],
         text(s, a, e, 3),

@@ -8,6 +8,7 @@ use Rattle.ranges.specs.Ranges.{isIdentifying}
 use Rattle.tokens.specs.Tokens.{isPlain}
 use Rattle.calendar.specs.Calendar.{leap, monthLength, isDate}
 use Rattle.codes.specs.declared.Operation.the-variants.{Inserimento}
+use Rattle.editions.specs.declared.Edition.{Edition}
 use Rattle.codes.specs.Codes.{codiceAbi, identificativo, codiceEnte, lengthIn}
 use Rattle.digits.specs.Digits.{digitsAfter, digits}
 use Rattle.dates.specs.Dates.{dataOf, clock, signs, dataOraWritten, dataOraWithin, dataOra, zoneSigns, zonaBy, dataOraZona}
@@ -83,5 +84,5 @@ run-ok = record {
   count = refl;
 }
 
-pub run-read : MessageOf (messageBytes run) (read run)
-run-read = read-written run run-ok
+pub run-read : (e : Edition) → MessageOf e (messageBytes run) (read run)
+run-read e = read-written e run run-ok

@@ -24,7 +24,9 @@ use Rattle.rows.specs.declared.Parent.the-variants.{MessaggiEsito, EsitoReversa
 use Rattle.rows.specs.declared.Holds.the-variants.{Rows}
 use Rattle.fields.specs.declared.Cause.{Cause}
 use Rattle.standing.specs.Readings.{Bad, Place, Nowhere, firstBad}
-use Rattle.tree.specs.Tree.{Tree, Trees, nameOf, heldOf, kidsIn, Reads}
+use Rattle.editions.specs.declared.Edition.{Edition}
+use Rattle.flow.specs.Flow.{idAllowed}
+use Rattle.tree.specs.Tree.{Tree, Trees, nameOf, heldOf, kidsIn, ReadsAs}
 use Rattle.tree.specs.Structure.{named, heldFits}
 use Rattle.tree.specs.Fields.{AllStand}
 use Rattle.tree.specs.Orders.{childrenNamed, Words, mandatoWords, reversaleWords, textNamed}
@@ -97,15 +99,15 @@ standing t m e =
     go false n b x c y f z d v h = no-reading h
 
 -- ANY BYTES have one reading
-pub reading-some : (s : List ℕ) → (r : MessageReading) × MessageOf s r
-reading-some s = go (leb (length s) 65536) refl (markupOf false s) refl
+pub reading-some : (x : Edition) (s : List ℕ) → (r : MessageReading) × MessageOf x s r
+reading-some x s = go (leb (length s) 65536) refl (markupOf (idAllowed x) s) refl
   where
-    go : (b : Bool) → leb (length s) 65536 ≡ b → (w : Markup) → markupOf false s ≡ w → (r : MessageReading) × MessageOf s r
+    go : (b : Bool) → leb (length s) 65536 ≡ b → (w : Markup) → markupOf (idAllowed x) s ≡ w → (r : MessageReading) × MessageOf x s r
     go false l w e = (refused 2 0 0, too-long (let h = leb-false (length s) 65536 l in omega arith))
     go true l (Root lt e at) h = let t = reads-some s lt e at h in (readingOn (t .0), on-tree (leb-true (length s) 65536 l) (t .1) refl)
     go true l (Breaks p) h = (refused 3 0 0, no-tree (leb-true (length s) 65536 l) (λ t d. let m = flow-complete s (d .0) in let y : _≡_ {A = ℕ} 0 1 = cc in omega arith))
 
-pub reading-one : (s : List ℕ) (r q : MessageReading) → MessageOf s r → MessageOf s q → r ≡ q
+pub reading-one : {x : Edition} (s : List ℕ) (r q : MessageReading) → MessageOf x s r → MessageOf x s q → r ≡ q
 reading-one s r q (too-long l) (too-long k) = refl
 reading-one s r q (too-long l) (no-tree k f) = absurd (omega arith)
 reading-one s r q (too-long l) (on-tree k d e) = absurd (omega arith)
@@ -116,8 +118,8 @@ reading-one s r q (on-tree l d e) (too-long k) = absurd (omega arith)
 reading-one s r q (on-tree {t = t} l d e) (no-tree k g) = absurd (g t d)
 reading-one s r q (on-tree {t = t} l d e) (on-tree {t = u} k f g) = let z = reads-one s t u d f in cc
 
-pub one-reading : (s : List ℕ) → OneReading s
-one-reading s = let a = reading-some s in record { reading = a .0; said = a .1; alone = λ r m. reading-one s r (a .0) m (a .1) }
+pub one-reading : (x : Edition) (s : List ℕ) → OneReading x s
+one-reading x s = let a = reading-some x s in record { reading = a .0; said = a .1; alone = λ r m. reading-one s r (a .0) m (a .1) }
 
 -- WRITTEN
 written-stands : (m : Message) → MessageOk m → Stands (messageTree m)
@@ -144,33 +146,33 @@ placed-value : (m : Message) → MessageOk m → messageIn (kidsIn (heldOf (plac
 unfolding placed placedHeld
 placed-value m k = message-placed (0 + length (startTag (bytes "messaggi_esito_applicativo"))) (rootOut m) ∙ message-value m k
 
-pub read-written : (m : Message) → MessageOk m → MessageOf (messageBytes m) (read m)
-read-written m k =
+pub read-written : (x : Edition) (m : Message) → MessageOk m → MessageOf x (messageBytes m) (read m)
+read-written x m k =
     let t = messageTree m in
     let l = message-short m k in
-    on-tree (omega arith) (read-back t (message-good m k)) (stands-read (placed 0 t) (placed-stands m (written-stands m k)) ∙ ap read (placed-value m k))
+    on-tree (omega arith) (read-back (idAllowed x) t (message-good m k)) (stands-read (placed 0 t) (placed-stands m (written-stands m k)) ∙ ap read (placed-value m k))
 
 -- READ
-sound-of : (s : List ℕ) (t : Tree) (m : Message) → Reads s t → Standing t m → Sound 11 3 MessaggiEsito (kidsIn (heldOf t))
+sound-of : {ids : Bool} (s : List ℕ) (t : Tree) (m : Message) → ReadsAs ids s t → Standing t m → Sound 11 3 MessaggiEsito (kidsIn (heldOf t))
 sound-of s t m r w =
     let g : Good 12 t = rw (r .1) at (flow-good (r .0)) in
     record { right = right-root MessaggiEsito 3 (omega arith) "messaggi_esito_applicativo" t (w .structured) (w .fields); goods = good-kids g }
 
-tree-ok : (s : List ℕ) (t : Tree) (m : Message) → Reads s t → readingOn t ≡ read m → MessageOk m
+tree-ok : {ids : Bool} (s : List ℕ) (t : Tree) (m : Message) → ReadsAs ids s t → readingOn t ≡ read m → MessageOk m
 tree-ok s t m r e =
     let w = standing t m e in
     rw (← w .values) (values-ok (kidsIn (heldOf t)) (sound-of s t m r w) (w .count))
 
-ok-by : (s : List ℕ) (m : Message) (r : MessageReading) → MessageOf s r → r ≡ read m → MessageOk m
+ok-by : {x : Edition} (s : List ℕ) (m : Message) (r : MessageReading) → MessageOf x s r → r ≡ read m → MessageOk m
 ok-by s m r (too-long l) e = no-reading e
 ok-by s m r (no-tree l f) e = no-reading e
 ok-by s m r (on-tree {t = t} l d g) e = tree-ok s t m d (g ∙ e)
 
-pub read-ok : (s : List ℕ) (m : Message) → MessageOf s (read m) → MessageOk m
-read-ok s m x = ok-by s m (read m) x refl
+pub read-ok : {x : Edition} (s : List ℕ) (m : Message) → MessageOf x s (read m) → MessageOk m
+read-ok s m y = ok-by s m (read m) y refl
 
-pub same-meaning : (s : List ℕ) (m : Message) → MessageOf s (read m) → MessageOf (messageBytes m) (read m)
-same-meaning s m x = read-written m (read-ok s m x)
+pub same-meaning : (x y : Edition) (s : List ℕ) (m : Message) → MessageOf x s (read m) → MessageOf y (messageBytes m) (read m)
+same-meaning x y s m r = read-written y m (read-ok s m r)
 
 -- AND THE WORDS ARE KEPT
 said-by : (w : Words) {p q : Parent} → Spelt p q w → {e : ℕ} (s : Esito) (l : List Tree) → Every (λ (t : Tree). Sound (suc e) 1 q (kidsIn (heldOf t))) l → agrees s (eachOf (errorOk w) l) ≡ true
@@ -192,7 +194,7 @@ each-said w sp (t ∷ l) (every-next c k) a =
     let b = both (entryOk w ts) (allOk (eachOf (entryOk w) l)) a in
     every-next (record { word = said-by w sp (esitoOperazione (textNamed "esito_operazione" ts)) (childrenNamed ("lista_errori" ∷ []) ts) (rows-sound c (sp .errors)) (b .0) }) (each-said w sp l k (b .1))
 
-pub words-kept : (s : List ℕ) (t : Tree) (m : Message) → Reads s t → readingOn t ≡ read m
+pub words-kept : {ids : Bool} (s : List ℕ) (t : Tree) (m : Message) → ReadsAs ids s t → readingOn t ≡ read m
     → Every (WordSaid reversaleWords) (childrenNamed ("esito_reversali" ∷ []) (kidsIn (heldOf t))) × Every (WordSaid mandatoWords) (childrenNamed ("esito_mandati" ∷ []) (kidsIn (heldOf t)))
 unfolding textIs hasAt startsWith
 words-kept s t m r e =

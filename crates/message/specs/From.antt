@@ -14,8 +14,8 @@ use Rattle.fields.specs.declared.Form.the-variants.{DataOraZona, Testo}
 use Rattle.record.specs.Slot.{mandatoKind, reversaleKind}
 use Rattle.order.specs.Ordinativo.{Ordinativo}
 use Rattle.orders.specs.Orders.{textIn}
-use Rattle.editions.specs.declared.Edition.the-variants.{Oil}
-use Rattle.header.specs.Header.{Header}
+use Rattle.editions.specs.declared.Edition.{Edition}
+use Rattle.header.specs.Header.{Header, testataOf}
 use Rattle.flow.specs.Flow.{namedIn, headerOf, flowOrders}
 use Rattle.message.specs.Message.{Entry, Message, TextOk, isOutcome}
 
@@ -92,9 +92,9 @@ messageFrom h flow qs o c = record {
   mandati = entriesFrom mandatoKind flow (h .esercizio) (c .outcome) qs o;
 }
 
--- of a flow that stands, its root's content beginning at `at`: identificativo_flusso is row 1 of its table
-abbrev pub identificativoOf : List ℕ → ℕ → List ℕ
-identificativoOf s at = textIn 1 s (namedIn Oil s at)
+-- of a flow of an edition that stands, its root's content beginning at `at`: identificativo_flusso is row 1 of the table that has codice_ABI_BT
+abbrev pub identificativoOf : Edition → List ℕ → ℕ → List ℕ
+identificativoOf e s at = textIn 1 s (testataOf e s (namedIn e s at))
 
-abbrev pub flowMessage : List ℕ → ℕ → List ℕ → Caller → Message
-flowMessage s at o c = messageFrom (headerOf Oil s at) (identificativoOf s at) (flowOrders Oil s at) o c
+abbrev pub flowMessage : Edition → List ℕ → ℕ → List ℕ → Caller → Message
+flowMessage e s at o c = messageFrom (headerOf e s at) (identificativoOf e s at) (flowOrders e s at) o c

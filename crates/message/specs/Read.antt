@@ -21,7 +21,9 @@ use Rattle.orders.specs.Orders.{valueOf, dateOf}
 use Rattle.rows.specs.declared.Parent.the-variants.{MessaggiEsito}
 use Rattle.rows.specs.declared.Holds.the-variants.{Rows}
 use Rattle.standing.specs.Readings.{Bad, Place, Nowhere, firstBad}
-use Rattle.tree.specs.Tree.{Tree, Trees, none, ltOf, nameOf, heldOf, kidsIn, Reads}
+use Rattle.editions.specs.declared.Edition.{Edition}
+use Rattle.flow.specs.Flow.{idAllowed}
+use Rattle.tree.specs.Tree.{Tree, Trees, none, ltOf, nameOf, heldOf, kidsIn, ReadsAs}
 use Rattle.tree.specs.Structure.{named, heldFits}
 use Rattle.tree.specs.Orders.{childrenNamed, textNamed, Words, mandatoWords, reversaleWords}
 use Rattle.tree.specs.Flow.{fieldsOf}
@@ -169,7 +171,8 @@ readingOn t = cond (isMessage t) (byPlace (messageIn (kidsIn (heldOf t))) (first
 abbrev pub maxMessage : ℕ
 maxMessage = 65536
 
-pub data MessageOf (s : List ℕ) : MessageReading → Type 0 where
-  too-long : maxMessage < length s → MessageOf s (refused 2 0 0)
-  no-tree : length s ≤ maxMessage → ((t : Tree) → Reads s t → ⊥) → MessageOf s (refused 3 0 0)
-  on-tree : {t : Tree} {r : MessageReading} → length s ≤ maxMessage → Reads s t → readingOn t ≡ r → MessageOf s r
+-- Req 05: "The caller names the edition, for outcome messages too": edition 2 allows an Id on the root, and no value of the message is in it
+pub data MessageOf (e : Edition) (s : List ℕ) : MessageReading → Type 0 where
+  too-long : maxMessage < length s → MessageOf e s (refused 2 0 0)
+  no-tree : length s ≤ maxMessage → ((t : Tree) → ReadsAs (idAllowed e) s t → ⊥) → MessageOf e s (refused 3 0 0)
+  on-tree : {t : Tree} {r : MessageReading} → length s ≤ maxMessage → ReadsAs (idAllowed e) s t → readingOn t ≡ r → MessageOf e s r

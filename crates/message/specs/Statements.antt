@@ -5,16 +5,17 @@ use mathlib.Core.Bool.{cond}
 use Prim.Native.Nat.{ℕ}
 use Rattle.codes.specs.declared.Esito.the-variants.{Accepted, Refused}
 use Rattle.codes.specs.Codes.{esitoOperazione}
+use Rattle.editions.specs.declared.Edition.{Edition}
 use Rattle.tree.specs.Tree.{Tree, heldOf, kidsIn}
 use Rattle.tree.specs.Orders.{textNamed, Words}
 use Rattle.message.specs.Message.{isAccepted}
 use Rattle.message.specs.Read.{entryIn, MessageReading, MessageOf}
 
 -- any bytes have exactly one reading
-pub record OneReading (s : List ℕ) : Type 0 where
+pub record OneReading (e : Edition) (s : List ℕ) : Type 0 where
   pub reading : MessageReading
-  pub said : MessageOf s reading
-  pub alone : (r : MessageReading) → MessageOf s r → r ≡ reading
+  pub said : MessageOf e s reading
+  pub alone : (r : MessageReading) → MessageOf e s r → r ≡ reading
 
 -- the word of an entry that is read says its operation, and that it was accepted exactly where its code is 0
 pub record WordSaid (w : Words) (t : Tree) : Type 0 where

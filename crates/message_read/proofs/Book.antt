@@ -29,7 +29,9 @@ use Rattle.structure.specs.Structure.{fitsAt}
 use Rattle.standing.specs.Readings.{Bad, Place, Nowhere, fieldsAt, firstBad}
 use Rattle.standing.specs.Standing.{standingBy, standingAt}
 use Rattle.orders.specs.Orders.{inRow}
-use Rattle.tree.specs.Tree.{Tree, Trees, ltOf, nameOf, heldOf, kidsIn, Reads}
+use Rattle.editions.specs.declared.Edition.{Edition}
+use Rattle.flow.specs.Flow.{idAllowed}
+use Rattle.tree.specs.Tree.{Tree, Trees, ltOf, nameOf, heldOf, kidsIn, ReadsAs}
 use Rattle.tree.specs.Structure.{named, heldFits}
 use Rattle.tree.specs.Orders.{childrenNamed, mandatoWords, reversaleWords}
 use Rattle.tree.specs.Flow.{Structured, fieldsOf}
@@ -57,7 +59,7 @@ use Rattle.message_read.specs.declared.MessageStanding.the-variants.{Str
 use Rattle.message_read.specs.declared.Reply.{Reply}
 use Rattle.message_read.specs.Steps.{countFrom, byStanding, judgedBy, judgedAt, judgedOf, refusal, replyBy, leftBy, ReadGives}
 use Rattle.message_read.specs.Values.{shownNamed, testataBytes, entriesShown, valuesIn, valuesSize}
-use Rattle.message_read.specs.Promise.{ReadFrom, ReadPromise, refuses, no-room, reads}
+use Rattle.message_read.specs.Promise.{ReadFrom, ReadIn, refuses, no-room, reads}
 use Rattle.message_read.proofs.Match.{Pairs, pairs-none, pairs-next, pairs-length, row-pairs, shown-is}
 use Rattle.message_read.proofs.Entry.{toBad, orBad, or-same, entries-or, off-same, entries-same}
 
@@ -133,7 +135,7 @@ earlier-both n m (Place p c) (off.At q) = go (leb p q)
     go true = field
     go false = field
 
-module _ (s : List ℕ) (t : Tree) (at : ℕ) (r : Root false s t at) where
+module _ {ids : Bool} (s : List ℕ) (t : Tree) (at : ℕ) (r : Root ids s t at) where
   abbrev from : ℕ
   from = whiteAt s at
 
@@ -214,8 +216,8 @@ module _ (s : List ℕ) (t : Tree) (at : ℕ) (r : Root false s t at) where
       (values-same s from f (rw (r .kids) (w .0)) ∙ ap valuesIn (r .kids), c ∙ sym d ∙ ap entryCount (w .2))
 
   -- THE PROMISE, of a tree
-  module _ (d : Reads s t) (l : length s ≤ maxMessage) (values : List ℕ) where
-    given : (m : Message) (j : MessageStanding) (q : MessageReading) → Both (countFrom s (whiteAt s at)) m j q → readingOn t ≡ q → (reply : Reply) (left : List ℕ) → ReadGives s values (whiteAt s at) j reply left → ReadPromise s values reply left
+  module _ (ed : Edition) (d : ReadsAs (idAllowed ed) s t) (l : length s ≤ maxMessage) (values : List ℕ) where
+    given : (m : Message) (j : MessageStanding) (q : MessageReading) → Both (countFrom s (whiteAt s at)) m j q → readingOn t ≡ q → (reply : Reply) (left : List ℕ) → ReadGives s values (whiteAt s at) j reply left → ReadIn ed s values reply left
     given m j q structure e reply left g = rw (g .0, g .1) (refuses (on-tree l d e))
     given m j q field e reply left g = rw (g .0, g .1) (refuses (on-tree l d e))
     given m j q stands e reply left g =
@@ -223,13 +225,13 @@ module _ (s : List ℕ) (t : Tree) (at : ℕ) (r : Root false s t at) where
         rw (g .0, g .1, v .0, v .1) (go (leb (80 + 48 * entryCount m) (length values)) refl)
       where
         go : (b : Bool) → leb (80 + 48 * entryCount m) (length values) ≡ b
-            → ReadPromise s values (cond b (record { code = 0; place = 0; cause = 0; entries = entryCount m }) (refusal 40 0 0)) (cond b (put values 0 (valuesIn (kidsIn (heldOf t)))) values)
+            → ReadIn ed s values (cond b (record { code = 0; place = 0; cause = 0; entries = entryCount m }) (refusal 40 0 0)) (cond b (put values 0 (valuesIn (kidsIn (heldOf t)))) values)
         go true z = reads (record { short = l; derived = d; reading = e }) (leb-true (80 + 48 * entryCount m) (length values) z)
         go false z = no-room (record { short = l; derived = d; reading = e }) (leb-false (80 + 48 * entryCount m) (length values) z)
 
 -- of bytes whose markup stands
-pub root-promise : (s values : List ℕ) (lt e at : ℕ) → length s ≤ maxMessage → markupOf false s ≡ markup.Root lt e at → (reply : Reply) (left : List ℕ) → ReadGives s values (whiteAt s at) (judgedOf s lt e at) reply left → ReadPromise s values reply left
-root-promise s values lt e at l h reply left g =
+pub root-promise : (ed : Edition) (s values : List ℕ) (lt e at : ℕ) → length s ≤ maxMessage → markupOf (idAllowed ed) s ≡ markup.Root lt e at → (reply : Reply) (left : List ℕ) → ReadGives s values (whiteAt s at) (judgedOf s lt e at) reply left → ReadIn ed s values reply left
+root-promise ed s values lt e at l h reply left g =
     let x = reads-some s lt e at h in
     let t = x .0 in
     let d = x .1 in
@@ -238,10 +240,10 @@ root-promise s values lt e at l h reply left g =
     let a : lt ≡ r .lt = cc in
     let b : e ≡ r .end = cc in
     let c : at ≡ contentPlace (d .0) = cc in
-    given s t (contentPlace (d .0)) r d l values (messageIn (kidsIn (heldOf t))) (judgedOf s (r .lt) (r .end) (contentPlace (d .0))) (readingOn t) (both-judged s t (contentPlace (d .0)) r) refl reply left (rw (← a, ← b, ← c) g)
+    given s t (contentPlace (d .0)) r ed d l values (messageIn (kidsIn (heldOf t))) (judgedOf s (r .lt) (r .end) (contentPlace (d .0))) (readingOn t) (both-judged s t (contentPlace (d .0)) r) refl reply left (rw (← a, ← b, ← c) g)
 
-pub broken-promise : (s values : List ℕ) (q : ℕ) → length s ≤ maxMessage → markupOf false s ≡ markup.Breaks q → (reply : Reply) → reply ≡ refusal 3 0 0 → ReadPromise s values reply values
-broken-promise s values q l e reply z = rw z (refuses (no-tree l (λ t d. let m = flow-complete s (d .0) in let y : _≡_ {A = ℕ} 0 1 = cc in omega arith)))
+pub broken-promise : (ed : Edition) (s values : List ℕ) (q : ℕ) → length s ≤ maxMessage → markupOf (idAllowed ed) s ≡ markup.Breaks q → (reply : Reply) → reply ≡ refusal 3 0 0 → ReadIn ed s values reply values
+broken-promise ed s values q l e reply z = rw z (refuses (no-tree l (λ t d. let m = flow-complete s (d .0) in let y : _≡_ {A = ℕ} 0 1 = cc in omega arith)))
 
-pub long-promise : (s values : List ℕ) → maxMessage < length s → (reply : Reply) → reply ≡ refusal 2 0 0 → ReadPromise s values reply values
-long-promise s values l reply z = rw z (refuses (too-long l))
+pub long-promise : (ed : Edition) (s values : List ℕ) → maxMessage < length s → (reply : Reply) → reply ≡ refusal 2 0 0 → ReadIn ed s values reply values
+long-promise ed s values l reply z = rw z (refuses (too-long l))

@@ -2,6 +2,8 @@
 // written into the caller's buffer.
 use agreement::EntryKind;
 use agreement::Off;
+use editions::Edited;
+use editions::Edition;
 use fields::Cause;
 use markup::Markup;
 use rows::Next;
@@ -12,10 +14,11 @@ ghost use Prim.Native.Nat.{_+_, _≤_};
 ghost use lib.ListN.{length};
 ghost use Rattle.tokens.specs.Tokens.{whiteAt};
 ghost use Rattle.markup.specs.Noted.{Noted};
+ghost use Rattle.flow.specs.Flow.{idAllowed};
 ghost use Rattle.agreement.specs.Agreement.{entriesOf};
 ghost use Rattle.message.specs.Read.{maxMessage};
 ghost use Rattle.message_read.specs.Steps.{countFrom, earlierOf, byOff, judgedBy, judgedAt, judgedOf, ReadGives};
-ghost use Rattle.message_read.specs.Promise.{ReadPromise};
+ghost use Rattle.message_read.specs.Promise.{ReadIn, ReadPromise};
 
 // Document 02's numbers of an answer: the code, the place and cause of a field that breaks, how many entries there are.
 pub struct Reply {
@@ -177,24 +180,45 @@ fn read_root(s: &[u8], lt: usize, e: usize, at: usize, values: &mut [u8], past: 
     read_content(s, at, values, past)
 }
 
-// Reads a message that is not too long, noting in `past` where its elements end.
-fn read_noted(s: &[u8], values: &mut [u8], past: &mut [u32]) -> Reply
-    requires { ⌜ (length (now s) ≤ maxMessage) × Noted (now s) (now past) ⌝ }
-    ensures { λ r. ⌜ ReadPromise (now (s .entry)) (now (values .entry)) r (now (values .exit)) ⌝ }
+// Whether an Id may stand on the root of a message.
+fn id_allowed(e: Edition) -> bool
+    ensures { λ r. ⌜ r ≡ idAllowed e ⌝ }
 {
-    match markup::markup_noted(s, false, past) {
+    match e {
+        Edition::Oil => false,
+        Edition::Opi => true,
+    }
+}
+
+// Reads a message that is not too long, noting in `past` where its elements end.
+fn read_noted(s: &[u8], ed: Edition, values: &mut [u8], past: &mut [u32]) -> Reply
+    requires { ⌜ (length (now s) ≤ maxMessage) × Noted (now s) (now past) ⌝ }
+    ensures { λ r. ⌜ ReadIn ed (now (s .entry)) (now (values .entry)) r (now (values .exit)) ⌝ }
+{
+    let ids = id_allowed(ed);
+    match markup::markup_noted(s, ids, past) {
         Markup::Root(lt, e, at) => read_root(s, lt, e, at, values, past),
         Markup::Breaks(_) => refusal(3, 0, 0),
     }
 }
 
-// Reads a message. Every byte of the values is determined, and none changes where the message is refused.
-pub fn read_message(s: &[u8], values: &mut [u8]) -> Reply
-    ensures { λ r. ⌜ ReadPromise (now (s .entry)) (now (values .entry)) r (now (values .exit)) ⌝ }
+// Reads a message of an edition.
+pub fn read_in(s: &[u8], ed: Edition, values: &mut [u8]) -> Reply
+    ensures { λ r. ⌜ ReadIn ed (now (s .entry)) (now (values .entry)) r (now (values .exit)) ⌝ }
 {
     if 65536 < s.len() {
         return refusal(2, 0, 0);
     }
     let mut past = [0u32; 16385];
-    read_noted(s, values, &mut past)
+    read_noted(s, ed, values, &mut past)
+}
+
+// Reads a message of the edition of a number. Every byte of the values is determined, and none changes where the message is refused.
+pub fn read_message(edition: u64, s: &[u8], values: &mut [u8]) -> Reply
+    ensures { λ r. ⌜ ReadPromise edition (now (s .entry)) (now (values .entry)) r (now (values .exit)) ⌝ }
+{
+    let Edited::By(e) = editions::edition_of(edition) else {
+        return refusal(23, 0, 0);
+    };
+    read_in(s, e, values)
 }

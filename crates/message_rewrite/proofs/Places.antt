@@ -15,7 +15,7 @@ use Rattle.children.specs.declared.Step.{Step}
 use Rattle.children.specs.declared.Step.the-variants.{One, End}
 use Rattle.children.specs.Child.{childAt, thenFrom, childrenBy, childrenFrom}
 use Rattle.children.proofs.Laws.{Lies, child-lies}
-use Rattle.tree.specs.Tree.{Tree, tree, Held, says, holds, Trees, none, more, ltOf, nameOf, heldOf, kidsIn, Reads}
+use Rattle.tree.specs.Tree.{Tree, tree, Held, says, holds, Trees, none, more, ltOf, nameOf, heldOf, kidsIn, ReadsAs}
 use Rattle.tree.specs.Orders.{childrenNamed, heldText}
 use Rattle.tree.proofs.Positions.{treesBy, heldBy, heldFrom, treeAt, treesFrom}
 use Rattle.tree.proofs.Book.{kids-held}
@@ -90,7 +90,7 @@ deep-at : (m : ℕ) (s : List ℕ) (c : Child) (i : ℕ) → Lies s i c → Deep
 deep-at m s c i l = (text-at (suc m) s c i l, rw (kids-of (suc m) s c) (all-from (TextAt s) (suc m) s (text-at m s) (whiteAt s (c .gt + 1))))
 
 -- OF A WHOLE MESSAGE
-pub root-at : (s : List ℕ) (t : Tree) → Reads s t → AllIn (DeepAt s) (kidsIn (heldOf t))
+pub root-at : {ids : Bool} (s : List ℕ) (t : Tree) → ReadsAs ids s t → AllIn (DeepAt s) (kidsIn (heldOf t))
 root-at s t (f, e) =
     let r = document-tree s f in
     let at = contentPlace f in

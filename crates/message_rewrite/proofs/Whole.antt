@@ -11,7 +11,7 @@ use Rattle.words.specs.Numbers.{be2, be4, put, bytes4, bytes8}
 use Rattle.words.proofs.Laws.{be4-bytes}
 use Rattle.calendar.proofs.Laws.{date-ranges}
 use Rattle.standing.specs.Readings.{Bad, Place, Nowhere}
-use Rattle.tree.specs.Tree.{Tree, Trees, none, more, heldOf, kidsIn, Reads}
+use Rattle.tree.specs.Tree.{Tree, Trees, none, more, heldOf, kidsIn}
 use Rattle.tree.specs.Orders.{childrenNamed, firstText, textNamed, Words, mandatoWords, reversaleWords}
 use Rattle.tree.specs.Written.{leaf, node}
 use Rattle.message.specs.Message.{Entry, Message, EntryOk, Every, every-none, every-next, entryCount, MessageOk}

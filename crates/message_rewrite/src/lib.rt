@@ -1,6 +1,8 @@
 // Reads an outcome message and writes it again from the values read (Req 01).
 use calendar::Date;
 use codes::Operation;
+use editions::Edited;
+use editions::Edition;
 use header::Span;
 use message_pen::Saying;
 ghost use mathlib.Core.Path.{_≡_};
@@ -10,7 +12,7 @@ ghost use Rattle.words.specs.Numbers.{be4};
 ghost use Rattle.tree.specs.Written.{bytesOf};
 ghost use Rattle.message_pen.specs.Parts.{RoomFor, WroteAll, RoomOf, WroteTree};
 ghost use Rattle.message_rewrite.specs.Again.{textShown, PairAt, operationBy, saidAt, entryAgain, EntryAt, entriesAgain, EntriesAt, headAgain, HeadAt, messageAgain, AllAt, againReply, againBuffer};
-ghost use Rattle.message_rewrite.specs.Promise.{RewritePromise};
+ghost use Rattle.message_rewrite.specs.Promise.{RewriteIn, RewritePromise};
 
 // Document 02's numbers of an answer.
 pub struct RewriteReply {
@@ -177,14 +179,24 @@ fn counted(b: &mut [u8], s: &[u8], v: &[u8], n: usize) -> RewriteReply
     RewriteReply { code: 0, length }
 }
 
-// Reads a message and writes it again. Every byte of the buffer is determined, and none changes where the call is refused.
-pub fn rewrite_message(s: &[u8], b: &mut [u8]) -> RewriteReply
-    ensures { λ r. ⌜ RewritePromise (now (s .entry)) (now (b .entry)) r (now (b .exit)) ⌝ }
+// Reads a message of an edition and writes it again.
+fn rewrite_in(s: &[u8], ed: Edition, b: &mut [u8]) -> RewriteReply
+    ensures { λ r. ⌜ RewriteIn ed (now (s .entry)) (now (b .entry)) r (now (b .exit)) ⌝ }
 {
     let mut values = [0u8; 3152];
-    let r = message_read::read_message(s, &mut values);
+    let r = message_read::read_in(s, ed, &mut values);
     if r.code != 0 {
         return no_message(r.code);
     }
     counted(b, s, &values, r.entries as usize)
+}
+
+// Reads a message of the edition of a number and writes it again. Every byte of the buffer is determined, and none changes where the call is refused.
+pub fn rewrite_message(edition: u64, s: &[u8], b: &mut [u8]) -> RewriteReply
+    ensures { λ r. ⌜ RewritePromise edition (now (s .entry)) (now (b .entry)) r (now (b .exit)) ⌝ }
+{
+    let Edited::By(e) = editions::edition_of(edition) else {
+        return no_message(23);
+    };
+    rewrite_in(s, e, b)
 }

@@ -13,7 +13,7 @@ use Rattle.scan.specs.Bytes.{byteAt, part, isWhite}
 use Rattle.scan.proofs.Laws.{both, run-within}
 use Rattle.tokens.specs.Tokens.{whiteAt}
 use Rattle.markup.specs.Noted.{Noted}
-use Rattle.rows.specs.declared.Parent.the-variants.{FlussoOrdinativi}
+use Rattle.rows.specs.declared.Parent.{Parent}
 use Rattle.rows.specs.declared.Kept.{Kept}
 use Rattle.rows.specs.declared.Next.the-variants.{Named, Done}
 use Rattle.rows.specs.Kept.{keptFrom, nextOf}
@@ -22,11 +22,15 @@ use Rattle.order.specs.declared.Order.{Order}
 use Rattle.order.specs.Ordinativo.{Ordinativo, ordinativo}
 use Rattle.orders.specs.Shape.{Filled}
 use Rattle.orders.specs.Orders.{those, isOrder, orderOf}
-use Rattle.editions.specs.declared.Edition.the-variants.{Oil}
-use Rattle.header.specs.Header.{Header, headerIn}
+use Rattle.editions.specs.declared.Edition.{Edition}
+use Rattle.editions.specs.declared.Edited.{Edited}
+use Rattle.editions.specs.declared.Edited.the-variants.{By, NoEdition}
+use Rattle.editions.specs.Editions.{editionOf}
+use Rattle.header.specs.Header.{Header, rootOf, headerIn}
 use Rattle.orders.proofs.Laws.{Order-at, order-at, orders-end, standing}
+use Rattle.header.specs.declared.Span.{Span}
 use Rattle.header.specs.declared.Heading.{Heading}
-use Rattle.header.specs.Heading.{rootRows, headingFrom}
+use Rattle.header.specs.Heading.{rootRows, headingFrom, headerBy, Within}
 use Rattle.header.proofs.Laws.{heading-header, heading-within}
 use Rattle.flow.specs.declared.Verdict.{Verdict}
 use Rattle.flow.specs.declared.Verdict.the-variants.{Stands}
@@ -46,9 +50,9 @@ use Rattle.message_fit.specs.Fit.{callerOk}
 use Rattle.message_fit.specs.Walk.{ordersFrom, Rooted}
 use Rattle.message_fit.proofs.Laws.{drop-byte, drop-first, caller-told}
 use Rattle.message_write.specs.declared.WriteAnswer.{WriteAnswer}
-use Rattle.message_write.specs.declared.WriteAnswer.the-variants.{TooLong, Unfit, NoRoom, Written}
-use Rattle.message_write.specs.Write.{writes, maxFlow, writingOf, writeReads, Leaves, WritePromise}
-use Rattle.message_write.specs.Parts.{entryIf, kindOut, entryHere, kindFrom, allEntries, beginningOut, headerWith, flowName, messageAt}
+use Rattle.message_write.specs.declared.WriteAnswer.the-variants.{UnknownEdition, TooLong, Unfit, NoRoom, Written}
+use Rattle.message_write.specs.Write.{writes, maxFlow, writingOf, writeIn, writeBy, Leaves, WritePromise}
+use Rattle.message_write.specs.Parts.{entryIf, kindOut, entryHere, kindFrom, allEntries, beginningOut, headerWith, flowName, messageAt, messageBy}
 
 -- ENTRIES OF A KIND: the first order's, if it has one, and the others'
 one-then : (kind : ℕ) (flow : List ℕ) (year : ℕ) (time : List ℕ) (q : Ordinativo) (qs : List Ordinativo) (o : List ℕ)
@@ -63,36 +67,36 @@ one-then kind flow year time q qs o = go (eqb (q .kind) kind)
 
 -- while the orders are walked: those from i on are to come, their outcome bytes from k on; whatever is written of their entries from `to` on
 -- makes the whole
-pub record Entering (f past out : List ℕ) (kind : ℕ) (name : List ℕ) (year : ℕ) (time : List ℕ) (from at : ℕ) (m₀ m : List ℕ) (i k to : ℕ) : Type 0 where
-  pub rooted : Rooted FlussoOrdinativi f past i
+pub record Entering (root : Parent) (f past out : List ℕ) (kind : ℕ) (name : List ℕ) (year : ℕ) (time : List ℕ) (from at : ℕ) (m₀ m : List ℕ) (i k to : ℕ) : Type 0 where
+  pub rooted : Rooted root f past i
   pub within : k ≤ length out
-  pub fits : outcomesFit (ordersFrom FlussoOrdinativi f i) (drop k out) ≡ true
-  pub room : RoomFor to (kindFrom kind name year time f i (drop k out))
+  pub fits : outcomesFit (ordersFrom root f i) (drop k out) ≡ true
+  pub room : RoomFor to (kindFrom kind name year time root f i (drop k out))
   pub size : length m ≡ length m₀
-  pub on : (u : List ℕ) (r : ℕ) → WroteAll m u to (kindFrom kind name year time f i (drop k out)) r → WroteAll m₀ u at (kindFrom kind name year time f from out) r
+  pub on : (u : List ℕ) (r : ℕ) → WroteAll m u to (kindFrom kind name year time root f i (drop k out)) r → WroteAll m₀ u at (kindFrom kind name year time root f from out) r
 
-module _ (f past out : List ℕ) (kind : ℕ) (name : List ℕ) (year : ℕ) (time : List ℕ) (from at : ℕ) (m₀ : List ℕ) where
-  pub entering-start : Rooted FlussoOrdinativi f past from → outcomesFit (ordersFrom FlussoOrdinativi f from) out ≡ true → RoomFor at (kindFrom kind name year time f from out)
-      → Entering f past out kind name year time from at m₀ m₀ from 0 at
+module _ (root : Parent) (f past out : List ℕ) (kind : ℕ) (name : List ℕ) (year : ℕ) (time : List ℕ) (from at : ℕ) (m₀ : List ℕ) where
+  pub entering-start : Rooted root f past from → outcomesFit (ordersFrom root f from) out ≡ true → RoomFor at (kindFrom kind name year time root f from out)
+      → Entering root f past out kind name year time from at m₀ m₀ from 0 at
   entering-start r e h = record { rooted = r; within = omega arith; fits = e; room = h; size = refl; on = λ u q w. w }
 
-  module _ {m : List ℕ} {i k to : ℕ} (s : Entering f past out kind name year time from at m₀ m i k to) where
-    pub entering-end : nextOf (those isOrder (keptFrom FlussoOrdinativi f i)) ≡ Done → WroteAll m₀ m at (kindFrom kind name year time f from out) to
+  module _ {m : List ℕ} {i k to : ℕ} (s : Entering root f past out kind name year time from at m₀ m i k to) where
+    pub entering-end : nextOf (those isOrder (keptFrom root f i)) ≡ Done → WroteAll m₀ m at (kindFrom kind name year time root f from out) to
     unfolding entriesFrom
-    entering-end e = s .on m to (rw (orders-end FlussoOrdinativi f i e) (wrote-none m to))
+    entering-end e = s .on m to (rw (orders-end root f i e) (wrote-none m to))
 
-    module _ (n : Kept) (e : nextOf (those isOrder (keptFrom FlussoOrdinativi f i)) ≡ Named n) where
-      pub entering-order : Order-at FlussoOrdinativi f i n
-      entering-order = order-at FlussoOrdinativi f i n (s .rooted .holds) e
+    module _ (n : Kept) (e : nextOf (those isOrder (keptFrom root f i)) ≡ Named n) where
+      pub entering-order : Order-at root f i n
+      entering-order = order-at root f i n (s .rooted .holds) e
 
       -- its outcome bytes are there, and those of the others fit
-      fitted : ((leb 16 (length (drop k out)) && outcomeFits (ordinativo (orderOf f n)) (drop k out)) && outcomesFit (ordersFrom FlussoOrdinativi f (n .child .after)) (drop (k + 16) out)) ≡ true
+      fitted : ((leb 16 (length (drop k out)) && outcomeFits (ordinativo (orderOf f n)) (drop k out)) && outcomesFit (ordersFrom root f (n .child .after)) (drop (k + 16) out)) ≡ true
       unfolding outcomesFit
       fitted = rw (entering-order .rest, drop-drop 16 k out) at (s .fits)
 
       pub entering-long : k + 16 ≤ length out
       entering-long =
-          let a = both (leb 16 (length (drop k out)) && outcomeFits (ordinativo (orderOf f n)) (drop k out)) (outcomesFit (ordersFrom FlussoOrdinativi f (n .child .after)) (drop (k + 16) out)) fitted in
+          let a = both (leb 16 (length (drop k out)) && outcomeFits (ordinativo (orderOf f n)) (drop k out)) (outcomesFit (ordersFrom root f (n .child .after)) (drop (k + 16) out)) fitted in
           let b = both (leb 16 (length (drop k out))) (outcomeFits (ordinativo (orderOf f n)) (drop k out)) (a .0) in
           let l = leb-true 16 (length (drop k out)) (b .0) in
           let d = length-drop k out in
@@ -102,24 +106,24 @@ module _ (f past out : List ℕ) (kind : ℕ) (name : List ℕ) (year : ℕ) (ti
       pub entering-kind : byteAt out k ≡ orderOf f n .kind
       entering-kind =
           let q = ordinativo (orderOf f n) in
-          let a = both (leb 16 (length (drop k out)) && outcomeFits q (drop k out)) (outcomesFit (ordersFrom FlussoOrdinativi f (n .child .after)) (drop (k + 16) out)) fitted in
+          let a = both (leb 16 (length (drop k out)) && outcomeFits q (drop k out)) (outcomesFit (ordersFrom root f (n .child .after)) (drop (k + 16) out)) fitted in
           let b = both (leb 16 (length (drop k out))) (outcomeFits q (drop k out)) (a .0) in
           sym (drop-first out k) ∙ eqb-true _ _ (both (eqb (byteAt (drop k out) 0) (q .kind)) _ (b .1) .0)
 
-      rest : kindFrom kind name year time f i (drop k out) ≡ join (entryHere kind name year time f n out k) (kindFrom kind name year time f (n .child .after) (drop (k + 16) out))
+      rest : kindFrom kind name year time root f i (drop k out) ≡ join (entryHere kind name year time f n out k) (kindFrom kind name year time root f (n .child .after) (drop (k + 16) out))
       rest =
           rw (entering-order .rest, ← drop-drop 16 k out, ← drop-byte out k 2)
-          (one-then kind name year time (ordinativo (orderOf f n)) (ordersFrom FlussoOrdinativi f (n .child .after)) (drop k out))
+          (one-then kind name year time (ordinativo (orderOf f n)) (ordersFrom root f (n .child .after)) (drop k out))
 
       pub entering-room : RoomFor to (entryHere kind name year time f n out k)
       entering-room = join-room _ _ (subst (RoomFor to) rest (s .room))
 
       pub entering-step : {m′ : List ℕ} {q : ℕ} → WroteAll m m′ to (entryHere kind name year time f n out k) q
-          → Entering f past out kind name year time from at m₀ m′ (n .child .after) (k + 16) q
+          → Entering root f past out kind name year time from at m₀ m′ (n .child .after) (k + 16) q
       entering-step {m′} {q} w =
           let p = entering-order in
           let l = entering-long in
-          let a = both (leb 16 (length (drop k out)) && outcomeFits (ordinativo (orderOf f n)) (drop k out)) (outcomesFit (ordersFrom FlussoOrdinativi f (n .child .after)) (drop (k + 16) out)) fitted in
+          let a = both (leb 16 (length (drop k out)) && outcomeFits (ordinativo (orderOf f n)) (drop k out)) (outcomesFit (ordersFrom root f (n .child .after)) (drop (k + 16) out)) fitted in
           record {
             rooted = record { within = p .lies .within; holds = p .on; noted = s .rooted .noted };
             within = l;
@@ -153,34 +157,33 @@ entries-join x w [] ts = refl
 entries-join x w (e ∷ es) ts = ap (more (node x (entryOut w e))) (entries-join x w es ts)
 
 -- what stands before the entries, and the entries
-module _ (abi body : List ℕ) (year : ℕ) (name f : List ℕ) (from : ℕ) (o : List ℕ) (c : Caller) where
+module _ (abi body : List ℕ) (year : ℕ) (name : List ℕ) (root : Parent) (f : List ℕ) (from : ℕ) (o : List ℕ) (c : Caller) where
   abbrev pub Before : Trees
   Before = beginningOut abi (c .created) (c .ente) (c .described) (c .istat) (c .fiscal) (c .tramiteEnte) (c .tramiteBT) body (c .flowBT)
 
   abbrev pub Entries : Trees
-  Entries = allEntries name year (c .outcome) f from o
+  Entries = allEntries name year (c .outcome) root f from o
 
-  parts : messageTree (messageFrom (headerWith abi body year) name (ordersFrom FlussoOrdinativi f from) o c) ≡ node "messaggi_esito_applicativo" (join Before Entries)
-  parts = ap (λ (ts : Trees). node "messaggi_esito_applicativo" (join Before ts)) (entries-join (entryName 2) (wordsFor 2) (entriesFrom 2 name year (c .outcome) (ordersFrom FlussoOrdinativi f from) o) (kindFrom 1 name year (c .outcome) f from o))
+  parts : messageTree (messageFrom (headerWith abi body year) name (ordersFrom root f from) o c) ≡ node "messaggi_esito_applicativo" (join Before Entries)
+  parts = ap (λ (ts : Trees). node "messaggi_esito_applicativo" (join Before ts)) (entries-join (entryName 2) (wordsFor 2) (entriesFrom 2 name year (c .outcome) (ordersFrom root f from) o) (kindFrom 1 name year (c .outcome) root f from o))
 
-  pub parts-room : RoomOf 0 (messageTree (messageFrom (headerWith abi body year) name (ordersFrom FlussoOrdinativi f from) o c)) → RoomOf 0 (node "messaggi_esito_applicativo" (join Before Entries))
+  pub parts-room : RoomOf 0 (messageTree (messageFrom (headerWith abi body year) name (ordersFrom root f from) o c)) → RoomOf 0 (node "messaggi_esito_applicativo" (join Before Entries))
   parts-room h = subst (RoomOf 0) parts h
 
   pub parts-wrote : {s u : List ℕ} {r : ℕ} → WroteTree s u 0 (node "messaggi_esito_applicativo" (join Before Entries)) r
-      → WroteTree s u 0 (messageTree (messageFrom (headerWith abi body year) name (ordersFrom FlussoOrdinativi f from) o c)) r
+      → WroteTree s u 0 (messageTree (messageFrom (headerWith abi body year) name (ordersFrom root f from) o c)) r
   parts-wrote {s} {u} {r} w = subst (λ t. WroteTree s u 0 t r) (sym parts) w
 
-  -- its texts are the flow's
-  module _ (a : abi ≡ headerIn Oil f (keptFrom FlussoOrdinativi f from) .abi) (b : body ≡ headerIn Oil f (keptFrom FlussoOrdinativi f from) .ente)
-      (y : year ≡ headerIn Oil f (keptFrom FlussoOrdinativi f from) .esercizio) (n : name ≡ flowName f from) where
-    own : messageFrom (headerWith abi body year) name (ordersFrom FlussoOrdinativi f from) o c ≡ messageAt f from o c
-    own = rw (a, b, y, n)
+  -- its texts are those at these places of the flow
+  module _ (h : Heading) (w : Span) (a : abi ≡ part f (h .abi .from) (h .abi .to)) (b : body ≡ part f (h .ente .from) (h .ente .to)) (y : year ≡ h .esercizio) (n : name ≡ part f (w .from) (w .to)) where
+    own : messageFrom (headerWith abi body year) name (ordersFrom root f from) o c ≡ messageBy f from root h w o c
+    own = λ i. messageFrom (headerWith (a i) (b i) (y i)) (n i) (ordersFrom root f from) o c
 
-    pub own-room : RoomOf 0 (messageTree (messageAt f from o c)) → RoomOf 0 (messageTree (messageFrom (headerWith abi body year) name (ordersFrom FlussoOrdinativi f from) o c))
-    own-room h = subst (λ m. RoomOf 0 (messageTree m)) (sym own) h
+    pub own-room : RoomOf 0 (messageTree (messageBy f from root h w o c)) → RoomOf 0 (messageTree (messageFrom (headerWith abi body year) name (ordersFrom root f from) o c))
+    own-room r = subst (λ (m : Message). RoomOf 0 (messageTree m)) (sym own) r
 
-    pub own-wrote : {s u : List ℕ} {r : ℕ} → WroteTree s u 0 (messageTree (messageFrom (headerWith abi body year) name (ordersFrom FlussoOrdinativi f from) o c)) r → WroteTree s u 0 (messageTree (messageAt f from o c)) r
-    own-wrote {s} {u} {r} w = subst (λ m. WroteTree s u 0 (messageTree m) r) own w
+    pub own-wrote : {s u : List ℕ} {r : ℕ} → WroteTree s u 0 (messageTree (messageFrom (headerWith abi body year) name (ordersFrom root f from) o c)) r → WroteTree s u 0 (messageTree (messageBy f from root h w o c)) r
+    own-wrote {s} {u} {r} v = subst (λ (m : Message). WroteTree s u 0 (messageTree m) r) own v
 
 -- COUNTED, then refused or written
 module _ (m : List ℕ) (x : Message) {s u : List ℕ} {n : ℕ} (w : WroteTree s u 0 (messageTree x) n) where
@@ -194,64 +197,66 @@ module _ (m : List ℕ) (x : Message) {s u : List ℕ} {n : ℕ} (w : WroteTree 
       let z : r ≡ length (messageBytes x) = omega arith in
       rw (le-leb (length (messageBytes x)) (length m) (omega arith)) (ap Written z, v .wrote .wrote (omega arith))
 
--- THE HEADER'S VALUES where they stand
-module _ (s : List ℕ) (i : ℕ) (h : Heading) (e : h ≡ headingFrom Oil s i) where
-  pub abi-part : part s (h .abi .from) (h .abi .to) ≡ headerIn Oil s (keptFrom FlussoOrdinativi s i) .abi
-  abi-part = ap (λ (x : Heading). part s (x .abi .from) (x .abi .to)) e ∙ ap (λ (x : Header). x .abi) (heading-header Oil s i)
-
-  pub ente-part : part s (h .ente .from) (h .ente .to) ≡ headerIn Oil s (keptFrom FlussoOrdinativi s i) .ente
-  ente-part = ap (λ (x : Heading). part s (x .ente .from) (x .ente .to)) e ∙ ap (λ (x : Header). x .ente) (heading-header Oil s i)
-
-  pub year-part : h .esercizio ≡ headerIn Oil s (keptFrom FlussoOrdinativi s i) .esercizio
-  year-part = ap (λ (x : Heading). x .esercizio) e ∙ ap (λ (x : Header). x .esercizio) (heading-header Oil s i)
-
-  pub abi-within : (h .abi .from ≤ h .abi .to) × (h .abi .to ≤ length s)
-  abi-within = subst (λ (x : Heading). (x .abi .from ≤ x .abi .to) × (x .abi .to ≤ length s)) (sym e) (heading-within Oil s i .abi)
-
-  pub ente-within : (h .ente .from ≤ h .ente .to) × (h .ente .to ≤ length s)
-  ente-within = subst (λ (x : Heading). (x .ente .from ≤ x .ente .to) × (x .ente .to ≤ length s)) (sym e) (heading-within Oil s i .ente)
-
 -- A FLOW THAT STANDS, its root's children from a place on
-module _ (f : List ℕ) (at from : ℕ) (z : from ≡ whiteAt f at) where
-  pub flow-rooted : (past : List ℕ) → verdictOf Oil f ≡ Stands at → Noted f past → Rooted FlussoOrdinativi f past from
-  flow-rooted past e n =
-      let s = flow-stood Oil f at e in
-      subst (λ (x : ℕ). Rooted FlussoOrdinativi f past x) (sym z) (record { within = run-within isWhite f at (s .within); holds = standing FlussoOrdinativi f at (s .fits); noted = n })
+module _ (e : Edition) (f : List ℕ) (at from : ℕ) (z : from ≡ whiteAt f at) where
+  pub flow-filled : verdictOf e f ≡ Stands at → Filled (rootRows e) 3 (rootOf e) f 0 from
+  flow-filled v =
+      let s = flow-stood e f at v in
+      let b = fits-parts 3 (rootOf e) f at (s .fits) in
+      subst (λ (x : ℕ). Filled (rootRows e) 3 (rootOf e) f 0 x) (sym z) (record { within = run-within isWhite f at (s .within); rows = b .0; each = b .1 })
 
-  pub flow-filled : verdictOf Oil f ≡ Stands at → Filled (rootRows Oil) 3 FlussoOrdinativi f 0 from
-  flow-filled e =
-      let s = flow-stood Oil f at e in
-      let b = fits-parts 3 FlussoOrdinativi f at (s .fits) in
-      subst (λ (x : ℕ). Filled (rootRows Oil) 3 FlussoOrdinativi f 0 x) (sym z) (record { within = run-within isWhite f at (s .within); rows = b .0; each = b .1 })
+  module _ (root : Parent) (q : root ≡ rootOf e) where
+    pub flow-rooted : (past : List ℕ) → verdictOf e f ≡ Stands at → Noted f past → Rooted root f past from
+    flow-rooted past v n =
+        let s = flow-stood e f at v in
+        let r : Rooted (rootOf e) f past (whiteAt f at) = record { within = run-within isWhite f at (s .within); holds = standing (rootOf e) f at (s .fits); noted = n } in
+        subst (λ (x : ℕ). Rooted root f past x) (sym z) (subst (λ (p : Parent). Rooted p f past (whiteAt f at)) (sym q) r)
 
-  module _ (m o : List ℕ) (c : Caller) {g : Bool} (eg : g ≡ outcomesFit (ordersFrom FlussoOrdinativi f from) o) where
-    fit-is : outcomesFit (ordersFrom FlussoOrdinativi f (whiteAt f at)) o ≡ g
-    fit-is = ap (λ (x : ℕ). outcomesFit (ordersFrom FlussoOrdinativi f x) o) (sym z) ∙ sym eg
+    module _ (m o : List ℕ) (c : Caller) {g : Bool} (eg : g ≡ outcomesFit (ordersFrom root f from) o) where
+      fit-is : outcomesFit (ordersFrom (rootOf e) f (whiteAt f at)) o ≡ g
+      fit-is = ap (λ (x : ℕ). outcomesFit (ordersFrom (rootOf e) f x) o) (sym z) ∙ ap (λ (p : Parent). outcomesFit (ordersFrom p f from) o) (sym q) ∙ sym eg
 
-    pub unfit-outcomes : g ≡ false → Leaves m (writingOf f o c (Stands at)) Unfit m
-    unfit-outcomes n = rw (fit-is, n) (refl, refl)
+      pub unfit-outcomes : g ≡ false → Leaves m (writingOf e f o c (Stands at)) Unfit m
+      unfit-outcomes n = rw (fit-is, n) (refl, refl)
 
-    module _ (y : g ≡ true) {h : Bool} (eh : h ≡ callerOk c) where
-      pub unfit-caller : h ≡ false → Leaves m (writingOf f o c (Stands at)) Unfit m
-      unfit-caller n = rw (fit-is, y, ← eh, n) (refl, refl)
+      module _ (y : g ≡ true) {k : Bool} (ek : k ≡ callerOk c) where
+        pub unfit-caller : k ≡ false → Leaves m (writingOf e f o c (Stands at)) Unfit m
+        unfit-caller n = rw (fit-is, y, ← ek, n) (refl, refl)
 
-      module _ (v : h ≡ true) where
-        pub fit-written : {a : WriteAnswer} {m′ : List ℕ} → Leaves m (writes (messageAt f from o c)) a m′ → Leaves m (writingOf f o c (Stands at)) a m′
-        fit-written {a} {m′} w = rw (fit-is, y, ← eh, v) (subst (λ (x : ℕ). Leaves m (writes (messageAt f x o c)) a m′) z w)
+        -- its header's values and identificativo_flusso where they stand
+        module _ (v : k ≡ true) (h : Heading) (w : Span) (d : h ≡ headingFrom e f from) (n : part f (w .from) (w .to) ≡ flowName e f from) where
+          same-message : messageBy f from root h w o c ≡ messageAt e f (whiteAt f at) o c
+          same-message =
+              let a : headerBy f h ≡ headerIn e f (keptFrom (rootOf e) f from) = ap (headerBy f) d ∙ heading-header e f from in
+              (λ i. messageFrom (a i) (n i) (ordersFrom (q i) f from) o c) ∙ ap (λ (x : ℕ). messageAt e f x o c) z
 
-        -- the longest message is far below what a count can hold
-        pub fit-room : verdictOf Oil f ≡ Stands at → RoomOf 0 (messageTree (messageAt f from o c))
-        fit-room e =
-            let k = written-ok f at e o c (fit-is ∙ y) (caller-told c .sound (sym eh ∙ v)) in
-            let l = message-short (messageAt f (whiteAt f at) o c) k in
-            subst (λ (x : ℕ). RoomOf 0 (messageTree (messageAt f x o c))) (sym z) (record { room = record { fits = omega arith } })
+          pub fit-written : {a : WriteAnswer} {m′ : List ℕ} → Leaves m (writes (messageBy f from root h w o c)) a m′ → Leaves m (writingOf e f o c (Stands at)) a m′
+          fit-written {a} {m′} x = rw (fit-is, y, ← ek, v) (subst (λ (i : Message). Leaves m (writes i) a m′) same-message x)
+
+          -- the longest message is far below what a count can hold
+          pub fit-room : verdictOf e f ≡ Stands at → RoomOf 0 (messageTree (messageBy f from root h w o c))
+          fit-room x =
+              let ok = written-ok e f at x o c (fit-is ∙ y) (caller-told c .sound (sym ek ∙ v)) in
+              let l = message-short (messageAt e f (whiteAt f at) o c) ok in
+              subst (λ (i : Message). RoomOf 0 (messageTree i)) (sym same-message) (record { room = record { fits = omega arith } })
+
+pub heading-there : (e : Edition) (f : List ℕ) (from : ℕ) (h : Heading) → h ≡ headingFrom e f from → Within f h
+heading-there e f from h d = subst (Within f) (sym d) (heading-within e f from)
 
 -- THE CALL
 module _ (f o : List ℕ) (c : Caller) (m : List ℕ) where
-  pub write-long : maxFlow < length f → WritePromise f o c m TooLong m
-  unfolding writeReads
-  write-long l = rw (lt-leb (length f) maxFlow l) (refl, refl)
+  module _ (e : Edition) where
+    pub write-long : maxFlow < length f → Leaves m (writeIn e f o c) TooLong m
+    unfolding writeIn
+    write-long l = rw (lt-leb (length f) maxFlow l) (refl, refl)
 
-  pub write-read : {v : Verdict} {a : WriteAnswer} {m′ : List ℕ} → length f ≤ maxFlow → verdictOf Oil f ≡ v → Leaves m (writingOf f o c v) a m′ → WritePromise f o c m a m′
-  unfolding writeReads
-  write-read l e w = rw (le-leb (length f) maxFlow l, e) w
+    pub write-read : {v : Verdict} {a : WriteAnswer} {m′ : List ℕ} → length f ≤ maxFlow → verdictOf e f ≡ v → Leaves m (writingOf e f o c v) a m′ → Leaves m (writeIn e f o c) a m′
+    unfolding writeIn
+    write-read {v} {a} {m′} l x w = rw (le-leb (length f) maxFlow l) (subst (λ (i : Verdict). Leaves m (writingOf e f o c i) a m′) (sym x) w)
+
+  module _ (ed : ℕ) where
+    pub write-unknown : editionOf ed ≡ NoEdition → WritePromise ed f o c m UnknownEdition m
+    write-unknown x = subst (λ (i : Edited). Leaves m (writeBy f o c i) UnknownEdition m) (sym x) (refl, refl)
+
+    pub write-known : {e : Edition} {a : WriteAnswer} {m′ : List ℕ} → editionOf ed ≡ By e → Leaves m (writeIn e f o c) a m′ → WritePromise ed f o c m a m′
+    write-known {e} {a} {m′} x w = subst (λ (i : Edited). Leaves m (writeBy f o c i) a m′) (sym x) w

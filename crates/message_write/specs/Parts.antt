@@ -6,17 +6,17 @@ use mathlib.Core.Bool.{true, cond}
 use lib.ListN.{length}
 use lib.Dec.{eqb}
 use Rattle.scan.specs.Bytes.{byteAt, part}
-use Rattle.rows.specs.declared.Parent.the-variants.{FlussoOrdinativi}
+use Rattle.rows.specs.declared.Parent.{Parent}
 use Rattle.rows.specs.declared.Kept.{Kept}
 use Rattle.rows.specs.Kept.{keptFrom}
 use Rattle.record.specs.Slot.{mandatoKind, reversaleKind}
 use Rattle.order.specs.Ordinativo.{Ordinativo, ordinativo}
 use Rattle.orders.specs.Orders.{textIn, orderOf}
-use Rattle.editions.specs.declared.Edition.the-variants.{Oil}
-use Rattle.header.specs.Header.{Header, headerIn}
+use Rattle.editions.specs.declared.Edition.{Edition}
+use Rattle.header.specs.Header.{Header, rootOf, testataOf, headerIn}
 use Rattle.header.specs.declared.Span.{Span}
 use Rattle.header.specs.declared.Heading.{Heading}
-use Rattle.header.specs.Heading.{headingFrom}
+use Rattle.header.specs.Heading.{headerBy, Within}
 use Rattle.tree.specs.Tree.{Trees, none}
 use Rattle.tree.specs.Written.{leaf}
 use Rattle.message.specs.Message.{Entry, Message}
@@ -38,12 +38,12 @@ abbrev pub entryHere : ℕ → List ℕ → ℕ → List ℕ → List ℕ → Ke
 entryHere kind flow year time f n o k = kindOut kind (entryIf kind flow year time (ordinativo (orderOf f n)) (byteAt o (k + 2)))
 
 -- the entries of a kind, of the orders from a place on with their outcome bytes
-abbrev pub kindFrom : ℕ → List ℕ → ℕ → List ℕ → List ℕ → ℕ → List ℕ → Trees
-kindFrom kind flow year time f from o = kindOut kind (entriesFrom kind flow year time (ordersFrom FlussoOrdinativi f from) o)
+abbrev pub kindFrom : ℕ → List ℕ → ℕ → List ℕ → Parent → List ℕ → ℕ → List ℕ → Trees
+kindFrom kind flow year time root f from o = kindOut kind (entriesFrom kind flow year time (ordersFrom root f from) o)
 
 -- all entries: "reversali" first
-abbrev pub allEntries : List ℕ → ℕ → List ℕ → List ℕ → ℕ → List ℕ → Trees
-allEntries flow year time f from o = join (kindFrom reversaleKind flow year time f from o) (kindFrom mandatoKind flow year time f from o)
+abbrev pub allEntries : List ℕ → ℕ → List ℕ → Parent → List ℕ → ℕ → List ℕ → Trees
+allEntries flow year time root f from o = join (kindFrom reversaleKind flow year time root f from o) (kindFrom mandatoKind flow year time root f from o)
 
 -- what stands before them: the header, and identificativo_flusso_BT
 abbrev pub beginningOut : List ℕ → List ℕ → List ℕ → List ℕ → List ℕ → List ℕ → List ℕ → List ℕ → List ℕ → List ℕ → Trees
@@ -55,18 +55,21 @@ abbrev pub headerWith : List ℕ → List ℕ → ℕ → Header
 headerWith abi body year = record { abi = abi; ente = body; esercizio = year }
 
 -- identificativo_flusso of the root's children from a place on, and the message of these
-abbrev pub flowName : List ℕ → ℕ → List ℕ
-flowName f from = textIn 1 f (keptFrom FlussoOrdinativi f from)
+abbrev pub flowName : Edition → List ℕ → ℕ → List ℕ
+flowName e f from = textIn 1 f (testataOf e f (keptFrom (rootOf e) f from))
 
-abbrev pub messageAt : List ℕ → ℕ → List ℕ → Caller → Message
-messageAt f from o c = messageFrom (headerIn Oil f (keptFrom FlussoOrdinativi f from)) (flowName f from) (ordersFrom FlussoOrdinativi f from) o c
+abbrev pub messageAt : Edition → List ℕ → ℕ → List ℕ → Caller → Message
+messageAt e f from o c = messageFrom (headerIn e f (keptFrom (rootOf e) f from)) (flowName e f from) (ordersFrom (rootOf e) f from) o c
+
+-- a message whose header's values and identificativo_flusso stand at these places of the flow
+abbrev pub messageBy : List ℕ → ℕ → Parent → Heading → Span → List ℕ → Caller → Message
+messageBy f from root h w o c = messageFrom (headerBy f h) (part f (w .from) (w .to)) (ordersFrom root f from) o c
 
 -- WHAT THE WRITER IS GIVEN: the orders from a place on with outcome bytes that fit, where the header's values and identificativo_flusso stand, and room
 -- for the whole
-pub record Written (f past : List ℕ) (from : ℕ) (h : Heading) (w : Span) (o : List ℕ) (c : Caller) : Type 0 where
-  pub rooted : Rooted FlussoOrdinativi f past from
-  pub fits : outcomesFit (ordersFrom FlussoOrdinativi f from) o ≡ true
-  pub heading : h ≡ headingFrom Oil f from
-  pub name : part f (w .from) (w .to) ≡ flowName f from
-  pub within : (w .from ≤ w .to) × (w .to ≤ length f)
-  pub room : RoomOf 0 (messageTree (messageAt f from o c))
+pub record Written (f past : List ℕ) (from : ℕ) (root : Parent) (h : Heading) (w : Span) (o : List ℕ) (c : Caller) : Type 0 where
+  pub rooted : Rooted root f past from
+  pub fits : outcomesFit (ordersFrom root f from) o ≡ true
+  pub heading : Within f h
+  pub name : (w .from ≤ w .to) × (w .to ≤ length f)
+  pub room : RoomOf 0 (messageTree (messageBy f from root h w o c))

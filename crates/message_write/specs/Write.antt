@@ -8,14 +8,17 @@ use lib.Dec.{leb}
 use Rattle.words.specs.Numbers.{put}
 use Rattle.flow.specs.declared.Verdict.{Verdict}
 use Rattle.flow.specs.declared.Verdict.the-variants.{MarkupBreaks, StructureBreaks, FieldBreaks, Stands}
-use Rattle.editions.specs.declared.Edition.the-variants.{Oil}
+use Rattle.editions.specs.declared.Edition.{Edition}
+use Rattle.editions.specs.declared.Edited.{Edited}
+use Rattle.editions.specs.declared.Edited.the-variants.{By, NoEdition}
+use Rattle.editions.specs.Editions.{editionOf}
 use Rattle.flow.specs.Flow.{verdictOf, flowOrders}
 use Rattle.message.specs.Message.{Message}
 use Rattle.message.specs.Written.{messageBytes}
 use Rattle.message.specs.From.{Caller, outcomesFit, flowMessage}
 use Rattle.message_fit.specs.Fit.{callerOk}
 use Rattle.message_write.specs.declared.WriteAnswer.{WriteAnswer}
-use Rattle.message_write.specs.declared.WriteAnswer.the-variants.{TooLong, BrokenMarkup, BrokenStructure, BrokenField, Unfit, NoRoom, Written}
+use Rattle.message_write.specs.declared.WriteAnswer.the-variants.{UnknownEdition, TooLong, BrokenMarkup, BrokenStructure, BrokenField, Unfit, NoRoom, Written}
 use Rattle.message_write.specs.declared.WriteReply.{WriteReply}
 
 -- A CALL: refused, or a message to be written
@@ -25,18 +28,27 @@ pub data Writing : Type 0 where
 
 -- "2 to 5 for the flow, then 41 (under 16 outcome bytes per order, their kinds, operations, numbers, line counts or totals aren't this flow's, a code no
 -- order can get, a caller's value of wrong form)"
-abbrev pub writingOf : List ℕ → List ℕ → Caller → Verdict → Writing
-writingOf f o c (MarkupBreaks p) = refused BrokenMarkup
-writingOf f o c StructureBreaks = refused BrokenStructure
-writingOf f o c (FieldBreaks p w) = refused BrokenField
-writingOf f o c (Stands at) = cond (outcomesFit (flowOrders Oil f at) o && callerOk c) (writes (flowMessage f at o c)) (refused Unfit)
+abbrev pub writingOf : Edition → List ℕ → List ℕ → Caller → Verdict → Writing
+writingOf e f o c (MarkupBreaks p) = refused BrokenMarkup
+writingOf e f o c StructureBreaks = refused BrokenStructure
+writingOf e f o c (FieldBreaks p w) = refused BrokenField
+writingOf e f o c (Stands at) = cond (outcomesFit (flowOrders e f at) o && callerOk c) (writes (flowMessage e f at o c)) (refused Unfit)
 
 -- document 01: a flow has "At most 32,768 bytes"
 abbrev pub maxFlow : ℕ
 maxFlow = 32768
 
-unfoldable pub writeReads : List ℕ → List ℕ → Caller → Writing
-writeReads f o c = cond (leb (length f) maxFlow) (writingOf f o c (verdictOf Oil f)) (refused TooLong)
+unfoldable pub writeIn : Edition → List ℕ → List ℕ → Caller → Writing
+writeIn e f o c = cond (leb (length f) maxFlow) (writingOf e f o c (verdictOf e f)) (refused TooLong)
+
+-- "The caller names the edition, for outcome messages too", "Refusals: 23, no such edition, after 1 and before 2" (Req 05)
+abbrev pub writeBy : List ℕ → List ℕ → Caller → Edited → Writing
+writeBy f o c (By e) = writeIn e f o c
+writeBy f o c NoEdition = refused UnknownEdition
+
+-- of the edition's number ed
+abbrev pub writeReads : ℕ → List ℕ → List ℕ → Caller → Writing
+writeReads ed f o c = writeBy f o c (editionOf ed)
 
 -- the answer: "then 40 (the buffer is shorter than the message)"
 abbrev pub writeAnswer : ℕ → Writing → WriteAnswer
@@ -53,15 +65,16 @@ writeBuffer b (writes m) = cond (leb (length (messageBytes m)) (length b)) (put 
 abbrev pub Leaves : List ℕ → Writing → WriteAnswer → List ℕ → Type 0
 Leaves b w a b′ = (a ≡ writeAnswer (length b) w) × (b′ ≡ writeBuffer b w)
 
--- on the flow f with its outcome bytes o and the caller's values c, with the buffer b lent: the answer a, and the buffer afterwards
-abbrev pub WritePromise : List ℕ → List ℕ → Caller → List ℕ → WriteAnswer → List ℕ → Type 0
-WritePromise f o c b a b′ = Leaves b (writeReads f o c) a b′
+-- on the flow f of the edition of the number ed with its outcome bytes o and the caller's values c, with the buffer b lent: the answer a, and the buffer afterwards
+abbrev pub WritePromise : ℕ → List ℕ → List ℕ → Caller → List ℕ → WriteAnswer → List ℕ → Type 0
+WritePromise ed f o c b a b′ = Leaves b (writeReads ed f o c) a b′
 
 -- DOCUMENT 02'S NUMBERS of an answer: "The answer has code and length; a refusal gives length 0"
 abbrev noMessage : ℕ → WriteReply
 noMessage code = record { code = code; length = 0 }
 
 abbrev pub writeReply : WriteAnswer → WriteReply
+writeReply UnknownEdition = noMessage 23
 writeReply TooLong = noMessage 2
 writeReply BrokenMarkup = noMessage 3
 writeReply BrokenStructure = noMessage 4
@@ -71,5 +84,5 @@ writeReply NoRoom = noMessage 40
 writeReply (Written n) = record { code = 0; length = n }
 
 -- the promise in these numbers
-abbrev pub WriteReplies : List ℕ → List ℕ → Caller → List ℕ → WriteReply → List ℕ → Type 0
-WriteReplies f o c b n b′ = (a : WriteAnswer) × WritePromise f o c b a b′ × (n .code ≡ writeReply a .code) × (n .length ≡ writeReply a .length)
+abbrev pub WriteReplies : ℕ → List ℕ → List ℕ → Caller → List ℕ → WriteReply → List ℕ → Type 0
+WriteReplies ed f o c b n b′ = (a : WriteAnswer) × WritePromise ed f o c b a b′ × (n .code ≡ writeReply a .code) × (n .length ≡ writeReply a .length)

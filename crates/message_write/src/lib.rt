@@ -1,5 +1,6 @@
 // The call that writes an outcome message, on any bytes at all: the flow is read, the outcome bytes and the caller's values are judged, the message's length
 // is counted by a run that writes nothing, and only then is it written.
+use editions::Edited;
 use editions::Edition;
 use flow::Verdict;
 use header::Heading;
@@ -14,11 +15,13 @@ ghost use Prim.Native.Nat.{_+_, _≤_};
 ghost use lib.ListN.{length};
 ghost use Rattle.scan.specs.Bytes.{byteAt, part};
 ghost use Rattle.markup.specs.Noted.{Noted};
-ghost use Rattle.rows.specs.declared.Parent.the-variants.{FlussoOrdinativi};
+ghost use Rattle.rows.specs.Kept.{keptFrom};
+ghost use Rattle.rows.specs.declared.Parent.the-variants.{FlussoOpi};
 ghost use Rattle.orders.specs.Shape.{orderRows, Shaped, Filled};
-ghost use Rattle.orders.specs.Orders.{orderOf};
-ghost use Rattle.editions.specs.declared.Edition.the-variants.{Oil};
-ghost use Rattle.header.specs.Heading.{rootRows, headingFrom};
+ghost use Rattle.orders.specs.Orders.{textIn, orderOf};
+ghost use Rattle.editions.specs.declared.Edition.the-variants.{Opi};
+ghost use Rattle.header.specs.Header.{rootOf};
+ghost use Rattle.header.specs.Heading.{rootRows, FourFirst};
 ghost use Rattle.flow.specs.declared.Verdict.the-variants.{Stands};
 ghost use Rattle.flow.specs.Flow.{verdictOf};
 ghost use Rattle.message.specs.Written.{messageTree};
@@ -26,11 +29,12 @@ ghost use Rattle.message.specs.From.{outcomesFit, messageFrom};
 ghost use Rattle.message_pen.specs.Parts.{RoomFor, WroteAll, RoomOf, WroteTree};
 ghost use Rattle.message_fit.specs.Fit.{callerBy};
 ghost use Rattle.message_fit.specs.Walk.{ordersFrom, Rooted};
-ghost use Rattle.message_write.specs.Write.{Writing, maxFlow, writingOf, Leaves, WritePromise, writeReply};
-ghost use Rattle.message_write.specs.Parts.{entryHere, kindFrom, allEntries, beginningOut, headerWith, flowName, messageAt, Written as Made};
+ghost use Rattle.message_write.specs.Write.{Writing, maxFlow, writingOf, writeIn, Leaves, WritePromise, writeReply};
+ghost use Rattle.message_write.specs.Parts.{entryHere, kindFrom, allEntries, beginningOut, headerWith, flowName, messageBy, Written as Made};
 
 // What the call answers.
 pub enum WriteAnswer {
+    UnknownEdition,
     TooLong,
     BrokenMarkup,
     BrokenStructure,
@@ -91,22 +95,23 @@ fn entries_of(
     kind: u8,
     f: &[u8],
     from: usize,
+    root: Parent,
     past: &[u32],
     out: &[u8],
     year: u64,
     name: &[u8],
     time: &[u8],
 ) -> usize
-    requires { ⌜ Rooted FlussoOrdinativi (now f) (now past) from × (outcomesFit (ordersFrom FlussoOrdinativi (now f) from) (now out) ≡ true)
-        × RoomFor at (kindFrom kind (now name) year (now time) (now f) from (now out)) ⌝ }
+    requires { ⌜ Rooted root (now f) (now past) from × (outcomesFit (ordersFrom root (now f) from) (now out) ≡ true)
+        × RoomFor at (kindFrom kind (now name) year (now time) root (now f) from (now out)) ⌝ }
     ensures { λ r. ⌜ WroteAll (now (m .entry)) (now (m .exit)) at
-        (kindFrom kind (now (name .entry)) year (now (time .entry)) (now (f .entry)) from (now (out .entry))) r ⌝ }
+        (kindFrom kind (now (name .entry)) year (now (time .entry)) root (now (f .entry)) from (now (out .entry))) r ⌝ }
 {
     let mut i = from;
     let mut k: usize = 0;
     let mut to = at;
     loop {
-        let Next::Named(n) = orders::next_order(f, i, Parent::FlussoOrdinativi, past) else {
+        let Next::Named(n) = orders::next_order(f, i, root, past) else {
             return to;
         };
         let c = n.child;
@@ -122,19 +127,20 @@ fn entries(
     at: usize,
     f: &[u8],
     from: usize,
+    root: Parent,
     past: &[u32],
     out: &[u8],
     year: u64,
     name: &[u8],
     time: &[u8],
 ) -> usize
-    requires { ⌜ Rooted FlussoOrdinativi (now f) (now past) from × (outcomesFit (ordersFrom FlussoOrdinativi (now f) from) (now out) ≡ true)
-        × RoomFor at (allEntries (now name) year (now time) (now f) from (now out)) ⌝ }
+    requires { ⌜ Rooted root (now f) (now past) from × (outcomesFit (ordersFrom root (now f) from) (now out) ≡ true)
+        × RoomFor at (allEntries (now name) year (now time) root (now f) from (now out)) ⌝ }
     ensures { λ r. ⌜ WroteAll (now (m .entry)) (now (m .exit)) at
-        (allEntries (now (name .entry)) year (now (time .entry)) (now (f .entry)) from (now (out .entry))) r ⌝ }
+        (allEntries (now (name .entry)) year (now (time .entry)) root (now (f .entry)) from (now (out .entry))) r ⌝ }
 {
-    let a = entries_of(m, at, 2, f, from, past, out, year, name, time);
-    entries_of(m, a, 1, f, from, past, out, year, name, time)
+    let a = entries_of(m, at, 2, f, from, root, past, out, year, name, time);
+    entries_of(m, a, 1, f, from, root, past, out, year, name, time)
 }
 
 // What stands before the entries.
@@ -182,6 +188,7 @@ fn framed(
     name: &[u8],
     f: &[u8],
     from: usize,
+    root: Parent,
     past: &[u32],
     out: &[u8],
     created: &[u8],
@@ -194,11 +201,11 @@ fn framed(
     bank: &[u8],
     flow: &[u8],
 ) -> usize
-    requires { ⌜ Rooted FlussoOrdinativi (now f) (now past) from × (outcomesFit (ordersFrom FlussoOrdinativi (now f) from) (now out) ≡ true)
-        × RoomOf 0 (messageTree (messageFrom (headerWith (now abi) (now body) year) (now name) (ordersFrom FlussoOrdinativi (now f) from) (now out)
+    requires { ⌜ Rooted root (now f) (now past) from × (outcomesFit (ordersFrom root (now f) from) (now out) ≡ true)
+        × RoomOf 0 (messageTree (messageFrom (headerWith (now abi) (now body) year) (now name) (ordersFrom root (now f) from) (now out)
         (callerBy (now created) (now outcome) (now ente) (now described) (now istat) (now fiscal) (now tramite) (now bank) (now flow)))) ⌝ }
     ensures { λ r. ⌜ WroteTree (now (m .entry)) (now (m .exit)) 0
-        (messageTree (messageFrom (headerWith (now (abi .entry)) (now (body .entry)) year) (now (name .entry)) (ordersFrom FlussoOrdinativi (now (f .entry)) from) (now (out .entry))
+        (messageTree (messageFrom (headerWith (now (abi .entry)) (now (body .entry)) year) (now (name .entry)) (ordersFrom root (now (f .entry)) from) (now (out .entry))
         (callerBy (now (created .entry)) (now (outcome .entry)) (now (ente .entry)) (now (described .entry))
         (now (istat .entry)) (now (fiscal .entry)) (now (tramite .entry)) (now (bank .entry)) (now (flow .entry))))) r ⌝ }
 {
@@ -217,20 +224,41 @@ fn framed(
         body,
         flow,
     );
-    let c = entries(m, b, f, from, past, out, year, name, outcome);
+    let c = entries(m, b, f, from, root, past, out, year, name, outcome);
     pen::close_tag(m, c, b"messaggi_esito_applicativo")
 }
 
-// Where identificativo_flusso stands.
-fn name_of(f: &[u8], from: usize, past: &[u32]) -> Span
-    requires { ⌜ Filled (rootRows Oil) 3 FlussoOrdinativi (now f) 0 from × Noted (now f) (now past) ⌝ }
-    ensures { λ r. ⌜ (part (now (f .entry)) (r .from) (r .to) ≡ flowName (now (f .entry)) from) × (r .from ≤ r .to) × (r .to ≤ length (now (f .entry))) ⌝ }
+// Where the second of the four fields stands that both editions have one after the other: identificativo_flusso.
+fn second_from(f: &[u8], from: usize, parent: Parent, past: &[u32]) -> Span
+    requires { ⌜ FourFirst parent (now f) from × Noted (now f) (now past) ⌝ }
+    ensures { λ r. ⌜ (part (now (f .entry)) (r .from) (r .to) ≡ textIn 1 (now (f .entry)) (keptFrom parent (now (f .entry)) from)) × (r .from ≤ r .to) × (r .to ≤ length (now (f .entry))) ⌝ }
 {
-    let a = orders::first_named(f, from, Parent::FlussoOrdinativi, past).child;
-    let b = orders::first_named(f, a.after, Parent::FlussoOrdinativi, past).child;
+    let a = orders::first_named(f, from, parent, past).child;
+    let b = orders::first_named(f, a.after, parent, past).child;
     Span {
         from: b.gt + 1,
         to: b.to,
+    }
+}
+
+// In edition 2, in its testata_flusso.
+fn nested_name(f: &[u8], from: usize, past: &[u32]) -> Span
+    requires { ⌜ Filled (rootRows Opi) 3 FlussoOpi (now f) 0 from × Noted (now f) (now past) ⌝ }
+    ensures { λ r. ⌜ (part (now (f .entry)) (r .from) (r .to) ≡ flowName Opi (now (f .entry)) from) × (r .from ≤ r .to) × (r .to ≤ length (now (f .entry))) ⌝ }
+{
+    let k = orders::first_named(f, from, Parent::FlussoOpi, past).child;
+    let inner = scan::white_end(f, k.gt + 1);
+    second_from(f, inner, Parent::TestataFlusso, past)
+}
+
+// Where identificativo_flusso stands.
+fn name_of(f: &[u8], e: Edition, from: usize, past: &[u32]) -> Span
+    requires { ⌜ Filled (rootRows e) 3 (rootOf e) (now f) 0 from × Noted (now f) (now past) ⌝ }
+    ensures { λ r. ⌜ (part (now (f .entry)) (r .from) (r .to) ≡ flowName e (now (f .entry)) from) × (r .from ≤ r .to) × (r .to ≤ length (now (f .entry))) ⌝ }
+{
+    match e {
+        Edition::Oil => second_from(f, from, Parent::FlussoOrdinativi, past),
+        Edition::Opi => nested_name(f, from, past),
     }
 }
 
@@ -239,6 +267,7 @@ fn whole(
     m: &mut [u8],
     f: &[u8],
     from: usize,
+    root: Parent,
     h: Heading,
     w: Span,
     past: &[u32],
@@ -253,9 +282,9 @@ fn whole(
     bank: &[u8],
     flow: &[u8],
 ) -> usize
-    requires { ⌜ Made (now f) (now past) from h w (now out) (callerBy (now created) (now outcome) (now ente) (now described) (now istat) (now fiscal) (now tramite) (now bank) (now flow)) ⌝ }
+    requires { ⌜ Made (now f) (now past) from root h w (now out) (callerBy (now created) (now outcome) (now ente) (now described) (now istat) (now fiscal) (now tramite) (now bank) (now flow)) ⌝ }
     ensures { λ r. ⌜ WroteTree (now (m .entry)) (now (m .exit)) 0
-        (messageTree (messageAt (now (f .entry)) from (now (out .entry)) (callerBy (now (created .entry)) (now (outcome .entry)) (now (ente .entry)) (now (described .entry))
+        (messageTree (messageBy (now (f .entry)) from root h w (now (out .entry)) (callerBy (now (created .entry)) (now (outcome .entry)) (now (ente .entry)) (now (described .entry))
         (now (istat .entry)) (now (fiscal .entry)) (now (tramite .entry)) (now (bank .entry)) (now (flow .entry))))) r ⌝ }
 {
     let x = h.abi;
@@ -271,6 +300,7 @@ fn whole(
         name,
         f,
         from,
+        root,
         past,
         out,
         created,
@@ -290,6 +320,7 @@ fn counted(
     m: &mut [u8],
     f: &[u8],
     from: usize,
+    root: Parent,
     h: Heading,
     w: Span,
     past: &[u32],
@@ -304,8 +335,8 @@ fn counted(
     bank: &[u8],
     flow: &[u8],
 ) -> WriteAnswer
-    requires { ⌜ Made (now f) (now past) from h w (now out) (callerBy (now created) (now outcome) (now ente) (now described) (now istat) (now fiscal) (now tramite) (now bank) (now flow)) ⌝ }
-    ensures { λ r. ⌜ Leaves (now (m .entry)) (Writing.writes (messageAt (now (f .entry)) from (now (out .entry)) (callerBy (now (created .entry)) (now (outcome .entry)) (now (ente .entry)) (now (described .entry))
+    requires { ⌜ Made (now f) (now past) from root h w (now out) (callerBy (now created) (now outcome) (now ente) (now described) (now istat) (now fiscal) (now tramite) (now bank) (now flow)) ⌝ }
+    ensures { λ r. ⌜ Leaves (now (m .entry)) (Writing.writes (messageBy (now (f .entry)) from root h w (now (out .entry)) (callerBy (now (created .entry)) (now (outcome .entry)) (now (ente .entry)) (now (described .entry))
         (now (istat .entry)) (now (fiscal .entry)) (now (tramite .entry)) (now (bank .entry)) (now (flow .entry))))) r (now (m .exit)) ⌝ }
 {
     let mut none = [0u8; 1];
@@ -313,6 +344,7 @@ fn counted(
         &mut none,
         f,
         from,
+        root,
         h,
         w,
         past,
@@ -334,6 +366,7 @@ fn counted(
         m,
         f,
         from,
+        root,
         h,
         w,
         past,
@@ -354,6 +387,7 @@ fn counted(
 fn standing(
     m: &mut [u8],
     f: &[u8],
+    e: Edition,
     at: usize,
     past: &[u32],
     out: &[u8],
@@ -367,12 +401,13 @@ fn standing(
     bank: &[u8],
     flow: &[u8],
 ) -> WriteAnswer
-    requires { ⌜ (verdictOf Oil (now f) ≡ Stands at) × Noted (now f) (now past) ⌝ }
-    ensures { λ r. ⌜ Leaves (now (m .entry)) (writingOf (now (f .entry)) (now (out .entry)) (callerBy (now (created .entry)) (now (outcome .entry)) (now (ente .entry)) (now (described .entry))
+    requires { ⌜ (verdictOf e (now f) ≡ Stands at) × Noted (now f) (now past) ⌝ }
+    ensures { λ r. ⌜ Leaves (now (m .entry)) (writingOf e (now (f .entry)) (now (out .entry)) (callerBy (now (created .entry)) (now (outcome .entry)) (now (ente .entry)) (now (described .entry))
         (now (istat .entry)) (now (fiscal .entry)) (now (tramite .entry)) (now (bank .entry)) (now (flow .entry))) (Stands at)) r (now (m .exit)) ⌝ }
 {
+    let root = header::root_of(e);
     let from = scan::white_end(f, at);
-    if !message_fit::outcomes_fit(f, from, Parent::FlussoOrdinativi, out, past) {
+    if !message_fit::outcomes_fit(f, from, root, out, past) {
         return WriteAnswer::Unfit;
     }
     if !message_fit::caller_ok(
@@ -388,12 +423,13 @@ fn standing(
     ) {
         return WriteAnswer::Unfit;
     }
-    let h = header::header_from(f, Edition::Oil, from, past);
-    let w = name_of(f, from, past);
+    let h = header::header_from(f, e, from, past);
+    let w = name_of(f, e, from, past);
     counted(
         m,
         f,
         from,
+        root,
         h,
         w,
         past,
@@ -414,6 +450,7 @@ fn standing(
 fn write_noted(
     m: &mut [u8],
     past: &mut [u32],
+    e: Edition,
     f: &[u8],
     out: &[u8],
     created: &[u8],
@@ -427,16 +464,17 @@ fn write_noted(
     flow: &[u8],
 ) -> WriteAnswer
     requires { ⌜ (length (now f) ≤ maxFlow) × Noted (now f) (now past) ⌝ }
-    ensures { λ r. ⌜ WritePromise (now (f .entry)) (now (out .entry)) (callerBy (now (created .entry)) (now (outcome .entry)) (now (ente .entry)) (now (described .entry))
-        (now (istat .entry)) (now (fiscal .entry)) (now (tramite .entry)) (now (bank .entry)) (now (flow .entry))) (now (m .entry)) r (now (m .exit)) ⌝ }
+    ensures { λ r. ⌜ Leaves (now (m .entry)) (writeIn e (now (f .entry)) (now (out .entry)) (callerBy (now (created .entry)) (now (outcome .entry)) (now (ente .entry)) (now (described .entry))
+        (now (istat .entry)) (now (fiscal .entry)) (now (tramite .entry)) (now (bank .entry)) (now (flow .entry)))) r (now (m .exit)) ⌝ }
 {
-    match flow::verdict_of(f, Edition::Oil, past) {
+    match flow::verdict_of(f, e, past) {
         Verdict::MarkupBreaks(_) => WriteAnswer::BrokenMarkup,
         Verdict::StructureBreaks => WriteAnswer::BrokenStructure,
         Verdict::FieldBreaks(_, _) => WriteAnswer::BrokenField,
         Verdict::Stands(at) => standing(
             m,
             f,
+            e,
             at,
             past,
             out,
@@ -453,8 +491,9 @@ fn write_noted(
     }
 }
 
-// Writes the outcome message of a flow. Every byte of the buffer is determined, and none changes where the call is refused.
-pub fn write_message(
+// Writes the outcome message of a flow of an edition.
+fn write_in(
+    e: Edition,
     f: &[u8],
     out: &[u8],
     created: &[u8],
@@ -468,8 +507,8 @@ pub fn write_message(
     flow: &[u8],
     m: &mut [u8],
 ) -> WriteAnswer
-    ensures { λ r. ⌜ WritePromise (now (f .entry)) (now (out .entry)) (callerBy (now (created .entry)) (now (outcome .entry)) (now (ente .entry)) (now (described .entry))
-        (now (istat .entry)) (now (fiscal .entry)) (now (tramite .entry)) (now (bank .entry)) (now (flow .entry))) (now (m .entry)) r (now (m .exit)) ⌝ }
+    ensures { λ r. ⌜ Leaves (now (m .entry)) (writeIn e (now (f .entry)) (now (out .entry)) (callerBy (now (created .entry)) (now (outcome .entry)) (now (ente .entry)) (now (described .entry))
+        (now (istat .entry)) (now (fiscal .entry)) (now (tramite .entry)) (now (bank .entry)) (now (flow .entry)))) r (now (m .exit)) ⌝ }
 {
     if 32768 < f.len() {
         return WriteAnswer::TooLong;
@@ -479,6 +518,7 @@ pub fn write_message(
         return write_noted(
             m,
             &mut few,
+            e,
             f,
             out,
             created,
@@ -496,6 +536,7 @@ pub fn write_message(
     write_noted(
         m,
         &mut past,
+        e,
         f,
         out,
         created,
@@ -510,6 +551,45 @@ pub fn write_message(
     )
 }
 
+// Writes the outcome message of a flow of the edition of a number. Every byte of the buffer is determined, and none changes where the call is refused.
+pub fn write_message(
+    edition: u64,
+    f: &[u8],
+    out: &[u8],
+    created: &[u8],
+    outcome: &[u8],
+    ente: &[u8],
+    described: &[u8],
+    istat: &[u8],
+    fiscal: &[u8],
+    tramite: &[u8],
+    bank: &[u8],
+    flow: &[u8],
+    m: &mut [u8],
+) -> WriteAnswer
+    ensures { λ r. ⌜ WritePromise edition (now (f .entry)) (now (out .entry)) (callerBy (now (created .entry)) (now (outcome .entry)) (now (ente .entry)) (now (described .entry))
+        (now (istat .entry)) (now (fiscal .entry)) (now (tramite .entry)) (now (bank .entry)) (now (flow .entry))) (now (m .entry)) r (now (m .exit)) ⌝ }
+{
+    let Edited::By(e) = editions::edition_of(edition) else {
+        return WriteAnswer::UnknownEdition;
+    };
+    write_in(
+        e,
+        f,
+        out,
+        created,
+        outcome,
+        ente,
+        described,
+        istat,
+        fiscal,
+        tramite,
+        bank,
+        flow,
+        m,
+    )
+}
+
 fn no_message(code: u64) -> WriteReply
     ensures { λ r. ⌜ (r .code ≡ code) × (r .length ≡ 0) ⌝ }
 {
@@ -521,6 +601,7 @@ pub fn reply_of(a: WriteAnswer) -> WriteReply
     ensures { λ r. ⌜ (r .code ≡ writeReply a .code) × (r .length ≡ writeReply a .length) ⌝ }
 {
     match a {
+        WriteAnswer::UnknownEdition => no_message(23),
         WriteAnswer::TooLong => no_message(2),
         WriteAnswer::BrokenMarkup => no_message(3),
         WriteAnswer::BrokenStructure => no_message(4),

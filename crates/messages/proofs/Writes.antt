@@ -13,6 +13,10 @@ use Rattle.scan.proofs.Laws.{both}
 use Rattle.words.specs.Numbers.{put}
 use Rattle.grammar.specs.XML.{WellFormedXML}
 use Rattle.grammar.proofs.XML.{flow-well-formed}
+use Rattle.editions.specs.declared.Edition.{Edition}
+use Rattle.editions.specs.declared.Edited.{Edited}
+use Rattle.editions.specs.declared.Edited.the-variants.{By, NoEdition}
+use Rattle.editions.specs.Editions.{editionOf}
 use Rattle.flow.specs.declared.Verdict.{Verdict}
 use Rattle.flow.specs.declared.Verdict.the-variants.{MarkupBreaks, StructureBreaks, FieldBreaks, Stands}
 use Rattle.flow.specs.Flow.{verdictOf, flowOrders}
@@ -27,45 +31,53 @@ use Rattle.message_fit.proofs.Laws.{caller-told}
 use Rattle.message_write.specs.declared.WriteAnswer.{WriteAnswer}
 use Rattle.message_write.specs.declared.WriteAnswer.the-variants as answer
 use Rattle.message_write.specs.declared.WriteReply.{WriteReply}
-use Rattle.message_write.specs.Write.{Writing, maxFlow, writingOf, writeReads, writeAnswer, writeBuffer, writeReply}
+use Rattle.message_write.specs.Write.{Writing, maxFlow, writingOf, writeIn, writeBy, writeReads, writeAnswer, writeBuffer, writeReply}
 use Rattle.message_write.specs.Write as write
 use Rattle.messages.specs.Writes.{WrittenOut, WrittenSaid, RefusedKept, NoSecondWriting}
 
 -- WHEN a message is to be written
-record When (f o : List ℕ) (c : Caller) (m : Message) : Type 0 where
+record When (ed : ℕ) (f o : List ℕ) (c : Caller) (m : Message) : Type 0 where
+  edition : Edition
+  numbered : editionOf ed ≡ By edition
   short : length f ≤ maxFlow
   begins : ℕ
-  stands : verdictOf f ≡ Stands begins
-  fits : outcomesFit (flowOrders f begins) o ≡ true
+  stands : verdictOf edition f ≡ Stands begins
+  fits : outcomesFit (flowOrders edition f begins) o ≡ true
   caller : CallerOk c
-  is : flowMessage f begins o c ≡ m
+  is : flowMessage edition f begins o c ≡ m
 
 never : {a : WriteAnswer} {m : Message} {A : Type 0} → write.refused a ≡ write.writes m → A
 never e = let z : _≡_ {A = ℕ} 0 1 = cc in absurd (omega arith)
 
-when : (f o : List ℕ) (c : Caller) (m : Message) → writeReads f o c ≡ write.writes m → When f o c m
-unfolding writeReads
-when f o c m e = length-by (leb (length f) maxFlow) refl e
+when : (ed : ℕ) (f o : List ℕ) (c : Caller) (m : Message) → writeReads ed f o c ≡ write.writes m → When ed f o c m
+unfolding writeIn
+when ed f o c m h = edition-by (editionOf ed) refl h
   where
-    fit-by : (at : ℕ) → length f ≤ maxFlow → verdictOf f ≡ Stands at → (b : Bool) → (outcomesFit (flowOrders f at) o && callerOk c) ≡ b
-        → cond b (write.writes (flowMessage f at o c)) (write.refused answer.Unfit) ≡ write.writes m → When f o c m
-    fit-by at l s true h e =
-        let p = both (outcomesFit (flowOrders f at) o) (callerOk c) h in
-        record { short = l; begins = at; stands = s; fits = p .0; caller = caller-told c .sound (p .1); is = cc }
-    fit-by at l s false h e = never e
+    module _ (y : Edition) (i : editionOf ed ≡ By y) where
+      fit-by : (at : ℕ) → length f ≤ maxFlow → verdictOf y f ≡ Stands at → (b : Bool) → (outcomesFit (flowOrders y f at) o && callerOk c) ≡ b
+          → cond b (write.writes (flowMessage y f at o c)) (write.refused answer.Unfit) ≡ write.writes m → When ed f o c m
+      fit-by at l s true h e =
+          let p = both (outcomesFit (flowOrders y f at) o) (callerOk c) h in
+          record { edition = y; numbered = i; short = l; begins = at; stands = s; fits = p .0; caller = caller-told c .sound (p .1); is = cc }
+      fit-by at l s false h e = never e
 
-    verdict-by : (v : Verdict) → length f ≤ maxFlow → verdictOf f ≡ v → writingOf f o c v ≡ write.writes m → When f o c m
-    verdict-by (MarkupBreaks p) l s e = never e
-    verdict-by StructureBreaks l s e = never e
-    verdict-by (FieldBreaks p x) l s e = never e
-    verdict-by (Stands at) l s e = fit-by at l s (outcomesFit (flowOrders f at) o && callerOk c) refl e
+      verdict-by : (v : Verdict) → length f ≤ maxFlow → verdictOf y f ≡ v → writingOf y f o c v ≡ write.writes m → When ed f o c m
+      verdict-by (MarkupBreaks p) l s e = never e
+      verdict-by StructureBreaks l s e = never e
+      verdict-by (FieldBreaks p x) l s e = never e
+      verdict-by (Stands at) l s e = fit-by at l s (outcomesFit (flowOrders y f at) o && callerOk c) refl e
 
-    length-by : (b : Bool) → leb (length f) maxFlow ≡ b → cond b (writingOf f o c (verdictOf f)) (write.refused answer.TooLong) ≡ write.writes m → When f o c m
-    length-by true h e = verdict-by (verdictOf f) (leb-true (length f) maxFlow h) refl e
-    length-by false h e = never e
+      length-by : (b : Bool) → leb (length f) maxFlow ≡ b → cond b (writingOf y f o c (verdictOf y f)) (write.refused answer.TooLong) ≡ write.writes m → When ed f o c m
+      length-by true h e = verdict-by (verdictOf y f) (leb-true (length f) maxFlow h) refl e
+      length-by false h e = never e
+
+    edition-by : (x : Edited) → editionOf ed ≡ x → writeBy f o c x ≡ write.writes m → When ed f o c m
+    edition-by (By y) i e = length-by y i (leb (length f) maxFlow) refl e
+    edition-by NoEdition i e = never e
 
 -- no refusal is Written
 abbrev isRefusal : WriteAnswer → Bool
+isRefusal answer.UnknownEdition = true
 isRefusal answer.TooLong = true
 isRefusal answer.BrokenMarkup = true
 isRefusal answer.BrokenStructure = true
@@ -78,29 +90,33 @@ abbrev refusesWell : Writing → Bool
 refusesWell (write.refused a) = isRefusal a
 refusesWell (write.writes m) = true
 
-refuses-well : (f o : List ℕ) (c : Caller) → refusesWell (writeReads f o c) ≡ true
-unfolding writeReads
-refuses-well f o c = length-by (leb (length f) maxFlow)
+refuses-well : (ed : ℕ) (f o : List ℕ) (c : Caller) → refusesWell (writeReads ed f o c) ≡ true
+unfolding writeIn
+refuses-well ed f o c = edition-by (editionOf ed)
   where
-    fit-by : (at : ℕ) (b : Bool) → refusesWell (cond b (write.writes (flowMessage f at o c)) (write.refused answer.Unfit)) ≡ true
-    fit-by at true = refl
-    fit-by at false = refl
+    fit-by : (y : Edition) (at : ℕ) (b : Bool) → refusesWell (cond b (write.writes (flowMessage y f at o c)) (write.refused answer.Unfit)) ≡ true
+    fit-by y at true = refl
+    fit-by y at false = refl
 
-    verdict-by : (v : Verdict) → refusesWell (writingOf f o c v) ≡ true
-    verdict-by (MarkupBreaks p) = refl
-    verdict-by StructureBreaks = refl
-    verdict-by (FieldBreaks p x) = refl
-    verdict-by (Stands at) = fit-by at (outcomesFit (flowOrders f at) o && callerOk c)
+    verdict-by : (y : Edition) (v : Verdict) → refusesWell (writingOf y f o c v) ≡ true
+    verdict-by y (MarkupBreaks p) = refl
+    verdict-by y StructureBreaks = refl
+    verdict-by y (FieldBreaks p x) = refl
+    verdict-by y (Stands at) = fit-by y at (outcomesFit (flowOrders y f at) o && callerOk c)
 
-    length-by : (b : Bool) → refusesWell (cond b (writingOf f o c (verdictOf f)) (write.refused answer.TooLong)) ≡ true
-    length-by true = verdict-by (verdictOf f)
-    length-by false = refl
+    length-by : (y : Edition) (b : Bool) → refusesWell (cond b (writingOf y f o c (verdictOf y f)) (write.refused answer.TooLong)) ≡ true
+    length-by y true = verdict-by y (verdictOf y f)
+    length-by y false = refl
+
+    edition-by : (x : Edited) → refusesWell (writeBy f o c x) ≡ true
+    edition-by (By y) = length-by y (leb (length f) maxFlow)
+    edition-by NoEdition = refl
 
 -- a message that is read is well-formed
-pub read-xml : {s : List ℕ} {r : MessageReading} → MessageOf s r → (m : Message) → r ≡ read m → WellFormedXML s
+pub read-xml : {y : Edition} {s : List ℕ} {r : MessageReading} → MessageOf y s r → (m : Message) → r ≡ read m → WellFormedXML s
 read-xml (too-long l) m e = let z : _≡_ {A = ℕ} 0 1 = cc in absurd (omega arith)
 read-xml (no-tree l n) m e = let z : _≡_ {A = ℕ} 0 1 = cc in absurd (omega arith)
-read-xml {s} (on-tree l t h) m e = flow-well-formed s (t .0)
+read-xml {y} {s} (on-tree l t h) m e = flow-well-formed s (t .0)
 
 -- bytes put at the front, and those past them
 pub front : (b v : List ℕ) → take (length v) (put b 0 v) ≡ v
@@ -112,16 +128,18 @@ unfolding put
 behind b v = drop-at v (drop (0 + length v) b) (length v) refl ∙ ap (λ (k : ℕ). drop k b) (zero-add (length v))
 
 -- WRITTEN
-module _ (f o : List ℕ) (c : Caller) (b u : List ℕ) (n : ℕ) (m : Message) (w : When f o c m) (e : n ≡ length (messageBytes m)) (l : n ≤ length b) (p : u ≡ put b 0 (messageBytes m)) where
-  out : WrittenOut f o c b u n
+module _ (ed : ℕ) (f o : List ℕ) (c : Caller) (b u : List ℕ) (n : ℕ) (m : Message) (w : When ed f o c m) (e : n ≡ length (messageBytes m)) (l : n ≤ length b) (p : u ≡ put b 0 (messageBytes m)) where
+  out : WrittenOut ed f o c b u n
   out =
       let k = w .is in
-      let ok = written-ok f (w .begins) (w .stands) o c (w .fits) (w .caller) in
-      let s = message-short (flowMessage f (w .begins) o c) ok in
-      let r = from-read f (w .begins) (w .stands) o c (w .fits) (w .caller) in
-      let z : n ≡ length (messageBytes (flowMessage f (w .begins) o c)) = e ∙ ap (λ (x : Message). length (messageBytes x)) (sym k) in
-      let t : take n u ≡ messageBytes (flowMessage f (w .begins) o c) = ap (λ (x : ℕ). take x u) e ∙ ap (take (length (messageBytes m))) p ∙ front b (messageBytes m) ∙ ap messageBytes (sym k) in
+      let ok = written-ok (w .edition) f (w .begins) (w .stands) o c (w .fits) (w .caller) in
+      let s = message-short (flowMessage (w .edition) f (w .begins) o c) ok in
+      let r : (y : Edition) → MessageOf y (messageBytes (flowMessage (w .edition) f (w .begins) o c)) (read (flowMessage (w .edition) f (w .begins) o c)) = λ y. from-read (w .edition) y f (w .begins) (w .stands) o c (w .fits) (w .caller) in
+      let z : n ≡ length (messageBytes (flowMessage (w .edition) f (w .begins) o c)) = e ∙ ap (λ (x : Message). length (messageBytes x)) (sym k) in
+      let t : take n u ≡ messageBytes (flowMessage (w .edition) f (w .begins) o c) = ap (λ (x : ℕ). take x u) e ∙ ap (take (length (messageBytes m))) p ∙ front b (messageBytes m) ∙ ap messageBytes (sym k) in
       record {
+        edition = w .edition;
+        numbered = w .numbered;
         short = w .short;
         begins = w .begins;
         stands = w .stands;
@@ -131,29 +149,29 @@ module _ (f o : List ℕ) (c : Caller) (b u : List ℕ) (n : ℕ) (m : Message) 
         size = z;
         room = l;
         past = subst (λ (x : ℕ). drop x u ≡ drop x b) (sym e) (ap (drop (length (messageBytes m))) p ∙ behind b (messageBytes m));
-        reads = subst (λ (x : List ℕ). MessageOf x (read (flowMessage f (w .begins) o c))) (sym t) r;
+        reads = λ y. subst (λ (x : List ℕ). MessageOf y x (read (flowMessage (w .edition) f (w .begins) o c))) (sym t) (r y);
         readable = omega arith;
-        xml = subst WellFormedXML (sym t) (read-xml r (flowMessage f (w .begins) o c) refl);
+        xml = subst WellFormedXML (sym t) (read-xml (r (w .edition)) (flowMessage (w .edition) f (w .begins) o c) refl);
       }
 
 pub written : WrittenSaid
-written f o c b u n (a, p) = go (writeReads f o c) refl a p
+written ed f o c b u n (a, p) = go (writeReads ed f o c) refl a p
   where
-    go : (w : Writing) → writeReads f o c ≡ w → answer.Written n ≡ writeAnswer (length b) w → u ≡ writeBuffer b w → WrittenOut f o c b u n
+    go : (w : Writing) → writeReads ed f o c ≡ w → answer.Written n ≡ writeAnswer (length b) w → u ≡ writeBuffer b w → WrittenOut ed f o c b u n
     go (write.refused x) e a p =
-        let r : isRefusal x ≡ true = rw e at (refuses-well f o c) in
+        let r : isRefusal x ≡ true = rw e at (refuses-well ed f o c) in
         let z : false ≡ true = rw (← a) at r in
         let y : _≡_ {A = ℕ} 0 1 = cc in
         absurd (omega arith)
     go (write.writes m) e a p = room-by (leb (length (messageBytes m)) (length b)) refl a p
       where
         room-by : (g : Bool) → leb (length (messageBytes m)) (length b) ≡ g → answer.Written n ≡ cond g (answer.Written (length (messageBytes m))) answer.NoRoom
-            → u ≡ cond g (put b 0 (messageBytes m)) b → WrittenOut f o c b u n
-        room-by true h a p = let z : n ≡ length (messageBytes m) = cc in let l = leb-true (length (messageBytes m)) (length b) h in out f o c b u n m (when f o c m e) z (omega (arith, l)) p
+            → u ≡ cond g (put b 0 (messageBytes m)) b → WrittenOut ed f o c b u n
+        room-by true h a p = let z : n ≡ length (messageBytes m) = cc in let l = leb-true (length (messageBytes m)) (length b) h in out ed f o c b u n m (when ed f o c m e) z (omega (arith, l)) p
         room-by false h a p = let y : _≡_ {A = ℕ} 0 1 = cc in absurd (omega arith)
 
 pub refused-kept : RefusedKept
-refused-kept f o c b u x (a, p) k = go (writeReads f o c) a p
+refused-kept ed f o c b u x (a, p) k = go (writeReads ed f o c) a p
   where
     go : (w : Writing) → x ≡ writeAnswer (length b) w → u ≡ writeBuffer b w → u ≡ b
     go (write.refused y) a p = p
@@ -168,8 +186,8 @@ reply-same e h = λ i. record { code = e i; length = h i }
 
 pub no-second : NoSecondWriting
 no-second = record {
-  write = λ f o c b x y u v (p, q) (r, s). (p ∙ sym r, q ∙ sym s);
-  replies = λ f o c b m n u v (x, (p, q), i, j) (y, (r, s), k, l).
+  write = λ ed f o c b x y u v (p, q) (r, s). (p ∙ sym r, q ∙ sym s);
+  replies = λ ed f o c b m n u v (x, (p, q), i, j) (y, (r, s), k, l).
       let z : x ≡ y = p ∙ sym r in
       (reply-same (i ∙ ap (λ t. writeReply t .code) z ∙ sym k) (j ∙ ap (λ t. writeReply t .length) z ∙ sym l), q ∙ sym s);
 }

@@ -1,35 +1,44 @@
-use borrow.Author.Needs.{needs}
-use Rattle.markup.proofs.Noted.{noted-none}
-use Rattle.message_read.proofs.Book.{long-promise}
+use mathlib.Core.Path.{sym, _∙_}
+use Rattle.message_read.specs.Promise.{no-edition, by-edition}
 use borrow.Author.Needs.{needs}
 use Rattle.message_read.proofs.read_message.Statement.{statement}
 use Rattle.message_read.proofs.read_message.Tie as tie
+use Rattle.message_read.proofs.read_message.Reads as reads
+use Rattle.message_read.proofs.read_message.Lts as lts
+
+edition-of-requires : tie.Need-edition-of-requires
+edition-of-requires c κs = search needs
+
+enum-known-e : tie.Need-enum-known-e
+enum-known-e c = search needs
+
+enum-told : tie.Need-enum-told
+enum-told c = search needs
 
 refusal-requires : tie.Need-refusal-requires
 refusal-requires c κs = search needs
 
 returns : tie.Need-returns
-returns c = long-promise (c .before .before .before .before .args .s .now) (c .before .before .before .before .args .values .now) (c .before .if1 .taken) _ (c .refusal .ensures)
+returns c = rw (c .refusal .ensures) (no-edition (sym (c .before .before .before .edition-of .ensures) ∙ c .before .enum-told .given .1))
 
-slice-aggregate-read-noted : tie.Need-slice-aggregate-read-noted
-slice-aggregate-read-noted c = search needs
-
-read-noted-requires : tie.Need-read-noted-requires
-read-noted-requires c κs = (c .before .before .if1 .left, noted-none (c .before .before .before .before .before .args .s .now) 16385)
+read-in-requires : tie.Need-read-in-requires
+read-in-requires c κs = search needs
 
 same-length : tie.Need-same-length
 same-length c = search needs
 
 returns-2 : tie.Need-returns-2
-returns-2 c = search needs
+returns-2 c = by-edition (sym (c .before .before .before .before .before .before .before .edition-of .ensures) ∙ c .before .before .before .before .before .e .given .1) (c .before .before .read-in .ensures)
 
 pub read-message-spec : {M : Type 1} → statement M
 read-message-spec =
     tie.close
     (tie.spec
+    edition-of-requires
+    enum-known-e
+    enum-told
     refusal-requires
     returns
-    slice-aggregate-read-noted
-    read-noted-requires
+    read-in-requires
     same-length
     returns-2)

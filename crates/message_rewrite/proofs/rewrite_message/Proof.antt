@@ -1,47 +1,44 @@
-use mathlib.Core.Path.{refl}
-use native.Mathlib.Omega.{arith}
-use lib.ListN.{length}
-use Prim.Native.Nat.{_≤_}
-use Rattle.message_rewrite.proofs.Call.{read-refused, read-done, ready-done}
+use mathlib.Core.Path.{sym, _∙_}
+use Rattle.message_rewrite.specs.Promise.{no-edition, by-edition}
 use borrow.Author.Needs.{needs}
 use Rattle.message_rewrite.proofs.rewrite_message.Statement.{statement}
 use Rattle.message_rewrite.proofs.rewrite_message.Tie as tie
+use Rattle.message_rewrite.proofs.rewrite_message.Reads as reads
+use Rattle.message_rewrite.proofs.rewrite_message.Lts as lts
 
-slice-aggregate-read-message : tie.Need-slice-aggregate-read-message
-slice-aggregate-read-message c = search needs
+edition-of-requires : tie.Need-edition-of-requires
+edition-of-requires c κs = search needs
 
-read-message-requires : tie.Need-read-message-requires
-read-message-requires c κs = search needs
+enum-known-e : tie.Need-enum-known-e
+enum-known-e c = search needs
+
+enum-told : tie.Need-enum-told
+enum-told c = search needs
 
 no-message-requires : tie.Need-no-message-requires
 no-message-requires c κs = search needs
 
 returns : tie.Need-returns
-returns c = read-refused (c .before .before .before .before .before .before .before .before .args .s .now) (c .before .before .before .before .before .before .before .before .args .b .now) (c .before .before .before .before .read-message .ensures) refl (c .before .if1 .taken) (c .no-message .ensures)
+returns c = rw (c .no-message .ensures) (no-edition (sym (c .before .before .before .edition-of .ensures) ∙ c .before .enum-told .given .1))
 
-slice-aggregate-counted : tie.Need-slice-aggregate-counted
-slice-aggregate-counted c = search needs
-
-counted-requires : tie.Need-counted-requires
-counted-requires c κs =
-    let d = (read-done (c .before .before .before .before .before .before .before .before .before .args .s .now) (c .before .before .before .before .before .read-message .ensures) (let g = c .before .before .before .before .values2 .given in omega arith) (c .before .before .if1 .left)) in
-    (d .there, d .all, d .room)
+rewrite-in-requires : tie.Need-rewrite-in-requires
+rewrite-in-requires c κs = search needs
 
 same-length : tie.Need-same-length
 same-length c = search needs
 
 returns-2 : tie.Need-returns-2
-returns-2 c = ready-done (c .before .before .before .before .before .before .before .before .before .before .before .before .args .s .now) (c .before .before .before .before .before .before .before .before .read-message .last .1 .0) (c .before .before .before .before .before .before .before .before .before .before .before .before .args .b .now) (c .before .before .counted .last .0) (c .before .before .before .before .before .before .before .before .read-message .result .entries) (c .before .before .counted .result) (read-done (c .before .before .before .before .before .before .before .before .before .before .before .before .args .s .now) (c .before .before .before .before .before .before .before .before .read-message .ensures) (let g = c .before .before .before .before .before .before .before .values2 .given in omega arith) (c .before .before .before .before .before .if1 .left)) (c .before .before .counted .ensures)
+returns-2 c = by-edition (sym (c .before .before .before .before .before .before .before .edition-of .ensures) ∙ c .before .before .before .before .before .e .given .1) (c .before .before .rewrite-in .ensures)
 
 pub rewrite-message-spec : {M : Type 1} → statement M
 rewrite-message-spec =
     tie.close
     (tie.spec
-    slice-aggregate-read-message
-    read-message-requires
+    edition-of-requires
+    enum-known-e
+    enum-told
     no-message-requires
     returns
-    slice-aggregate-counted
-    counted-requires
+    rewrite-in-requires
     same-length
     returns-2)

@@ -1,29 +1,33 @@
-use mathlib.Core.Path.{sym, _∙_}
-use native.Mathlib.Omega.{arith}
-use Rattle.rows.specs.declared.Parent.the-variants.{FlussoOrdinativi}
-use Rattle.orders.proofs.Laws.{found, found-some}
+use mathlib.Core.Path.{subst}
+use Rattle.editions.specs.declared.Edition.{Edition}
+use Rattle.orders.specs.Shape.{Filled}
+use Rattle.header.specs.Header.{rootOf}
+use Rattle.header.specs.Heading.{rootRows}
+use borrow.Author.Needs.{needs}
 use Rattle.message_write.proofs.name_of.Statement.{statement}
 use Rattle.message_write.proofs.name_of.Tie as tie
+use Rattle.message_write.proofs.name_of.Reads as reads
+use Rattle.message_write.proofs.name_of.Lts as lts
 
-first-named-requires : tie.Need-first-named-requires
-first-named-requires c κs = (c .before .before .pre .0 .within, c .before .before .pre .1, found-some 3 FlussoOrdinativi (c .before .before .args .f .now) 0 (c .before .before .args .from) (c .before .before .pre .0))
+enum-told : tie.Need-enum-told
+enum-told c = search needs
 
-first-named-requires-2 : tie.Need-first-named-requires-2
-first-named-requires-2 c κs = ((found 3 FlussoOrdinativi (c .before .before .before .before .args .f .now) 0 (c .before .before .before .before .args .from) (c .before .before .before .before .pre .0) (c .before .first-named .result) (c .before .first-named .ensures)) .lies .within, c .before .before .before .before .pre .1, found-some 3 FlussoOrdinativi (c .before .before .before .before .args .f .now) 1 (c .before .first-named .result .child .after) ((found 3 FlussoOrdinativi (c .before .before .before .before .args .f .now) 0 (c .before .before .before .before .args .from) (c .before .before .before .before .pre .0) (c .before .first-named .result) (c .before .first-named .ensures)) .on))
+second-from-requires : tie.Need-second-from-requires
+second-from-requires c κs = (record { depth = 3; others = _; filled = subst (λ (e : Edition). Filled (rootRows e) 3 (rootOf e) (c .before .before .before .before .args .f .now) 0 (c .before .before .before .before .args .from)) (c .enum-told .given .1) (c .before .before .before .before .pre .0) }, c .before .before .before .before .pre .1)
 
-add-t8 : tie.Need-add-t8
-add-t8 c = let l = (found 3 FlussoOrdinativi (c .before .before .before .before .before .before .before .args .f .now) 1 (c .before .before .before .before .first-named .result .child .after) ((found 3 FlussoOrdinativi (c .before .before .before .before .before .before .before .args .f .now) 0 (c .before .before .before .before .before .before .before .args .from) (c .before .before .before .before .before .before .before .pre .0) (c .before .before .before .before .first-named .result) (c .before .before .before .before .first-named .ensures)) .on) (c .before .before .first-named2 .result) (c .before .before .first-named2 .ensures)) .lies in let g = c .before .before .before .before .before .before .before .good .0 .0 in omega arith
+enum-told-2 : tie.Need-enum-told-2
+enum-told-2 c = search needs
+
+nested-name-requires : tie.Need-nested-name-requires
+nested-name-requires c κs = (subst (λ (e : Edition). Filled (rootRows e) 3 (rootOf e) (c .before .before .before .before .args .f .now) 0 (c .before .before .before .before .args .from)) (c .enum-told2 .given .1) (c .before .before .before .before .pre .0), c .before .before .before .before .pre .1)
 
 returns : tie.Need-returns
-returns c =
-    let l = (found 3 FlussoOrdinativi (c .before .before .before .before .before .before .before .args .f .now) 1 (c .before .before .before .before .first-named .result .child .after) ((found 3 FlussoOrdinativi (c .before .before .before .before .before .before .before .args .f .now) 0 (c .before .before .before .before .before .before .before .args .from) (c .before .before .before .before .before .before .before .pre .0) (c .before .before .before .before .first-named .result) (c .before .before .before .before .first-named .ensures)) .on) (c .before .before .first-named2 .result) (c .before .before .first-named2 .ensures)) .lies in
-    (sym ((found 3 FlussoOrdinativi (c .before .before .before .before .before .before .before .args .f .now) 0 (c .before .before .before .before .before .before .before .args .from) (c .before .before .before .before .before .before .before .pre .0) (c .before .before .before .before .first-named .result) (c .before .before .before .before .first-named .ensures)) .texts 1 (omega arith) ∙ (found 3 FlussoOrdinativi (c .before .before .before .before .before .before .before .args .f .now) 1 (c .before .before .before .before .first-named .result .child .after) ((found 3 FlussoOrdinativi (c .before .before .before .before .before .before .before .args .f .now) 0 (c .before .before .before .before .before .before .before .args .from) (c .before .before .before .before .before .before .before .pre .0) (c .before .before .before .before .first-named .result) (c .before .before .before .before .first-named .ensures)) .on) (c .before .before .first-named2 .result) (c .before .before .first-named2 .ensures)) .text), l .inner, omega arith)
+returns c = rw (c .before .enum-told .given .1) (c .second-from .ensures)
+
+returns-2 : tie.Need-returns-2
+returns-2 c = rw (c .before .enum-told2 .given .1) (c .nested-name .ensures)
 
 pub name-of-spec : {M : Type 1} → statement M
 name-of-spec =
     tie.close
-    (tie.spec
-    first-named-requires
-    first-named-requires-2
-    add-t8
-    returns)
+    (tie.spec enum-told second-from-requires enum-told-2 nested-name-requires returns returns-2)

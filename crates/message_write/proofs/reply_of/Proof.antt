@@ -1,6 +1,8 @@
 use borrow.Author.Needs.{needs}
 use Rattle.message_write.proofs.reply_of.Statement.{statement}
 use Rattle.message_write.proofs.reply_of.Tie as tie
+use Rattle.message_write.proofs.reply_of.Reads as reads
+use Rattle.message_write.proofs.reply_of.Lts as lts
 
 enum-told : tie.Need-enum-told
 enum-told c = search needs
@@ -38,6 +40,12 @@ enum-told-6 c = search needs
 no-message-requires-6 : tie.Need-no-message-requires-6
 no-message-requires-6 c κs = search needs
 
+enum-told-7 : tie.Need-enum-told-7
+enum-told-7 c = search needs
+
+no-message-requires-7 : tie.Need-no-message-requires-7
+no-message-requires-7 c κs = search needs
+
 enum-known-a : tie.Need-enum-known-a
 enum-known-a c = search needs
 
@@ -62,6 +70,9 @@ returns-6 c = search needs
 returns-7 : tie.Need-returns-7
 returns-7 c = search needs
 
+returns-8 : tie.Need-returns-8
+returns-8 c = search needs
+
 pub reply-of-spec : {M : Type 1} → statement M
 reply-of-spec =
     tie.close
@@ -78,6 +89,8 @@ reply-of-spec =
     no-message-requires-5
     enum-told-6
     no-message-requires-6
+    enum-told-7
+    no-message-requires-7
     enum-known-a
     returns
     returns-2
@@ -85,4 +98,5 @@ reply-of-spec =
     returns-4
     returns-5
     returns-6
-    returns-7)
+    returns-7
+    returns-8)

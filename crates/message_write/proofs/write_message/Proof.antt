@@ -1,47 +1,41 @@
-use Rattle.markup.proofs.Noted.{noted-none}
+use mathlib.Core.Path.{sym, _∙_}
 use Rattle.message_fit.specs.Fit.{callerBy}
-use Rattle.message_write.proofs.Laws.{write-long}
+use Rattle.message_write.proofs.Laws.{write-unknown, write-known}
 use borrow.Author.Needs.{needs}
 use Rattle.message_write.proofs.write_message.Statement.{statement}
 use Rattle.message_write.proofs.write_message.Tie as tie
+use Rattle.message_write.proofs.write_message.Reads as reads
+use Rattle.message_write.proofs.write_message.Lts as lts
+
+edition-of-requires : tie.Need-edition-of-requires
+edition-of-requires c κs = search needs
+
+enum-known-e : tie.Need-enum-known-e
+enum-known-e c = search needs
+
+enum-told : tie.Need-enum-told
+enum-told c = search needs
 
 returns : tie.Need-returns
-returns c = write-long (c .before .before .before .before .before .before .before .before .before .before .before .before .before .args .f .now) (c .before .before .before .before .before .before .before .before .before .before .before .before .before .args .out .now) (callerBy (c .before .before .before .before .before .before .before .before .before .before .before .before .before .args .created .now) (c .before .before .before .before .before .before .before .before .before .before .before .before .before .args .outcome .now) (c .before .before .before .before .before .before .before .before .before .before .before .before .before .args .ente .now) (c .before .before .before .before .before .before .before .before .before .before .before .before .before .args .described .now) (c .before .before .before .before .before .before .before .before .before .before .before .before .before .args .istat .now) (c .before .before .before .before .before .before .before .before .before .before .before .before .before .args .fiscal .now) (c .before .before .before .before .before .before .before .before .before .before .before .before .before .args .tramite .now) (c .before .before .before .before .before .before .before .before .before .before .before .before .before .args .bank .now) (c .before .before .before .before .before .before .before .before .before .before .before .before .before .args .flow .now)) (c .before .before .before .before .before .before .before .before .before .before .before .before .before .args .m .now) (c .if1 .taken)
+returns c = write-unknown (c .before .before .before .before .before .before .before .before .before .before .before .before .before .before .before .args .f .now) (c .before .before .before .before .before .before .before .before .before .before .before .before .before .before .before .args .out .now) (callerBy (c .before .before .before .before .before .before .before .before .before .before .before .before .before .before .before .args .created .now) (c .before .before .before .before .before .before .before .before .before .before .before .before .before .before .before .args .outcome .now) (c .before .before .before .before .before .before .before .before .before .before .before .before .before .before .before .args .ente .now) (c .before .before .before .before .before .before .before .before .before .before .before .before .before .before .before .args .described .now) (c .before .before .before .before .before .before .before .before .before .before .before .before .before .before .before .args .istat .now) (c .before .before .before .before .before .before .before .before .before .before .before .before .before .before .before .args .fiscal .now) (c .before .before .before .before .before .before .before .before .before .before .before .before .before .before .before .args .tramite .now) (c .before .before .before .before .before .before .before .before .before .before .before .before .before .before .before .args .bank .now) (c .before .before .before .before .before .before .before .before .before .before .before .before .before .before .before .args .flow .now)) (c .before .before .before .before .before .before .before .before .before .before .before .before .before .before .before .args .m .now) (c .before .before .before .before .before .before .before .before .before .before .before .before .before .before .before .args .edition) (sym (c .before .before .edition-of .ensures) ∙ c .enum-told .given .1)
 
-slice-aggregate-write-noted : tie.Need-slice-aggregate-write-noted
-slice-aggregate-write-noted c = search needs
-
-write-noted-requires : tie.Need-write-noted-requires
-write-noted-requires c κs = (c .before .before .before .if1 .left, noted-none (c .before .before .before .before .before .before .before .before .before .before .before .before .before .before .before .before .args .f .now) 1024)
+write-in-requires : tie.Need-write-in-requires
+write-in-requires c κs = search needs
 
 same-length : tie.Need-same-length
 same-length c = search needs
 
 returns-2 : tie.Need-returns-2
-returns-2 c = c .before .before .before .write-noted .ensures
-
-slice-aggregate-write-noted-2 : tie.Need-slice-aggregate-write-noted-2
-slice-aggregate-write-noted-2 c = search needs
-
-write-noted-requires-2 : tie.Need-write-noted-requires-2
-write-noted-requires-2 c κs = (c .before .before .before .if1 .left, noted-none (c .before .before .before .before .before .before .before .before .before .before .before .before .before .before .before .before .args .f .now) 8193)
-
-same-length-2 : tie.Need-same-length-2
-same-length-2 c = search needs
-
-returns-3 : tie.Need-returns-3
-returns-3 c = c .before .before .before .write-noted2 .ensures
+returns-2 c = write-known (c .before .before .before .before .before .before .before .before .before .before .before .before .before .before .before .before .before .before .before .before .args .f .now) (c .before .before .before .before .before .before .before .before .before .before .before .before .before .before .before .before .before .before .before .before .args .out .now) (callerBy (c .before .before .before .before .before .before .before .before .before .before .before .before .before .before .before .before .before .before .before .before .args .created .now) (c .before .before .before .before .before .before .before .before .before .before .before .before .before .before .before .before .before .before .before .before .args .outcome .now) (c .before .before .before .before .before .before .before .before .before .before .before .before .before .before .before .before .before .before .before .before .args .ente .now) (c .before .before .before .before .before .before .before .before .before .before .before .before .before .before .before .before .before .before .before .before .args .described .now) (c .before .before .before .before .before .before .before .before .before .before .before .before .before .before .before .before .before .before .before .before .args .istat .now) (c .before .before .before .before .before .before .before .before .before .before .before .before .before .before .before .before .before .before .before .before .args .fiscal .now) (c .before .before .before .before .before .before .before .before .before .before .before .before .before .before .before .before .before .before .before .before .args .tramite .now) (c .before .before .before .before .before .before .before .before .before .before .before .before .before .before .before .before .before .before .before .before .args .bank .now) (c .before .before .before .before .before .before .before .before .before .before .before .before .before .before .before .before .before .before .before .before .args .flow .now)) (c .before .before .before .before .before .before .before .before .before .before .before .before .before .before .before .before .before .before .before .before .args .m .now) (c .before .before .before .before .before .before .before .before .before .before .before .before .before .before .before .before .before .before .before .before .args .edition) (sym (c .before .before .before .before .before .before .before .edition-of .ensures) ∙ c .before .before .before .before .before .e .given .1) (c .before .before .write-in .ensures)
 
 pub write-message-spec : {M : Type 1} → statement M
 write-message-spec =
     tie.close
     (tie.spec
+    edition-of-requires
+    enum-known-e
+    enum-told
     returns
-    slice-aggregate-write-noted
-    write-noted-requires
+    write-in-requires
     same-length
-    returns-2
-    slice-aggregate-write-noted-2
-    write-noted-requires-2
-    same-length-2
-    returns-3)
+    returns-2)
