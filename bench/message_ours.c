@@ -12,7 +12,7 @@
 static unsigned write_message(const struct letter *letter, uint8_t *to)
 {
     uint64_t length;
-    hondivole_message_write(letter->flow.bytes, letter->flow.length, letter->outcomes, sizeof letter->outcomes,
+    hondivole_message_write(1, letter->flow.bytes, letter->flow.length, letter->outcomes, sizeof letter->outcomes,
                             TEXT("2021-03-01T09:31:00+01:00"), TEXT("2021-03-01T09:30:30+01:00"), TEXT("UFABCD"),
                             TEXT("I.C. Giovanni Pascoli"), TEXT(""), TEXT("80012345678"), TEXT("A2A-12345678"), TEXT("A2A-87654321"),
                             TEXT("BT-238444"), to, LONGEST_MESSAGE, &length);
@@ -23,14 +23,14 @@ static unsigned read_message(const struct letter *letter)
 {
     static uint8_t values[HONDIVOLE_MOST_VALUES_BYTES];
     uint64_t entries, place, cause;
-    hondivole_message_read(letter->message, letter->length, values, sizeof values, &entries, &place, &cause);
+    hondivole_message_read(1, letter->message, letter->length, values, sizeof values, &entries, &place, &cause);
     return (unsigned)entries;
 }
 
 static unsigned rewrite_message(const struct letter *letter, uint8_t *to)
 {
     uint64_t length;
-    hondivole_message_rewrite(letter->message, letter->length, to, LONGEST_MESSAGE, &length);
+    hondivole_message_rewrite(1, letter->message, letter->length, to, LONGEST_MESSAGE, &length);
     return (unsigned)length;
 }
 

@@ -137,9 +137,9 @@ enum {
 #define HONDIVOLE_TOTALS_STACK 8192u
 #define HONDIVOLE_JOURNAL_STACK 32768u
 #define HONDIVOLE_FIELD_AT_STACK 8192u
-#define HONDIVOLE_MESSAGE_WRITE_STACK 65536u
-#define HONDIVOLE_MESSAGE_READ_STACK 65536u
-#define HONDIVOLE_MESSAGE_REWRITE_STACK 65536u
+#define HONDIVOLE_MESSAGE_WRITE_STACK 49152u
+#define HONDIVOLE_MESSAGE_READ_STACK 73728u
+#define HONDIVOLE_MESSAGE_REWRITE_STACK 81920u
 
 /*
  * Opens a table. The request is five ABI digits and then 20 bytes per body: the code's length, the code in 16 bytes with zeros after it,
@@ -237,12 +237,12 @@ void hondivole_field_at(const uint8_t *flow, size_t flow_len, uint64_t place, ui
                         uint64_t *text_len);
 
 /*
- * Writes the outcome message ("messaggio di esito applicativo") of a flow of the edition of that number, 1 or 2, and its outcome bytes; the
- * message is the same from both editions. The caller gives the time of the message's
+ * Writes the outcome message ("messaggio di esito applicativo") of a flow and its outcome bytes; the edition is the flow's, and the message is
+ * the same of both. The caller gives the time of the message's
  * creation and the time of outcome, each as YYYY-MM-DDThh:mm:ss and then Z or a sign and hh:mm to 23:59, and seven texts of 1 to 140 bytes,
  * which are written as given: a text's bytes are UTF-8, with & only as one of the five references. An empty ISTAT code is left out. All
  * reversali stand before all mandati. It answers 0, *length being the message's, at most HONDIVOLE_MOST_WRITTEN_BYTES; bytes of the buffer
- * past it stay. Or it answers the first that applies of 23, no such edition; 2 to 5 for the flow, as hondivole_flow does; 41, when there are under 16 outcome
+ * past it stay. Or it answers the first that applies of 23 (no such edition); 2 to 5 for the flow, as hondivole_flow does; 41, when there are under 16 outcome
  * bytes per order, their kinds, operations, numbers, line counts or totals aren't this flow's, a code is none that an order can get, or a
  * caller's value has a wrong form; and 40, when the buffer is shorter than the message. *length is then 0, and no byte is changed.
  */
@@ -255,22 +255,20 @@ uint64_t hondivole_message_write(uint64_t edition, const uint8_t *flow, size_t f
                                  size_t identificativo_flusso_BT_len, uint8_t *message, size_t message_len, uint64_t *length);
 
 /*
- * Reads an outcome message of at most 65,536 bytes. In edition 2 an Id may stand on its root, which is not shown; in edition 1 it breaks the
- * markup. It answers 0, *entries being how many orders it speaks of (1 to 64), and fills 80 bytes
+ * Reads an outcome message of at most 65,536 bytes, on whose root an Id may stand in edition 2. It answers 0, *entries being how many orders it speaks of (1 to 64), and fills 80 bytes
  * of values and 48 for each entry; bytes past them stay. Numbers have the highest byte first. The 80 are ten pairs of place and length, four
  * bytes each, of texts that stand in the message: codice_ABI_BT, the message's time, codice_ente, descrizione_ente, codice_istat_ente (both
  * 0 where there is none), codice_fiscale_ente, codice_tramite_ente, codice_tramite_BT, codice_ente_BT, identificativo_flusso_BT. Of each 48,
  * byte 0 is the kind, 1 the operation, 2 the code (0 when accepted), 4-5 esercizio, 8-11 number, 12-15 date (year in two, month, day),
  * 16-23 total in cents, 24-31 place and length of identificativo_flusso, 32-39 those of the time of outcome, the rest zero. Or it answers
- * the first that applies of 23, no such edition, 2 (above 65,536 bytes), 3, 4, 5, as hondivole_flow does, with *place and *cause for 5; and 40, when there is no
+ * the first that applies of 23 (no such edition), 2 (above 65,536 bytes), 3, 4, 5, as hondivole_flow does, with *place and *cause for 5; and 40, when there is no
  * room for the values. *entries is then 0, *place and *cause are 0 but for 5, and no byte is changed.
  */
 uint64_t hondivole_message_read(uint64_t edition, const uint8_t *message, size_t message_len, uint8_t *values, size_t values_len,
                                 uint64_t *entries, uint64_t *place, uint64_t *cause);
 
 /*
- * Reads an outcome message as hondivole_message_read does and writes its values anew, as hondivole_message_write would: without an Id, white
- * space, mark, declaration or elements
+ * Reads an outcome message and writes its values anew, as hondivole_message_write would: without white space, mark, declaration or elements
  * that were passed over. Reading what it wrote gives the same values, and what the writer wrote comes out byte for byte. It answers 0,
  * *length being the new message's; or the first that applies of 23 and 2 to 5, as hondivole_message_read does, and 40, when the buffer is shorter
  * than the new message. *length is then 0, and no byte is changed.

@@ -23,10 +23,10 @@ uint64_t all(uint8_t *table, size_t length, const uint8_t *flow, uint64_t *numbe
     code += hondivole_reverse(table, length, flow, 0, HONDIVOLE_REVERSALE, 2021, 1, 1, 2021, 3, 3, numbers);
     code += hondivole_totals(table, length, flow, 0, numbers, numbers + 1, numbers + 2, balance);
     hondivole_field_at(flow, 0, 0, numbers, numbers + 1, numbers + 2, numbers + 3);
-    code += hondivole_message_write(HONDIVOLE_EDITION_OPI, flow, 0, flow, 0, flow, 0, flow, 0, flow, 0, flow, 0, flow, 0, flow, 0, flow, 0, flow, 0, flow, 0, table, length,
+    code += hondivole_message_write(1, flow, 0, flow, 0, flow, 0, flow, 0, flow, 0, flow, 0, flow, 0, flow, 0, flow, 0, flow, 0, flow, 0, table, length,
                                     numbers);
-    code += hondivole_message_read(HONDIVOLE_EDITION_OPI, flow, HONDIVOLE_MOST_MESSAGE_BYTES, table, HONDIVOLE_VALUES_BYTES(1), numbers, numbers + 1, numbers + 2);
-    code += hondivole_message_rewrite(HONDIVOLE_EDITION_OPI, flow, 0, table, HONDIVOLE_MOST_WRITTEN_BYTES, numbers);
+    code += hondivole_message_read(1, flow, HONDIVOLE_MOST_MESSAGE_BYTES, table, HONDIVOLE_VALUES_BYTES(1), numbers, numbers + 1, numbers + 2);
+    code += hondivole_message_rewrite(1, flow, 0, table, HONDIVOLE_MOST_WRITTEN_BYTES, numbers);
     return code + (hondivole_table_bytes(bodies, 2) == HONDIVOLE_TABLE_BYTES(2, 8)) + (hondivole_code_text(code) == hondivole_version()) +
            (hondivole_cause_text(numbers[3]) == hondivole_version());
 }

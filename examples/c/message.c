@@ -24,14 +24,13 @@ static size_t flow_len;
 static void take_flow(void)
 {
     uint8_t request[HONDIVOLE_REQUEST_BYTES(2)];
-    uint64_t place, orders, accepted, cause, steps;
+    uint64_t place, orders, accepted, cause;
     FILE *file = fopen("examples/run.xml", "rb");
     flow_len = file == NULL ? 0 : fread(flow, 1, sizeof flow, file);
     if (file != NULL)
         fclose(file);
     hondivole_open(request, hondivole_request("01234", bodies, 2, request, sizeof request), table, sizeof table);
-    uint64_t code = hondivole_flow(table, sizeof table, HONDIVOLE_EDITION_OIL, flow, flow_len, outcomes, sizeof outcomes, &place, &orders,
-                                   &accepted, &cause, &steps);
+    uint64_t code = hondivole_flow(table, sizeof table, flow, flow_len, outcomes, sizeof outcomes, &place, &orders, &accepted, &cause);
     printf("flow: code %" PRIu64 ", %" PRIu64 " of %" PRIu64 " orders accepted\n", code, accepted, orders);
 }
 
@@ -40,7 +39,7 @@ static void take_flow(void)
 /* Writes the message with this description of the school; the other values are always the same. */
 static uint64_t write_message(const char *description, size_t room, uint64_t *length)
 {
-    return hondivole_message_write(HONDIVOLE_EDITION_OIL, flow, flow_len, outcomes, sizeof outcomes, TEXT("2021-03-01T09:31:00+01:00"),
+    return hondivole_message_write(1, flow, flow_len, outcomes, sizeof outcomes, TEXT("2021-03-01T09:31:00+01:00"),
                                    TEXT("2021-03-01T09:30:30+01:00"), TEXT("UFABCD"), TEXT(description), TEXT(""), TEXT("80012345678"),
                                    TEXT("A2A-12345678"), TEXT("A2A-87654321"), TEXT("BT-238444"), message, room, length);
 }
@@ -76,7 +75,7 @@ int main(void)
     code = write_message("I.C. Giovanni Pascoli", sizeof message, &length);
     printf("written: code %" PRIu64 ", %" PRIu64 " bytes\n%.*s\n", code, length, (int)length, (const char *)message);
 
-    code = hondivole_message_read(HONDIVOLE_EDITION_OIL, message, length, values, sizeof values, &entries, &place, &cause);
+    code = hondivole_message_read(1, message, length, values, sizeof values, &entries, &place, &cause);
     printf("read: code %" PRIu64 ", %" PRIu64 " entries", code, entries);
     print_text(", bank ", values);
     print_text(", body ", values + 64);
@@ -84,14 +83,14 @@ int main(void)
     for (uint64_t i = 0; i < entries; i++)
         print_entry(values + HONDIVOLE_VALUES_BYTES(i));
 
-    code = hondivole_message_rewrite(HONDIVOLE_EDITION_OIL, message, length, again, sizeof again, &again_length);
+    code = hondivole_message_rewrite(1, message, length, again, sizeof again, &again_length);
     int same = again_length == length && memcmp(message, again, length) == 0;
     printf("written again: code %" PRIu64 ", %s\n", code, same ? "the same bytes" : "other bytes");
 
     printf("a byte short: %s\n", hondivole_code_text(write_message("I.C. Giovanni Pascoli", length - 1, &again_length)));
     printf("a bare &: %s\n", hondivole_code_text(write_message("Rossi & Bianchi", sizeof message, &again_length)));
     message[length - 1] = ' ';
-    code = hondivole_message_read(HONDIVOLE_EDITION_OIL, message, length, values, sizeof values, &entries, &place, &cause);
+    code = hondivole_message_read(1, message, length, values, sizeof values, &entries, &place, &cause);
     printf("the last byte changed: code %" PRIu64 "\n", code);
     return 0;
 }

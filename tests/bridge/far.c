@@ -245,8 +245,8 @@ uint64_t hondivole_message_write(uint64_t edition, const uint8_t *flow, size_t f
     return answer.code;
 }
 
-uint64_t hondivole_message_read(uint64_t edition, const uint8_t *read, size_t read_len, uint8_t *values, size_t values_len,
-                                uint64_t *entries, uint64_t *place, uint64_t *cause)
+uint64_t hondivole_message_read(uint64_t edition, const uint8_t *read, size_t read_len, uint8_t *values, size_t values_len, uint64_t *entries,
+                                uint64_t *place, uint64_t *cause)
 {
     struct call call = {.function = MESSAGE_READ, .lengths = {values_len, read_len, 0}, .numbers = {edition}};
     struct answer answer = forward(&call, values, read, none);
@@ -256,7 +256,8 @@ uint64_t hondivole_message_read(uint64_t edition, const uint8_t *read, size_t re
     return answer.code;
 }
 
-uint64_t hondivole_message_rewrite(uint64_t edition, const uint8_t *read, size_t read_len, uint8_t *again, size_t again_len, uint64_t *length)
+uint64_t hondivole_message_rewrite(uint64_t edition, const uint8_t *read, size_t read_len, uint8_t *again, size_t again_len,
+                                   uint64_t *length)
 {
     struct call call = {.function = MESSAGE_REWRITE, .lengths = {again_len, read_len, 0}, .numbers = {edition}};
     struct answer answer = forward(&call, again, read, none);

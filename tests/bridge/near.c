@@ -146,8 +146,8 @@ static void look_over(const struct call *call)
 static uint64_t write_message(uint64_t edition, uint64_t *length)
 {
     const struct pen *p = pens, *v = pens + FIRST_VALUE;
-    return hondivole_message_write(edition, p[INPUT].lent, p[INPUT].length, p[OUTCOMES].lent, p[OUTCOMES].length, v[0].lent, v[0].length,
-                                   v[1].lent, v[1].length, v[2].lent, v[2].length, v[3].lent, v[3].length, v[4].lent, v[4].length, v[5].lent,
+    return hondivole_message_write(edition, p[INPUT].lent, p[INPUT].length, p[OUTCOMES].lent, p[OUTCOMES].length, v[0].lent, v[0].length, v[1].lent,
+                                   v[1].length, v[2].lent, v[2].length, v[3].lent, v[3].length, v[4].lent, v[4].length, v[5].lent,
                                    v[5].length, v[6].lent, v[6].length, v[7].lent, v[7].length, v[8].lent, v[8].length, p[TABLE].lent,
                                    p[TABLE].length, length);
 }

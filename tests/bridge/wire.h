@@ -49,7 +49,7 @@ static inline int writes_outcomes(uint64_t function)
 struct call {
     uint64_t function;
     uint64_t lengths[BUFFERS];
-    uint64_t numbers[7]; /* a notice's kind, esercizio, number, line, year, month and day; a flow's or a message's edition; a field's place; dates */
+    uint64_t numbers[7]; /* a notice's kind, esercizio, number, line, year, month and day; a flow's or message's edition; a field's place; dates */
 };
 
 struct answer {

@@ -162,17 +162,17 @@ static void call_message_write(void)
     static uint8_t text[140];
     size_t time_len = sizeof time - 1, text_len = sizeof text;
     memset(text, 'x', sizeof text);
-    code = hondivole_message_write(HONDIVOLE_EDITION_OIL, flow, flow_len, outcomes, sizeof outcomes, time, time_len, time, time_len, text, text_len, text, text_len,
+    code = hondivole_message_write(1, flow, flow_len, outcomes, sizeof outcomes, time, time_len, time, time_len, text, text_len, text, text_len,
                                    text, text_len, text, text_len, text, text_len, text, text_len, text, text_len, message, sizeof message,
                                    &message_len);
 }
 static void call_message_read(void)
 {
-    code = hondivole_message_read(HONDIVOLE_EDITION_OIL, message, message_len, values, sizeof values, &results[0], &results[1], &results[2]);
+    code = hondivole_message_read(1, message, message_len, values, sizeof values, &results[0], &results[1], &results[2]);
 }
 static void call_message_rewrite(void)
 {
-    code = hondivole_message_rewrite(HONDIVOLE_EDITION_OIL, message, message_len, again, sizeof again, &results[0]);
+    code = hondivole_message_rewrite(1, message, message_len, again, sizeof again, &results[0]);
 }
 
 /* The message brought to the greatest length, and in it elements that are passed over down to the greatest depth. */

@@ -153,3 +153,15 @@ fn every_element_is_shown() {
     assert_eq!(field_at(&RUN[..RUN.len() - 1], 0), None);
     assert_eq!(field_at(RUN, usize::MAX), None);
 }
+
+#[test]
+fn an_opi_flow_is_taken_and_a_body_mixes_editions() {
+    let opi = include_bytes!("../../../examples/c/opi.xml");
+    let (mut table, mut outcomes) = (desk(), [0; MOST_OUTCOME_BYTES]);
+    assert_eq!(table.flow(Edition::Opi, opi, &mut outcomes).unwrap().accepted(), 2);
+    assert_eq!(table.flow(Edition::Oil, opi, &mut outcomes), Err(Refusal::MarkupBreaks));
+    assert_eq!(table.flow(Edition::Opi, RUN, &mut outcomes), Err(Refusal::StructureBreaks));
+    // Its mandato 12 is there already, in whichever edition it came.
+    let verdicts: Vec<_> = table.flow(Edition::Oil, RUN, &mut outcomes).unwrap().outcomes().map(|order| order.verdict).collect();
+    assert_eq!(verdicts, [Err(Refusal::OrderExists), Err(Refusal::LinesDontSum)]);
+}

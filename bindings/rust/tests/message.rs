@@ -1,8 +1,8 @@
 //! Outcome messages through the safe types: written, read, written again, and a refusal of each kind.
 
 use hondivole::{
-    Cause, Date, Edition, Entry, Given, Kind, MOST_VALUES_BYTES, MOST_WRITTEN_BYTES, MessageValues, Operation, Refusal, Table, read_message,
-    rewrite_message, write_message,
+    Cause, Date, Edition, Entry, Given, Kind, MOST_VALUES_BYTES, MOST_WRITTEN_BYTES, MessageValues, Operation, Refusal, Table,
+    read_message, rewrite_message, write_message,
 };
 
 const RUN: &[u8] = include_bytes!("../src/run.xml");

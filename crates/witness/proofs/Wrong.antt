@@ -15,7 +15,7 @@ use Rattle.valid.proofs.Valid.{Valid, ok-line}
 use Rattle.slots.specs.Slots.{recordsAt}
 use Rattle.body.proofs.Slots.{valid-at}
 use Rattle.entries.specs.Entry.{slotsOf, placeOf}
-use Rattle.table.specs.Table.{tableOk, entryOf}
+use Rattle.table.specs.Table.{tableOk, bodyOf, entryOf}
 use Rattle.editions.specs.declared.Edition.{Edition}
 use Rattle.editions.specs.declared.Edition.the-variants.{Oil}
 use Rattle.editions.specs.declared.Edited.{Edited}
@@ -37,7 +37,7 @@ use Rattle.order.specs.Ordinativo.{Ordinativo}
 use Rattle.flow.specs.declared.Verdict.{Verdict}
 use Rattle.fields.specs.declared.Cause.{Cause}
 use Rattle.flow.specs.declared.Verdict.the-variants.{FieldBreaks, Stands}
-use Rattle.flow.specs.Flow.{headerOf}
+use Rattle.flow.specs.Flow.{headerOf, flowOrders}
 use Rattle.rules.specs.Listed.{Has, Applies, sostituzione, misnumbered, missummed, present, full, absent, annulled, executed, differs}
 use Rattle.rules.specs.Rules.{keyFor, nth, judgeOrder, orderCode}
 use Rattle.rules.specs.Effects.{recordsBy, allRecords}
@@ -236,7 +236,10 @@ module _ (T : Taker) (keeps : Keeps T) where
     here-place = one-place (rw here-edition at (w .stands)) (here-taken .stands)
 
     here-body : w .body ≡ here-taken .body
-    here-body = one-body (rw (here-edition, here-place) at (w .named)) (here-taken .named)
+    here-body = one-body (sym (λ i. bodyOf (w .table) (headerOf (here-edition i) (w .flow) (here-place i) .ente)) ∙ w .named) (here-taken .named)
+
+    here-orders : flowOrders (w .edition) (w .flow) (w .at) ≡ flowOrders (here-taken .edition) (w .flow) (here-taken .at)
+    here-orders i = flowOrders (here-edition i) (w .flow) (here-place i)
 
   -- 19 applies, so that the order isn't accepted
   pub annuls-by-number : AnnulsByNumber T → ⊥
@@ -244,7 +247,7 @@ module _ (T : Taker) (keeps : Keeps T) where
       let w = r .here in
       let k = here-taken w in
       let i = here-place w in
-      let os = rw (here-edition w, i) at (r .orders) in
+      let os = sym (here-orders w) ∙ r .orders in
       let has = has-there (w .table) (w .flow) (r .before) (r .order) (r .old) (here-body w) i (here-edition w) (r .has) in
       let d = code-in-turn (slotsOf (w .table) (entryOf (k .body))) (headerOf (k .edition) (w .flow) (k .at) .esercizio) (r .before) (r .order) (r .others) (bodyRecords (k .body) (w .table)) in
       let c = ap (λ (l : List ℕ). getD l (length (r .before)) 0) (rw os at (k .codes)) in
@@ -261,7 +264,7 @@ module _ (T : Taker) (keeps : Keeps T) where
       let k = here-taken w in
       let i = here-place w in
       let b = here-body w in
-      let c = ap (λ (l : List ℕ). getD l 0 0) (rw (rw (here-edition w, i) at (r .first)) at (k .codes)) in
+      let c = ap (λ (l : List ℕ). getD l 0 0) (rw (sym (here-orders w) ∙ r .first) at (k .codes)) in
       let v = condition2 .answer t (k .valid) (k .body) (found-body t (k .valid) (headerOf (k .edition) (w .flow) (k .at) .ente) (k .body) (k .named)) (headerOf (k .edition) (w .flow) (k .at) .esercizio) (r .order) 15 (λ q. omega arith) .0 (sym c ∙ r .answered) in
       let l = full-body (v .0) refl in
       let m = rw b at (r .empty) in

@@ -24,16 +24,16 @@ fn print(what: &str, parts: &[&[u8]]) {
 /// A message that is written, where the case's values allow it.
 fn written(random: &mut Random) -> Option<()> {
     let table = tables::valid(random);
-    let flow = differential::flows::whole(random, &table, differential::flows::Size::Few);
-    let Call::Write { outcomes, values, .. } = messages::write(random, &table, &flow) else { return None };
+    let (edition, flow) = differential::flows::whole(random, &table, differential::flows::Size::Few);
+    let Call::Write { outcomes, values, .. } = messages::write(random, &table, edition, &flow) else { return None };
     let (mut message, mut read) = (vec![0; 40_000], vec![0; 3_152]);
     let (mut length, mut entries) = (0, 0);
     let given = std::array::from_fn(|place| &values[place][..]);
-    if Tried.message_write(&flow, &outcomes, &given, &mut message, &mut length) != 0 {
+    if Tried.message_write(edition, &flow, &outcomes, &given, &mut message, &mut length) != 0 {
         return None;
     }
     message.truncate(length as usize);
-    let code = Tried.message_read(&message, &mut read, &mut entries, &mut 0, &mut 0);
+    let code = Tried.message_read(1, &message, &mut read, &mut entries, &mut 0, &mut 0);
     assert_eq!(code, 0, "what was written can be read");
     read.truncate(80 + 48 * entries as usize);
     let mut parts: Vec<&[u8]> = vec![&flow, &outcomes];
@@ -47,7 +47,7 @@ fn written(random: &mut Random) -> Option<()> {
 fn again(random: &mut Random) -> Option<()> {
     let message = messages::bytes(random);
     let (mut again, mut length) = (vec![0; 40_000], 0);
-    if Tried.message_rewrite(&message, &mut again, &mut length) != 0 {
+    if Tried.message_rewrite(2, &message, &mut again, &mut length) != 0 {
         return None;
     }
     print("again", &[&message, &again[..length as usize]]);

@@ -65,6 +65,8 @@ pub enum Call {
     },
     /// Writes a message into a buffer of `room` bytes.
     Write {
+        /// The edition's number.
+        edition: u64,
         /// The flow.
         flow: Vec<u8>,
         /// Its outcome bytes.
@@ -76,6 +78,8 @@ pub enum Call {
     },
     /// Reads a message into values of `room` bytes.
     Read {
+        /// The edition's number.
+        edition: u64,
         /// The message.
         message: Vec<u8>,
         /// The length of the values.
@@ -83,6 +87,8 @@ pub enum Call {
     },
     /// Reads a message and writes it again into a buffer of `room` bytes.
     Rewrite {
+        /// The edition's number.
+        edition: u64,
         /// The message.
         message: Vec<u8>,
         /// The length of the buffer.
@@ -145,10 +151,13 @@ impl Case {
                 16 + body.len() + numbers.map(digits).iter().sum::<usize>()
             }
             Call::Totals { body } => 16 + body.len(),
-            Call::Write { flow, outcomes, values, room } => {
-                16 + flow.len() + outcomes.len() + values.iter().map(Vec::len).sum::<usize>() + digits(*room as u64)
+            Call::Write { edition, flow, outcomes, values, room } => {
+                let values = values.iter().map(Vec::len).sum::<usize>();
+                16 + flow.len() + outcomes.len() + values + digits(*edition) + digits(*room as u64)
             }
-            Call::Read { message, room } | Call::Rewrite { message, room } => 16 + message.len() + digits(*room as u64),
+            Call::Read { edition, message, room } | Call::Rewrite { edition, message, room } => {
+                16 + message.len() + digits(*edition) + digits(*room as u64)
+            }
             Call::Journal { body, movements } => 16 + body.len() + movements.len(),
         });
         self.table.len() + calls.sum::<usize>()
@@ -211,13 +220,20 @@ impl fmt::Debug for Call {
             Call::Execute { body, notice } => write!(to, "Call::Execute {{ body: {}, notice: {notice:?} }}", literal(body)),
             Call::Reverse { body, notice } => write!(to, "Call::Reverse {{ body: {}, notice: {notice:?} }}", literal(body)),
             Call::Totals { body } => write!(to, "Call::Totals {{ body: {} }}", literal(body)),
-            Call::Write { flow, outcomes, values, room } => {
+            Call::Write { edition, flow, outcomes, values, room } => {
                 let values = values.iter().map(|value| literal(value)).collect::<Vec<_>>().join(", ");
                 let (flow, outcomes) = (literal(flow), literal(outcomes));
-                write!(to, "Call::Write {{ flow: {flow}, outcomes: {outcomes}, values: [{values}], room: {room} }}")
+                write!(
+                    to,
+                    "Call::Write {{ edition: {edition}, flow: {flow}, outcomes: {outcomes}, values: [{values}], room: {room} }}"
+                )
             }
-            Call::Read { message, room } => write!(to, "Call::Read {{ message: {}, room: {room} }}", literal(message)),
-            Call::Rewrite { message, room } => write!(to, "Call::Rewrite {{ message: {}, room: {room} }}", literal(message)),
+            Call::Read { edition, message, room } => {
+                write!(to, "Call::Read {{ edition: {edition}, message: {}, room: {room} }}", literal(message))
+            }
+            Call::Rewrite { edition, message, room } => {
+                write!(to, "Call::Rewrite {{ edition: {edition}, message: {}, room: {room} }}", literal(message))
+            }
             Call::Journal { body, movements } => {
                 write!(to, "Call::Journal {{ body: {}, movements: {} }}", literal(body), literal(movements))
             }
@@ -254,18 +270,18 @@ impl fmt::Display for Call {
             Call::Execute { body, notice: named } => notice(to, "execute", body, named),
             Call::Reverse { body, notice: named } => notice(to, "reverse", body, named),
             Call::Totals { body } => write!(to, "totals body {}", quoted(body)),
-            Call::Write { flow, outcomes, values, room } => {
-                write!(to, "write a message into {room} bytes, outcomes {outcomes:?}")?;
+            Call::Write { edition, flow, outcomes, values, room } => {
+                write!(to, "write a message of edition {edition} into {room} bytes, outcomes {outcomes:?}")?;
                 for (name, value) in GIVEN.iter().zip(values) {
                     write!(to, ", {name} {}", quoted(value))?;
                 }
                 write!(to, ", flow of {} bytes:\n{}", flow.len(), text(flow))
             }
-            Call::Read { message, room } => {
-                write!(to, "read a message of {} bytes, room {room}:\n{}", message.len(), text(message))
+            Call::Read { edition, message, room } => {
+                write!(to, "read a message, edition {edition}, of {} bytes, room {room}:\n{}", message.len(), text(message))
             }
-            Call::Rewrite { message, room } => {
-                write!(to, "write again a message of {} bytes, room {room}:\n{}", message.len(), text(message))
+            Call::Rewrite { edition, message, room } => {
+                write!(to, "write again a message, edition {edition}, of {} bytes, room {room}:\n{}", message.len(), text(message))
             }
             Call::Journal { body, movements } => {
                 write!(to, "journal body {} of {} bytes", quoted(body), movements.len())?;

@@ -125,7 +125,7 @@ pub fn sequence(random: &mut Random) -> Case {
             Call::Reverse { body, notice } => {
                 reference::reverse(&mut table, body, notice);
             }
-            _ | Call::Journal { .. } => {}
+            _ => {}
         }
         calls.push(call);
     }
@@ -300,8 +300,8 @@ fn fuzz(random: &mut Random) -> Case {
             Call::Totals { body },
             Call::Open { request, room: table.len() },
             Call::Convert { old: table.clone(), room: table.len() + 16 },
-            Call::Read { message: table.clone(), room: 3_152 },
-            Call::Rewrite { message: table.clone(), room: 100 },
+            Call::Read { edition: 1, message: table.clone(), room: 3_152 },
+            Call::Rewrite { edition: 2, message: table.clone(), room: 100 },
         ];
         return Case { table, calls };
     }

@@ -181,20 +181,20 @@ impl Yard {
                 let (used, paid, collected) = (first.number(), second.number(), third.number());
                 Answer::Totals(Totals { code, used, paid, collected, balance: fourth.number() as i64 })
             }
-            Call::Write { .. } => {
+            Call::Write { edition, .. } => {
                 let values: Given = std::array::from_fn(|place| self.values[place].bytes());
                 let (outcomes, written) = (self.outcomes.bytes(), self.written.bytes_mut());
-                let code = engine.message_write(given, outcomes, &values, written, first.number_mut());
+                let code = engine.message_write(*edition, given, outcomes, &values, written, first.number_mut());
                 Answer::Write(WriteAnswer { code, length: first.number() })
             }
-            Call::Read { .. } => {
+            Call::Read { edition, .. } => {
                 let (entries, place, cause) = (first.number_mut(), second.number_mut(), third.number_mut());
-                let code = engine.message_read(given, self.written.bytes_mut(), entries, place, cause);
+                let code = engine.message_read(*edition, given, self.written.bytes_mut(), entries, place, cause);
                 let (entries, place, cause) = (first.number(), second.number(), third.number());
                 Answer::Read(ReadAnswer { code, entries, place, cause })
             }
-            Call::Rewrite { .. } => {
-                let code = engine.message_rewrite(given, self.written.bytes_mut(), first.number_mut());
+            Call::Rewrite { edition, .. } => {
+                let code = engine.message_rewrite(*edition, given, self.written.bytes_mut(), first.number_mut());
                 Answer::Write(WriteAnswer { code, length: first.number() })
             }
             Call::Journal { body, .. } => Answer::Journal(engine.journal(lent, body, given)),

@@ -39,22 +39,38 @@ pub trait Engine {
     fn totals(&self, table: &[u8], body: &[u8], used: &mut u64, paid: &mut u64, collected: &mut u64, balance: &mut i64) -> u64;
 
     /// Writes a message. An engine that has no messages of its own answers as the reference does, here and in the two below.
-    fn message_write(&self, flow: &[u8], outcomes: &[u8], given: &Given, message: &mut [u8], length: &mut u64) -> u64 {
-        let answer = message::write(flow, outcomes, given, message);
+    fn message_write(
+        &self,
+        edition: u64,
+        flow: &[u8],
+        outcomes: &[u8],
+        given: &Given,
+        message: &mut [u8],
+        length: &mut u64,
+    ) -> u64 {
+        let answer = message::write(edition, flow, outcomes, given, message);
         *length = answer.length;
         answer.code
     }
 
     /// Reads a message.
-    fn message_read(&self, message: &[u8], values: &mut [u8], entries: &mut u64, place: &mut u64, cause: &mut u64) -> u64 {
-        let answer = message::read(message, values);
+    fn message_read(
+        &self,
+        edition: u64,
+        message: &[u8],
+        values: &mut [u8],
+        entries: &mut u64,
+        place: &mut u64,
+        cause: &mut u64,
+    ) -> u64 {
+        let answer = message::read(edition, message, values);
         (*entries, *place, *cause) = (answer.entries, answer.place, answer.cause);
         answer.code
     }
 
     /// Reads a message and writes it again.
-    fn message_rewrite(&self, message: &[u8], again: &mut [u8], length: &mut u64) -> u64 {
-        let answer = message::rewrite(message, again);
+    fn message_rewrite(&self, edition: u64, message: &[u8], again: &mut [u8], length: &mut u64) -> u64 {
+        let answer = message::rewrite(edition, message, again);
         *length = answer.length;
         answer.code
     }
@@ -218,12 +234,20 @@ impl Engine for Library {
         }
     }
 
-    fn message_write(&self, flow: &[u8], outcomes: &[u8], given: &Given, message: &mut [u8], length: &mut u64) -> u64 {
+    fn message_write(
+        &self,
+        edition: u64,
+        flow: &[u8],
+        outcomes: &[u8],
+        given: &Given,
+        message: &mut [u8],
+        length: &mut u64,
+    ) -> u64 {
         let [created, outcome, ente, descrizione, istat, fiscale, tramite_ente, tramite_bt, flusso_bt] = *given;
         // SAFETY: the pointers and lengths are those of slices and of a number that don't overlap.
         unsafe {
             hondivole::ffi::hondivole_message_write(
-                1,
+                edition,
                 flow.as_ptr(),
                 flow.len(),
                 outcomes.as_ptr(),
@@ -253,11 +277,19 @@ impl Engine for Library {
         }
     }
 
-    fn message_read(&self, message: &[u8], values: &mut [u8], entries: &mut u64, place: &mut u64, cause: &mut u64) -> u64 {
+    fn message_read(
+        &self,
+        edition: u64,
+        message: &[u8],
+        values: &mut [u8],
+        entries: &mut u64,
+        place: &mut u64,
+        cause: &mut u64,
+    ) -> u64 {
         // SAFETY: the pointers and lengths are those of slices and numbers that don't overlap.
         unsafe {
             hondivole::ffi::hondivole_message_read(
-                1,
+                edition,
                 message.as_ptr(),
                 message.len(),
                 values.as_mut_ptr(),
@@ -269,10 +301,17 @@ impl Engine for Library {
         }
     }
 
-    fn message_rewrite(&self, message: &[u8], again: &mut [u8], length: &mut u64) -> u64 {
+    fn message_rewrite(&self, edition: u64, message: &[u8], again: &mut [u8], length: &mut u64) -> u64 {
         // SAFETY: the pointers and lengths are those of slices and of a number that don't overlap.
         unsafe {
-            hondivole::ffi::hondivole_message_rewrite(1, message.as_ptr(), message.len(), again.as_mut_ptr(), again.len(), length)
+            hondivole::ffi::hondivole_message_rewrite(
+                edition,
+                message.as_ptr(),
+                message.len(),
+                again.as_mut_ptr(),
+                again.len(),
+                length,
+            )
         }
     }
     fn journal(&self, table: &[u8], body: &[u8], movements: &[u8]) -> u64 {

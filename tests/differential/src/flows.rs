@@ -164,9 +164,11 @@ pub enum Size {
     Any,
 }
 
-/// Ids as they may stand on the root in edition 2, and as they may not.
-const IDS: [&str; 5] = ["", " Id=\"F_1\"", " Id=\"1\"", " Id=\"_\"", " Id=\"abcdefghijklmnopqrstuvwxyzABCDEFGHIJKLMNOPQRSTUVWXYZ0123456789_z\""];
-const WRONG_IDS: [&str; 14] = [
+/// Ids as they may stand on the root in edition 2.
+pub const IDS: [&str; 5] =
+    ["", " Id=\"F_1\"", " Id=\"1\"", " Id=\"_\"", " Id=\"abcdefghijklmnopqrstuvwxyzABCDEFGHIJKLMNOPQRSTUVWXYZ0123456789_z\""];
+/// Attributes that no root may have.
+pub const WRONG_IDS: [&str; 14] = [
     " Id=\"\"",
     " Id=\"abcdefghijklmnopqrstuvwxyzABCDEFGHIJKLMNOPQRSTUVWXYZ0123456789_zz\"",
     " Id='F'",
@@ -184,7 +186,7 @@ const WRONG_IDS: [&str; 14] = [
 ];
 
 /// An edition, and the number that a call names it by, which is now and then another.
-fn edition(random: &mut Random) -> (Edition, u64) {
+pub fn edition(random: &mut Random) -> (Edition, u64) {
     let edition = if random.percent(60) { Edition::Oil } else { Edition::Opi };
     let number = match random.weighted(&[94, 3, 3]) {
         0 => edition as u64,

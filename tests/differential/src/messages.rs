@@ -2,7 +2,7 @@
 
 use reference::fields::Operation;
 use reference::message::{self, ENTRY_VALUES, Entry, GIVEN, Given, HEADER, HEADER_VALUES, ISTAT, LONGEST_MESSAGE, Message};
-use reference::{Kind, LONGEST_FLOW, MOST_ORDERS, OUTCOME, Table, fields, markup, structure};
+use reference::{Edition, Kind, LONGEST_FLOW, MOST_ORDERS, OUTCOME, Table, fields, markup, structure};
 
 use crate::case::{Call, Case, Values};
 use crate::flows::{self, Inside, Names, Node, Size};
@@ -14,26 +14,39 @@ pub fn case(random: &mut Random) -> Case {
     if random.percent(45) {
         let table = tables::valid(random);
         let size = if random.percent(80) { Size::Few } else { Size::Any };
-        let flow = if random.percent(88) { flows::whole(random, &table, size) } else { flows::damaged(random, &table, size) };
+        let (edition, flow) =
+            if random.percent(88) { flows::whole(random, &table, size) } else { flows::damaged(random, &table, size) };
         let room = 1024;
-        let write = write(random, &table, &flow);
-        return Case { table: table.encode(), calls: vec![Call::Flow { flow, room }, write] };
+        let write = write(random, &table, edition, &flow);
+        return Case { table: table.encode(), calls: vec![Call::Flow { edition, flow, room }, write] };
     }
+    let (_, edition) = flows::edition(random);
     let bytes = bytes(random);
+    let bytes = if random.percent(20) { with_attribute(random, &bytes) } else { bytes };
     let mut calls = Vec::new();
     if random.percent(80) {
-        calls.push(Call::Read { room: values_room(random, &bytes), message: bytes.clone() });
+        calls.push(Call::Read { edition, room: values_room(random, &bytes), message: bytes.clone() });
     }
     if calls.is_empty() || random.percent(50) {
         let exact = again(&bytes).len();
-        calls.push(Call::Rewrite { message: bytes, room: room(random, exact, &[0, 1, 1_300, 35_122, 65_536]) });
+        calls.push(Call::Rewrite { edition, message: bytes, room: room(random, exact, &[0, 1, 1_300, 35_122, 65_536]) });
     }
     Case { table: Vec::new(), calls }
 }
 
+/// The message with an attribute on its root, most often an Id that may stand in edition 2.
+fn with_attribute(random: &mut Random, bytes: &[u8]) -> Vec<u8> {
+    let attribute = if random.percent(70) { *random.pick(&flows::IDS) } else { *random.pick(&flows::WRONG_IDS) };
+    let name = b"<messaggi_esito_applicativo";
+    match bytes.windows(name.len()).position(|window| window == name) {
+        Some(place) => [&bytes[..place + name.len()], attribute.as_bytes(), &bytes[place + name.len()..]].concat(),
+        None => bytes.to_vec(),
+    }
+}
+
 /// What a message is written from, most of it right, for a flow on a table.
-pub fn write(random: &mut Random, table: &Table, flow: &[u8]) -> Call {
-    let mut outcomes = outcomes(random, table, flow);
+pub fn write(random: &mut Random, table: &Table, edition: u64, flow: &[u8]) -> Call {
+    let mut outcomes = outcomes(random, table, edition, flow);
     if random.percent(25) {
         damage_outcomes(random, &mut outcomes);
     }
@@ -42,9 +55,9 @@ pub fn write(random: &mut Random, table: &Table, flow: &[u8]) -> Call {
         let place = random.below(values.len());
         damage_value(random, place, &mut values[place]);
     }
-    let exact = length(flow, &outcomes, &values);
+    let exact = length(edition, flow, &outcomes, &values);
     let room = room(random, exact, &[0, 1, 1_023, 35_121, 35_122, 65_536]);
-    Call::Write { flow: flow.to_vec(), outcomes, values, room }
+    Call::Write { edition, flow: flow.to_vec(), outcomes, values, room }
 }
 
 fn given(values: &Values) -> Given<'_> {
@@ -52,12 +65,12 @@ fn given(values: &Values) -> Given<'_> {
 }
 
 /// The length of the message; 0 where none is written.
-fn length(flow: &[u8], outcomes: &[u8], values: &Values) -> usize {
-    message::message_of(flow, outcomes, &given(values)).map_or(0, |values| message::bytes(&values).len())
+fn length(edition: u64, flow: &[u8], outcomes: &[u8], values: &Values) -> usize {
+    message::message_of(edition, flow, outcomes, &given(values)).map_or(0, |values| message::bytes(&values).len())
 }
 
 fn again(bytes: &[u8]) -> Vec<u8> {
-    message::values_of(bytes).map_or(Vec::new(), |read| message::bytes(&read.values()))
+    message::values_of(2, bytes).map_or(Vec::new(), |read| message::bytes(&read.values()))
 }
 
 /// A length for the buffer: enough, exactly enough, one byte short.
@@ -72,20 +85,21 @@ fn room(random: &mut Random, exact: usize, others: &[usize]) -> usize {
 }
 
 fn values_room(random: &mut Random, bytes: &[u8]) -> usize {
-    let entries = message::values_of(bytes).map_or(1, |read| read.values().entries.len());
+    let entries = message::values_of(2, bytes).map_or(1, |read| read.values().entries.len());
     room(random, HEADER_VALUES + ENTRY_VALUES * entries, &[0, 79, 80, 127, 3_151, 3_152])
 }
 
 /// The outcome bytes that the flow gets on the table; where it is refused for the table's sake, bytes that it might have got.
-fn outcomes(random: &mut Random, table: &Table, flow: &[u8]) -> Vec<u8> {
+fn outcomes(random: &mut Random, table: &Table, edition: u64, flow: &[u8]) -> Vec<u8> {
     let mut outcomes = vec![0; 1_024];
-    let answer = reference::flow(&mut table.encode(), flow, &mut outcomes);
+    let answer = reference::flow(&mut table.encode(), edition, flow, &mut outcomes);
     outcomes.truncate(OUTCOME * answer.orders as usize);
     if answer.code == 0 {
         return outcomes;
     }
-    let read = if flow.len() > LONGEST_FLOW { None } else { markup::read(flow) };
-    let read = read.as_ref().and_then(structure::read).and_then(|raw| fields::read(&raw).ok());
+    let read_as = Edition::numbered(edition).unwrap_or(Edition::Oil);
+    let read = if flow.len() > LONGEST_FLOW { None } else { markup::read(flow, true) };
+    let read = read.as_ref().and_then(|root| structure::read(root, read_as)).and_then(|raw| fields::read(&raw, read_as).ok());
     let Some(read) = read else {
         return vec![0; OUTCOME * (1 + random.below(3))];
     };
@@ -436,12 +450,15 @@ fn long_sweep() -> impl Iterator<Item = Case> {
             let entry = |kind| entry(&mut Random::of_case(1, reversali as u64), kind, None);
             let mandati = all.checked_sub(reversali)?;
             let entries = [vec![entry(Kind::Reversale); reversali], vec![entry(Kind::Mandato); mandati]].concat();
-            let header = message::values_of(&small()).expect("it stands").values().header;
+            let header = message::values_of(1, &small()).expect("it stands").values().header;
             Some(message::bytes(&Message { header, entries }))
         })
     });
     padded.chain(counted).map(|message| {
-        let calls = vec![Call::Read { message: message.clone(), room: 3_152 }, Call::Rewrite { message, room: 65_536 }];
+        let calls = vec![
+            Call::Read { edition: 1, message: message.clone(), room: 3_152 },
+            Call::Rewrite { edition: 2, message, room: 65_536 },
+        ];
         Case { table: Vec::new(), calls }
     })
 }
@@ -470,9 +487,9 @@ fn read_sweep() -> impl Iterator<Item = Case> {
             None => drop(changed.remove(place)),
         }
         let call = if index % 5 == 0 {
-            Call::Rewrite { message: changed, room: 2_000 }
+            Call::Rewrite { edition: 1 + index as u64 % 2, message: changed, room: 2_000 }
         } else {
-            Call::Read { message: changed, room: 176 }
+            Call::Read { edition: 1 + index as u64 % 2, message: changed, room: 176 }
         };
         Case { table: Vec::new(), calls: vec![call] }
     })
@@ -505,7 +522,7 @@ fn write_sweep() -> impl Iterator<Item = Case> {
     let (flow, right) = written();
     let values: Values =
         GIVEN.map(|name| if name.starts_with("data_ora") { b"2021-03-01T09:30:00Z".to_vec() } else { b"x".to_vec() });
-    let exact = length(&flow, &right, &values);
+    let exact = length(1, &flow, &right, &values);
     let mut calls: Vec<(Vec<u8>, Values, usize)> = Vec::new();
     for index in 0..right.len() * 256 {
         let mut outcomes = right.clone();
@@ -540,7 +557,7 @@ fn write_sweep() -> impl Iterator<Item = Case> {
         }
     }
     calls.into_iter().map(move |(outcomes, values, room)| {
-        let call = Call::Write { flow: flow.clone(), outcomes, values, room };
+        let call = Call::Write { edition: 1, flow: flow.clone(), outcomes, values, room };
         Case { table: Vec::new(), calls: vec![call] }
     })
 }
@@ -553,7 +570,7 @@ mod tests {
     fn the_bases_stand() {
         let (flow, outcomes) = written();
         let values = GIVEN.map(|name| if name.starts_with("data_ora") { b"2021-03-01T09:30:00Z".to_vec() } else { b"x".to_vec() });
-        assert!(length(&flow, &outcomes, &values) > 1_000);
+        assert!(length(1, &flow, &outcomes, &values) > 1_000);
         assert_eq!(again(&small()), small());
     }
 
@@ -572,7 +589,7 @@ mod tests {
             let root = tree(&mut Random::of_case(3, index), Some(3));
             let mut random = Random::of_case(4, index);
             let bytes = flows::write(&mut random, &root);
-            assert!(message::values_of(&bytes).is_ok(), "{}", bytes.escape_ascii());
+            assert!(message::values_of(1, &bytes).is_ok(), "{}", bytes.escape_ascii());
         }
     }
 }

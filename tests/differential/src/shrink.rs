@@ -6,7 +6,7 @@
 use std::time::{Duration, Instant};
 
 use reference::table::{ENTRY, HEAD, SLOT, number_at};
-use reference::{Form, Table, fields, markup, structure};
+use reference::{Edition, Form, Table, fields, markup, structure};
 
 use crate::case::{Call, Case};
 use crate::compare::Yard;
@@ -49,10 +49,13 @@ fn weight(case: &Case) -> (usize, usize, u128) {
             (plain(body), numbers.map(u128::from).iter().sum())
         }
         Call::Totals { body } => (plain(body), 0),
-        Call::Write { flow, outcomes, values, room } => {
-            (plain(flow) + plain(outcomes) + values.iter().map(|value| plain(value)).sum::<usize>(), *room as u128)
+        Call::Write { edition, flow, outcomes, values, room } => {
+            let values = values.iter().map(|value| plain(value)).sum::<usize>();
+            (plain(flow) + plain(outcomes) + values, u128::from(*edition) + *room as u128)
         }
-        Call::Read { message, room } | Call::Rewrite { message, room } => (plain(message), *room as u128),
+        Call::Read { edition, message, room } | Call::Rewrite { edition, message, room } => {
+            (plain(message), u128::from(*edition) + *room as u128)
+        }
         Call::Journal { body, movements } => (plain(body) + plain(movements), 0),
     });
     let (untidy, numbers) = calls.fold((plain(&case.table), 0), |sum, call| (sum.0 + call.0, sum.1 + call.1));
@@ -352,10 +355,10 @@ impl<F: FnMut(&Case) -> bool> Search<F> {
         };
         let with = |case: &mut Case, new: Vec<u8>| match &mut case.calls[index] {
             Call::Flow { flow, .. } => *flow = new,
-            Call::Write { flow, outcomes, .. } => {
+            Call::Write { edition, flow, outcomes, .. } => {
                 // Outcome bytes that are this flow's stay so.
-                if refitted(flow, outcomes).as_ref() == Some(outcomes) {
-                    *outcomes = refitted(&new, outcomes).unwrap_or_default();
+                if refitted(*edition, flow, outcomes).as_ref() == Some(outcomes) {
+                    *outcomes = refitted(*edition, &new, outcomes).unwrap_or_default();
                 }
                 *flow = new;
             }
@@ -475,9 +478,10 @@ fn without_slot(table: &[u8], body: usize, slot: usize) -> Option<Vec<u8>> {
 }
 
 /// The outcome bytes of a flow's orders with the codes that these have; `None` where the flow can't be read.
-fn refitted(flow: &[u8], outcomes: &[u8]) -> Option<Vec<u8>> {
-    let root = markup::read(flow)?;
-    let read = fields::read(&structure::read(&root)?).ok()?;
+fn refitted(edition: u64, flow: &[u8], outcomes: &[u8]) -> Option<Vec<u8>> {
+    let edition = Edition::numbered(edition)?;
+    let root = markup::read(flow, edition == Edition::Opi)?;
+    let read = fields::read(&structure::read(&root, edition)?, edition).ok()?;
     let codes = outcomes.chunks(16).map(|outcome| outcome.get(2).copied().unwrap_or_default());
     let refitted = read.orders.iter().zip(codes).flat_map(|(order, code)| {
         let first = [order.kind as u8, order.operation as u8, code, order.lines.len() as u8];

@@ -287,9 +287,17 @@ impl Engine for Wrong {
         code
     }
 
-    fn message_write(&self, flow: &[u8], outcomes: &[u8], given: &Given, message: &mut [u8], length: &mut u64) -> u64 {
-        let code = Reference.message_write(flow, outcomes, given, message, length);
-        match (self.0, message::message_of(flow, outcomes, given)) {
+    fn message_write(
+        &self,
+        edition: u64,
+        flow: &[u8],
+        outcomes: &[u8],
+        given: &Given,
+        message: &mut [u8],
+        length: &mut u64,
+    ) -> u64 {
+        let code = Reference.message_write(edition, flow, outcomes, given, message, length);
+        match (self.0, message::message_of(edition, flow, outcomes, given)) {
             (Fault::MandatiFirst, Ok(mut values)) if code == 0 => {
                 values.entries.sort_by_key(|entry| entry.kind as u8);
                 message[..*length as usize].copy_from_slice(&message::bytes(&values));
@@ -303,20 +311,28 @@ impl Engine for Wrong {
         code
     }
 
-    fn message_read(&self, bytes: &[u8], values: &mut [u8], entries: &mut u64, place: &mut u64, cause: &mut u64) -> u64 {
-        let code = Reference.message_read(bytes, values, entries, place, cause);
+    fn message_read(
+        &self,
+        edition: u64,
+        bytes: &[u8],
+        values: &mut [u8],
+        entries: &mut u64,
+        place: &mut u64,
+        cause: &mut u64,
+    ) -> u64 {
+        let code = Reference.message_read(edition, bytes, values, entries, place, cause);
         if self.0 == Fault::LinesPassedOver && code == 4 {
             let mut text = String::from_utf8_lossy(bytes).into_owned();
             for party in ["versante", "beneficiario"] {
                 text = text.replace(&format!("<progressivo_{party}>"), "<y>").replace(&format!("</progressivo_{party}>"), "</y>");
             }
-            return Reference.message_read(text.as_bytes(), values, entries, place, cause);
+            return Reference.message_read(edition, text.as_bytes(), values, entries, place, cause);
         }
         code
     }
 
-    fn message_rewrite(&self, bytes: &[u8], again: &mut [u8], length: &mut u64) -> u64 {
-        let code = Reference.message_rewrite(bytes, again, length);
+    fn message_rewrite(&self, edition: u64, bytes: &[u8], again: &mut [u8], length: &mut u64) -> u64 {
+        let code = Reference.message_rewrite(edition, bytes, again, length);
         if self.0 == Fault::RewrittenAsRead && code == 0 && again.len() >= bytes.len() {
             again[..bytes.len()].copy_from_slice(bytes);
             *length = bytes.len() as u64;

@@ -1,4 +1,5 @@
 //! The seven calls.
+
 use crate::fields::{self, FlowOrder, Operation};
 use crate::table::{Body, Form, Kind, Line, Order, State, Table, number_at};
 use crate::{Edition, LONGEST_FLOW, MOST_ORDERS, OUTCOME, markup, structure, target};

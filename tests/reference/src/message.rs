@@ -3,6 +3,7 @@
 //! A message is held as plain values ([`Message`]); writing turns values into bytes, reading turns bytes into values, and writing again does
 //! the one after the other.
 
+use crate::Edition;
 use crate::fields::{self, Broken, Cause, Operation, cause};
 use crate::markup::{self, Content, Element, is_text};
 use crate::table::{Date, Kind};
@@ -181,16 +182,16 @@ pub fn given_stands(place: usize, value: &[u8]) -> bool {
 }
 
 /// Writes the message of a flow and its outcome bytes.
-pub fn write(flow: &[u8], outcomes: &[u8], given: &Given, message: &mut [u8]) -> WriteAnswer {
-    match message_of(flow, outcomes, given) {
+pub fn write(edition: u64, flow: &[u8], outcomes: &[u8], given: &Given, message: &mut [u8]) -> WriteAnswer {
+    match message_of(edition, flow, outcomes, given) {
         Err(code) => WriteAnswer { code, length: 0 },
         Ok(values) => put(&bytes(&values), message),
     }
 }
 
 /// Reads a message and writes its values anew.
-pub fn rewrite(message: &[u8], again: &mut [u8]) -> WriteAnswer {
-    match values_of(message) {
+pub fn rewrite(edition: u64, message: &[u8], again: &mut [u8]) -> WriteAnswer {
+    match values_of(edition, message) {
         Err(refused) => WriteAnswer { code: refused.code, length: 0 },
         Ok(read) => put(&bytes(&read.values()), again),
     }
@@ -207,13 +208,14 @@ fn put(written: &[u8], buffer: &mut [u8]) -> WriteAnswer {
 }
 
 /// The values of the message that is to be written, or the refusal's code.
-pub fn message_of(flow: &[u8], outcomes: &[u8], given: &Given) -> Result<Message, u64> {
+pub fn message_of(edition: u64, flow: &[u8], outcomes: &[u8], given: &Given) -> Result<Message, u64> {
+    let edition = Edition::numbered(edition).ok_or(23u64)?;
     if flow.len() > LONGEST_FLOW {
         return Err(2);
     }
-    let root = markup::read(flow).ok_or(3u64)?;
-    let raw = structure::read(&root).ok_or(4u64)?;
-    let read = fields::read(&raw).map_err(|_| 5u64)?;
+    let root = markup::read(flow, edition == Edition::Opi).ok_or(3u64)?;
+    let raw = structure::read(&root, edition).ok_or(4u64)?;
+    let read = fields::read(&raw, edition).map_err(|_| 5u64)?;
     if outcomes.len() < OUTCOME * read.orders.len() {
         return Err(41);
     }
@@ -296,8 +298,8 @@ fn entry_bytes(entry: &Entry) -> Vec<u8> {
 }
 
 /// Reads a message: writes where its texts stand and what its entries say into the values.
-pub fn read(message: &[u8], values: &mut [u8]) -> ReadAnswer {
-    match values_of(message) {
+pub fn read(edition: u64, message: &[u8], values: &mut [u8]) -> ReadAnswer {
+    match values_of(edition, message) {
         Err(refused) => refused,
         Ok(read) => {
             let shown = read.shown();
@@ -368,11 +370,12 @@ fn refused(code: u64) -> ReadAnswer {
 }
 
 /// The message that these bytes are, or the refusal.
-pub fn values_of(message: &[u8]) -> Result<Read<'_>, ReadAnswer> {
+pub fn values_of(edition: u64, message: &[u8]) -> Result<Read<'_>, ReadAnswer> {
+    let edition = Edition::numbered(edition).ok_or(refused(23))?;
     if message.len() > LONGEST_MESSAGE {
         return Err(refused(2));
     }
-    let root = markup::read(message).ok_or(refused(3))?;
+    let root = markup::read(message, edition == Edition::Opi).ok_or(refused(3))?;
     let raw = raw_message(&root).ok_or(refused(4))?;
     read_fields(&raw).map_err(|broken| ReadAnswer { place: broken.at as u64, cause: broken.cause as u64, ..refused(5) })
 }

@@ -107,7 +107,7 @@ fn the_run_whole() {
 #[test]
 fn steps_of_a_search() {
     let mut table = fresh();
-    let mut steps = |orders: &[String]| flow(&mut table, whole("471", orders).as_bytes(), &mut [0; 1024]).steps;
+    let mut steps = |orders: &[String]| flow(&mut table, 1, whole("471", orders).as_bytes(), &mut [0; 1024]).steps;
     let insert = |number: &str| mandato("INSERIMENTO", number, "1.00", ONE);
     let annul = |number: &str| mandato("ANNULLO", number, "1.00", ONE);
     assert_eq!(steps(&[annul("1")]), 0);

@@ -71,7 +71,7 @@ fn outcomes(text: &str) -> Vec<u8> {
     let mut table = vec![0; 16 + 48 + 96 * 4];
     assert_eq!(open(&request(b"01234", &[(b"000471", 4)]), &mut table), 0);
     let mut outcomes = vec![0; 1024];
-    let answer = flow(&mut table, text.as_bytes(), &mut outcomes);
+    let answer = flow(&mut table, 1, text.as_bytes(), &mut outcomes);
     assert_eq!(answer.code, 0);
     outcomes.truncate(16 * answer.orders as usize);
     outcomes
@@ -80,57 +80,57 @@ fn outcomes(text: &str) -> Vec<u8> {
 /// The message that is written; the buffer has just its length.
 fn written(text: &str, outcomes: &[u8], given: &Given) -> String {
     let mut buffer = vec![0xEE; 40_000];
-    let WriteAnswer { code, length } = write(text.as_bytes(), outcomes, given, &mut buffer);
+    let WriteAnswer { code, length } = write(1, text.as_bytes(), outcomes, given, &mut buffer);
     assert_eq!(code, 0);
     assert!(buffer[length as usize..].iter().all(|&byte| byte == 0xEE));
     let mut exact = vec![0; length as usize];
-    assert_eq!(write(text.as_bytes(), outcomes, given, &mut exact), WriteAnswer { code: 0, length });
+    assert_eq!(write(1, text.as_bytes(), outcomes, given, &mut exact), WriteAnswer { code: 0, length });
     assert_eq!(exact, &buffer[..length as usize]);
     let mut short = vec![0xEE; length as usize - 1];
-    assert_eq!(write(text.as_bytes(), outcomes, given, &mut short), WriteAnswer { code: 40, length: 0 });
+    assert_eq!(write(1, text.as_bytes(), outcomes, given, &mut short), WriteAnswer { code: 40, length: 0 });
     assert!(short.iter().all(|&byte| byte == 0xEE));
     String::from_utf8(exact).unwrap()
 }
 
 fn refusal(text: &str, outcomes: &[u8], given: &Given) -> u64 {
     let mut buffer = vec![0xEE; 40_000];
-    let answer = write(text.as_bytes(), outcomes, given, &mut buffer);
+    let answer = write(1, text.as_bytes(), outcomes, given, &mut buffer);
     assert!(answer.code != 0 && answer.length == 0 && buffer.iter().all(|&byte| byte == 0xEE));
     // 41 comes before 40.
-    assert_eq!(write(text.as_bytes(), outcomes, given, &mut []), answer);
+    assert_eq!(write(1, text.as_bytes(), outcomes, given, &mut []), answer);
     answer.code
 }
 
 /// A message that must be taken: read, and written again with the same values.
 fn taken(message: &str) -> Vec<u8> {
     let mut values = [0xEE; 3_152];
-    let answer = read(message.as_bytes(), &mut values);
+    let answer = read(1, message.as_bytes(), &mut values);
     assert_eq!((answer.code, answer.place, answer.cause), (0, 0, 0), "{message}");
     let length = 80 + 48 * answer.entries as usize;
     assert!(values[length..].iter().all(|&byte| byte == 0xEE));
     let mut short = vec![0xEE; length - 1];
-    assert_eq!(read(message.as_bytes(), &mut short), ReadAnswer { code: 40, ..ReadAnswer::default() });
+    assert_eq!(read(1, message.as_bytes(), &mut short), ReadAnswer { code: 40, ..ReadAnswer::default() });
     assert!(short.iter().all(|&byte| byte == 0xEE));
-    let first = values_of(message.as_bytes()).unwrap().values();
+    let first = values_of(1, message.as_bytes()).unwrap().values();
     let mut again = vec![0; 40_000];
-    let WriteAnswer { code, length: again_length } = rewrite(message.as_bytes(), &mut again);
+    let WriteAnswer { code, length: again_length } = rewrite(1, message.as_bytes(), &mut again);
     assert_eq!(code, 0);
     again.truncate(again_length as usize);
-    assert_eq!(values_of(&again).unwrap().values(), first);
+    assert_eq!(values_of(1, &again).unwrap().values(), first);
     assert_eq!(bytes(&first), again);
     let mut third = vec![0; again.len()];
-    assert_eq!(rewrite(&again, &mut third), WriteAnswer { code: 0, length: again_length });
+    assert_eq!(rewrite(1, &again, &mut third), WriteAnswer { code: 0, length: again_length });
     assert_eq!(third, again);
-    assert_eq!(rewrite(message.as_bytes(), &mut third[1..]), WriteAnswer { code: 40, length: 0 });
+    assert_eq!(rewrite(1, message.as_bytes(), &mut third[1..]), WriteAnswer { code: 40, length: 0 });
     values[..length].to_vec()
 }
 
 /// A message that must be refused; code and cause, and the name of the element at the place.
 fn refused(message: &str) -> (u64, u64, &str) {
     let mut values = [0xEE; 3_152];
-    let answer = read(message.as_bytes(), &mut values);
+    let answer = read(1, message.as_bytes(), &mut values);
     assert!(answer.code != 0 && answer.entries == 0 && values.iter().all(|&byte| byte == 0xEE), "{message}");
-    assert_eq!(rewrite(message.as_bytes(), &mut [0; 40_000]), WriteAnswer { code: answer.code, length: 0 });
+    assert_eq!(rewrite(1, message.as_bytes(), &mut [0; 40_000]), WriteAnswer { code: answer.code, length: 0 });
     let element = &message[answer.place as usize..];
     let name = if answer.code == 5 { element[1..].split('>').next().unwrap() } else { "" };
     assert!(answer.code == 5 || (answer.place, answer.cause) == (0, 0));
@@ -246,7 +246,7 @@ fn the_callers_texts() {
     let with = |place: usize, text: &[u8]| {
         let mut given = GIVEN;
         given[place] = text;
-        write(run().as_bytes(), &right, &given, &mut [0; 40_000]).code
+        write(1, run().as_bytes(), &right, &given, &mut [0; 40_000]).code
     };
     for place in 2..9 {
         assert_eq!(with(place, b""), if place == 4 { 0 } else { 41 });
@@ -278,7 +278,7 @@ fn the_callers_times() {
     let with = |place: usize, text: &str| {
         let mut given = GIVEN;
         given[place] = text.as_bytes();
-        write(run().as_bytes(), &right, &given, &mut [0; 40_000]).code
+        write(1, run().as_bytes(), &right, &given, &mut [0; 40_000]).code
     };
     for place in 0..2 {
         for zone in ["Z", "+00:00", "-00:00", "-23:59", "+23:59", "+09:05"] {
@@ -340,7 +340,7 @@ fn markup_and_length() {
         RUN.to_string() + &" ".repeat(65_536 - RUN.len()),
     ] {
         let mut again = vec![0; RUN.len()];
-        assert_eq!(rewrite(taken_too.as_bytes(), &mut again), WriteAnswer { code: 0, length: RUN.len() as u64 });
+        assert_eq!(rewrite(1, taken_too.as_bytes(), &mut again), WriteAnswer { code: 0, length: RUN.len() as u64 });
         assert_eq!(again, RUN.as_bytes());
         taken(&taken_too);
     }
@@ -505,6 +505,6 @@ fn entries_of_two_flows() {
     let other = [&RUN[..at], &RUN[at..].replace(">A1<", ">B-2<").replace("+01:00", "Z").replace(">2021<", ">2022<")].concat();
     taken(&other);
     let mut again = vec![0; other.len()];
-    assert_eq!(rewrite(other.as_bytes(), &mut again).code, 0);
+    assert_eq!(rewrite(1, other.as_bytes(), &mut again).code, 0);
     assert_eq!(again, other.as_bytes());
 }

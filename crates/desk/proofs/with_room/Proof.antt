@@ -28,7 +28,7 @@ returns c =
 serve-all-requires : tie.Need-serve-all-requires
 serve-all-requires c κs =
     let e = orders-count (c .before .before .before .before .before .before .before .before .args .root) (c .before .before .before .before .before .before .before .before .args .f .now) (c .before .before .before .before .before .before .before .before .args .from) (c .before .before .before .count-orders .ensures) in
-    let m = orders-few FlussoOrdinativi (c .before .before .before .before .before .before .before .before .args .f .now) (c .before .before .before .before .before .before .before .before .args .from) (c .before .before .before .before .before .before .before .before .pre .2 .within) in
+    let m = orders-few (c .before .before .before .before .before .before .before .before .args .root) (c .before .before .before .before .before .before .before .before .args .f .now) (c .before .before .before .before .before .before .before .before .args .from) (c .before .before .before .before .before .before .before .before .pre .2 .within) in
     let l = c .before .before .before .before .before .before .before .before .pre .3 in
     let g = c .before .before .if1 .left in
     (c .before .before .before .before .before .before .before .before .pre .0, c .before .before .before .before .before .before .before .before .pre .1, c .before .before .before .before .before .before .before .before .pre .2, omega arith, omega arith)
