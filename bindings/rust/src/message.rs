@@ -190,7 +190,7 @@ fn is_time(text: &[u8]) -> Option<()> {
     (month > 0 && (1..=last).contains(&day) && in_the_day && zone).then_some(())
 }
 
-/// Writes the outcome message of a flow of an edition and its outcome bytes into the lent buffer; it is the same from both editions; [`MOST_WRITTEN_BYTES`] are enough for any. The answer is
+/// Writes the outcome message of a flow and its outcome bytes into the lent buffer; [`MOST_WRITTEN_BYTES`] are enough for any. The answer is
 /// the message, which is the buffer's beginning; bytes past it stay as they are. All reversali stand before all mandati.
 ///
 /// # Errors
@@ -321,7 +321,7 @@ pub fn rewrite_message<'b>(edition: Edition, message: &[u8], buffer: &'b mut [u8
     Ok(written(buffer, length))
 }
 
-/// Reads a message of an edition; in edition 2 an Id may stand on its root, which is not shown. Its texts are shown as parts of the message, not as copies; what its entries say is written into the lent values, for
+/// Reads a message. Its texts are shown as parts of the message, not as copies; what its entries say is written into the lent values, for
 /// which [`MOST_VALUES_BYTES`] are always enough. Bytes past what is needed stay as they are.
 ///
 /// # Errors
@@ -384,7 +384,7 @@ fn part<'m>(message: &'m [u8], pair: &[u8; 8]) -> &'m str {
 /// A message that was read: its header, and its entries.
 ///
 /// ```
-/// use hondivole::{Edition, Refusal, read_message};
+/// use hondivole::{Refusal, read_message};
 ///
 /// let bytes = include_bytes!("message.xml");
 /// let mut values = [0; 80 + 2 * 48];
@@ -422,7 +422,7 @@ pub struct Message<'m, 'v> {
 /// What a message says of one order.
 ///
 /// ```
-/// use hondivole::{Date, Edition, Operation, Refusal, read_message};
+/// use hondivole::{Date, Operation, Refusal, read_message};
 ///
 /// let bytes = include_bytes!("message.xml");
 /// let mut values = [0; 80 + 2 * 48];
@@ -459,7 +459,7 @@ impl<'m, 'v> Message<'m, 'v> {
     /// The entries, in the message's order: reversali, then mandati.
     ///
     /// ```
-    /// # use hondivole::{Edition, Kind, Refusal, read_message};
+    /// # use hondivole::{Kind, Refusal, read_message};
     /// let bytes = include_bytes!("message.xml");
     /// let mut values = [0; 80 + 2 * 48];
     /// let kinds: Vec<_> = read_message(Edition::Oil, bytes, &mut values)?.entries().map(|entry| entry.kind).collect();

@@ -53,23 +53,22 @@ when : (ed : ℕ) (f o : List ℕ) (c : Caller) (m : Message) → writeReads ed 
 unfolding writeIn
 when ed f o c m h = edition-by (editionOf ed) refl h
   where
-    module _ (y : Edition) (i : editionOf ed ≡ By y) where
-      fit-by : (at : ℕ) → length f ≤ maxFlow → verdictOf y f ≡ Stands at → (b : Bool) → (outcomesFit (flowOrders y f at) o && callerOk c) ≡ b
-          → cond b (write.writes (flowMessage y f at o c)) (write.refused answer.Unfit) ≡ write.writes m → When ed f o c m
-      fit-by at l s true h e =
-          let p = both (outcomesFit (flowOrders y f at) o) (callerOk c) h in
-          record { edition = y; numbered = i; short = l; begins = at; stands = s; fits = p .0; caller = caller-told c .sound (p .1); is = cc }
-      fit-by at l s false h e = never e
+    fit-by : (y : Edition) → editionOf ed ≡ By y → (at : ℕ) → length f ≤ maxFlow → verdictOf y f ≡ Stands at → (b : Bool) → (outcomesFit (flowOrders y f at) o && callerOk c) ≡ b
+        → cond b (write.writes (flowMessage y f at o c)) (write.refused answer.Unfit) ≡ write.writes m → When ed f o c m
+    fit-by y i at l s true h e =
+        let p = both (outcomesFit (flowOrders y f at) o) (callerOk c) h in
+        record { edition = y; numbered = i; short = l; begins = at; stands = s; fits = p .0; caller = caller-told c .sound (p .1); is = cc }
+    fit-by y i at l s false h e = never e
 
-      verdict-by : (v : Verdict) → length f ≤ maxFlow → verdictOf y f ≡ v → writingOf y f o c v ≡ write.writes m → When ed f o c m
-      verdict-by (MarkupBreaks p) l s e = never e
-      verdict-by StructureBreaks l s e = never e
-      verdict-by (FieldBreaks p x) l s e = never e
-      verdict-by (Stands at) l s e = fit-by at l s (outcomesFit (flowOrders y f at) o && callerOk c) refl e
+    verdict-by : (y : Edition) → editionOf ed ≡ By y → (v : Verdict) → length f ≤ maxFlow → verdictOf y f ≡ v → writingOf y f o c v ≡ write.writes m → When ed f o c m
+    verdict-by y i (MarkupBreaks p) l s e = never e
+    verdict-by y i StructureBreaks l s e = never e
+    verdict-by y i (FieldBreaks p x) l s e = never e
+    verdict-by y i (Stands at) l s e = fit-by y i at l s (outcomesFit (flowOrders y f at) o && callerOk c) refl e
 
-      length-by : (b : Bool) → leb (length f) maxFlow ≡ b → cond b (writingOf y f o c (verdictOf y f)) (write.refused answer.TooLong) ≡ write.writes m → When ed f o c m
-      length-by true h e = verdict-by (verdictOf y f) (leb-true (length f) maxFlow h) refl e
-      length-by false h e = never e
+    length-by : (y : Edition) → editionOf ed ≡ By y → (b : Bool) → leb (length f) maxFlow ≡ b → cond b (writingOf y f o c (verdictOf y f)) (write.refused answer.TooLong) ≡ write.writes m → When ed f o c m
+    length-by y i true h e = verdict-by y i (verdictOf y f) (leb-true (length f) maxFlow h) refl e
+    length-by y i false h e = never e
 
     edition-by : (x : Edited) → editionOf ed ≡ x → writeBy f o c x ≡ write.writes m → When ed f o c m
     edition-by (By y) i e = length-by y i (leb (length f) maxFlow) refl e
