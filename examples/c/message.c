@@ -24,13 +24,14 @@ static size_t flow_len;
 static void take_flow(void)
 {
     uint8_t request[HONDIVOLE_REQUEST_BYTES(2)];
-    uint64_t place, orders, accepted, cause;
+    uint64_t place, orders, accepted, cause, steps;
     FILE *file = fopen("examples/run.xml", "rb");
     flow_len = file == NULL ? 0 : fread(flow, 1, sizeof flow, file);
     if (file != NULL)
         fclose(file);
     hondivole_open(request, hondivole_request("01234", bodies, 2, request, sizeof request), table, sizeof table);
-    uint64_t code = hondivole_flow(table, sizeof table, flow, flow_len, outcomes, sizeof outcomes, &place, &orders, &accepted, &cause);
+    uint64_t code = hondivole_flow(table, sizeof table, 1, flow, flow_len, outcomes, sizeof outcomes, &place, &orders, &accepted, &cause,
+                                   &steps);
     printf("flow: code %" PRIu64 ", %" PRIu64 " of %" PRIu64 " orders accepted\n", code, accepted, orders);
 }
 

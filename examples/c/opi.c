@@ -20,8 +20,9 @@ static void take(const char *name, uint64_t edition)
 {
     FILE *file = fopen(name, "rb");
     size_t length = file == NULL ? 0 : fread(flow, 1, sizeof flow, file);
-    uint64_t place, orders, accepted, cause;
-    uint64_t code = hondivole_flow(table, sizeof table, edition, flow, length, outcomes, sizeof outcomes, &place, &orders, &accepted, &cause);
+    uint64_t place, orders, accepted, cause, steps;
+    uint64_t code = hondivole_flow(table, sizeof table, edition, flow, length, outcomes, sizeof outcomes, &place, &orders, &accepted,
+                                   &cause, &steps);
     if (file != NULL)
         fclose(file);
     printf("%s in edition %" PRIu64 ": code %" PRIu64 ", %s; orders %" PRIu64 ", accepted %" PRIu64 "\n", name, edition, code,

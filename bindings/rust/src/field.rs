@@ -86,10 +86,10 @@ impl Refusal {
     /// The refusal of a message that was to be read or written again, in words.
     ///
     /// ```
-    /// use hondivole::{Refusal, read_message};
+    /// use hondivole::{Edition, Refusal, read_message};
     ///
     /// let message = include_str!("message.xml").replace(">13<", ">20<");
-    /// let refusal = read_message(message.as_bytes(), &mut []).unwrap_err();
+    /// let refusal = read_message(Edition::Oil, message.as_bytes(), &mut []).unwrap_err();
     /// let place = message.find("<codice_errore>").unwrap();
     /// let words = refusal.of_message(message.as_bytes()).to_string();
     /// assert_eq!(words, format!("codice_errore \"20\" at byte {place} breaks: right form but a value outside its range"));

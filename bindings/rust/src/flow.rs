@@ -176,12 +176,12 @@ impl<'o> FlowAnswer<'o> {
     /// body's slots.
     ///
     /// ```
-    /// # use hondivole::{Refusal, Table};
+    /// # use hondivole::{Edition, Refusal, Table};
     /// # let flow = include_bytes!("run.xml").as_slice();
     /// let mut table = Table::open("01234", &[("000471", 4)])?;
     /// // The mandato meets an empty body, and the reversale's line doesn't sum to its total; then the mandato is found in the first slot.
-    /// assert_eq!(table.flow(flow, &mut [0; 32])?.steps(), 0);
-    /// assert_eq!(table.flow(flow, &mut [0; 32])?.steps(), 1);
+    /// assert_eq!(table.flow(Edition::Oil, flow, &mut [0; 32])?.steps(), 0);
+    /// assert_eq!(table.flow(Edition::Oil, flow, &mut [0; 32])?.steps(), 1);
     /// # Ok::<(), Refusal>(())
     /// ```
     pub fn steps(&self) -> u64 {

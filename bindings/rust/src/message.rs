@@ -384,7 +384,7 @@ fn part<'m>(message: &'m [u8], pair: &[u8; 8]) -> &'m str {
 /// A message that was read: its header, and its entries.
 ///
 /// ```
-/// use hondivole::{Refusal, read_message};
+/// use hondivole::{Edition, Refusal, read_message};
 ///
 /// let bytes = include_bytes!("message.xml");
 /// let mut values = [0; 80 + 2 * 48];
@@ -422,7 +422,7 @@ pub struct Message<'m, 'v> {
 /// What a message says of one order.
 ///
 /// ```
-/// use hondivole::{Date, Operation, Refusal, read_message};
+/// use hondivole::{Date, Edition, Operation, Refusal, read_message};
 ///
 /// let bytes = include_bytes!("message.xml");
 /// let mut values = [0; 80 + 2 * 48];
@@ -459,7 +459,7 @@ impl<'m, 'v> Message<'m, 'v> {
     /// The entries, in the message's order: reversali, then mandati.
     ///
     /// ```
-    /// # use hondivole::{Kind, Refusal, read_message};
+    /// # use hondivole::{Edition, Kind, Refusal, read_message};
     /// let bytes = include_bytes!("message.xml");
     /// let mut values = [0; 80 + 2 * 48];
     /// let kinds: Vec<_> = read_message(Edition::Oil, bytes, &mut values)?.entries().map(|entry| entry.kind).collect();

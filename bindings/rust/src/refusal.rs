@@ -311,10 +311,10 @@ mod tests {
     #[test]
     fn codes_go_both_ways() {
         assert_eq!(Refusal::of_code(0, 0, 0), Some(Ok(())));
-        assert_eq!(Refusal::of_code(23, 0, 0), None);
+        assert_eq!(Refusal::of_code(24, 0, 0), None);
         assert_eq!(Refusal::of_code(5, 7, 5), None);
         let mut sentences = std::collections::HashSet::new();
-        for code in (1..=22).chain(27..=33).chain(40..=41) {
+        for code in (1..=23).chain(27..=33).chain(40..=41) {
             let refusal = Refusal::of_code(code, 7, 1).unwrap().unwrap_err();
             assert_eq!(u64::from(refusal.code()), code);
             assert!(sentences.insert(refusal.to_string()));
@@ -324,7 +324,7 @@ mod tests {
     #[test]
     fn the_header_says_the_same() {
         let header = include_str!("../../../include/hondivole.h");
-        for code in (1..=22).chain(27..=33).chain(40..=41).filter(|code| *code != 5) {
+        for code in (1..=23).chain(27..=33).chain(40..=41).filter(|code| *code != 5) {
             let sentence = Refusal::from_code(code, 0, 0).unwrap().to_string();
             assert!(header.contains(&format!("return \"{sentence}\";")), "{sentence}");
         }

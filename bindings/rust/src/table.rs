@@ -282,10 +282,10 @@ impl<B: AsRef<[u8]>> Table<B> {
     /// The refusals of codes 1, 7 and 29, then of the first bad movement 30, 31 or 32, then 33.
     ///
     /// ```
-    /// # use hondivole::{Date, Kind, Movement, Notice, Refusal, Table};
+    /// # use hondivole::{Date, Edition, Kind, Movement, Notice, Refusal, Table};
     /// # let flow = include_bytes!("run.xml").as_slice();
     /// let mut table = Table::open("01234", &[("000471", 4)])?;
-    /// table.flow(flow, &mut [0; 32])?;
+    /// table.flow(Edition::Oil, flow, &mut [0; 32])?;
     /// assert_eq!(table.journal("000471", &[]), Ok(()));
     /// let day = Date { year: 2021, month: 3, day: 3 };
     /// table.execute(&Notice { body: "000471", kind: Kind::Mandato, esercizio: 2021, number: 12, line: 2, day })?;
