@@ -113,8 +113,19 @@ fn run_cases(s: &[u8])
     }
 }
 
+// A message without children whose root has an Id: its markup breaks in edition 1, its structure alone in edition 2.
+fn say_id() {
+    let m = b"<messaggi_esito_applicativo Id=\"m1\"></messaggi_esito_applicativo>";
+    let mut values = [0u8; 80];
+    say(b"an Id on the root, read in edition 1 and in edition 2\n");
+    say_number(message_read::read_message(1, m, &mut values).code);
+    say_next(message_read::read_message(2, m, &mut values).code);
+    say(b"\n3 4\n");
+}
+
 fn main() {
     let mut input = [0u8; 131072];
     let n = io::read_full(libc::STDIN_FILENO, &mut input);
     run_cases(&input[..n]);
+    say_id();
 }
