@@ -37,6 +37,16 @@ fn run_case(t: &mut [u8], base: &[u8], s: &[u8], a: usize, e: usize)
     say(b"\n");
 }
 
+// The same on the first flow of the input or on the second, from `from` up to `second`, as the line says.
+fn run_line(t: &mut [u8], s: &[u8], first: usize, from: usize, second: usize, a: usize, e: usize)
+    requires { ⌜ (a ≤ e) × (e ≤ length (now s)) × (length (now s) ≤ 131072) × (first ≤ length (now s)) × (from ≤ second) × (second ≤ length (now s)) ⌝ }
+{
+    if number(s, a, e, 2) == 1 {
+        return run_case(t, &s[0..first], s, a, e);
+    }
+    run_case(t, &s[from..second], s, a, e)
+}
+
 fn run_cases(t: &mut [u8], s: &[u8])
     requires { ⌜ length (now s) ≤ 131072 ⌝ }
 {
@@ -46,11 +56,7 @@ fn run_cases(t: &mut [u8], s: &[u8])
     let mut at = casebook::after(second, s.len());
     while at < s.len() {
         let e = casebook::line_end(s, at);
-        if number(s, at, e, 2) == 1 {
-            run_case(t, &s[0..first], s, at, e);
-        } else {
-            run_case(t, &s[from..second], s, at, e);
-        }
+        run_line(t, s, first, from, second, at, e);
         at = casebook::next_line(s, at);
     }
 }

@@ -1,5 +1,7 @@
 -- CONDITION 1, proved. (Its codes: Codes and Accepted; a refused flow: crates/desk/proofs/Refusals.antt.)
-use Prim.Native.Nat.{ℕ, suc, zero}
+use Prim.Native.Nat.{ℕ, suc, zero, _≤_}
+use native.Mathlib.Omega.{arith}
+use borrow.Author.Tests.{ne-eqb, le-leb, lt-leb}
 use mathlib.Core.Path.{_≡_, refl, ap, _∙_}
 use mathlib.Core.Bool.{Bool, true}
 use mathlib.Core.List.{List}
@@ -23,7 +25,8 @@ use Rattle.convert.specs.declared.Converted.{Converted}
 use Rattle.convert.specs.declared.Converted.the-variants as Converted
 use Rattle.convert.specs.Convert.{convertCode, convertTable}
 use Rattle.desk.proofs.Refusals.{code-keeps}
-use Rattle.theorems.specs.Codes.{oneOf, convertCodes}
+use Rattle.digits.specs.Digits.{isRefusal}
+use Rattle.theorems.specs.Codes.{oneOf, convertCodes, orderRefusals}
 use Rattle.theorems.specs.Condition1.{Condition1}
 use Rattle.theorems.proofs.Steps.{answer, after, steps}
 use Rattle.theorems.proofs.Codes.{open-codes, call-codes, flow-causes}
@@ -66,12 +69,40 @@ convert-codes Converted.Converts = refl
 convert-codes Converted.InvalidTable = refl
 convert-codes Converted.WrongLength = refl
 
+above : (c : ℕ) → 20 ≤ c → isRefusal c ≡ oneOf orderRefusals c
+above c l =
+    rw (le-leb 11 c (omega arith), lt-leb c 19 (omega arith), ne-eqb c 11 (λ e. omega arith), ne-eqb c 12 (λ e. omega arith), ne-eqb c 13 (λ e. omega arith), ne-eqb c 14 (λ e. omega arith), ne-eqb c 15 (λ e. omega arith), ne-eqb c 16 (λ e. omega arith), ne-eqb c 17 (λ e. omega arith), ne-eqb c 18 (λ e. omega arith), ne-eqb c 19 (λ e. omega arith))
+
+message-code : (code : ℕ) → isRefusal code ≡ oneOf orderRefusals code
+message-code zero = refl
+message-code (suc zero) = refl
+message-code (suc (suc zero)) = refl
+message-code (suc (suc (suc zero))) = refl
+message-code (suc (suc (suc (suc zero)))) = refl
+message-code (suc (suc (suc (suc (suc zero))))) = refl
+message-code (suc (suc (suc (suc (suc (suc zero)))))) = refl
+message-code (suc (suc (suc (suc (suc (suc (suc zero))))))) = refl
+message-code (suc (suc (suc (suc (suc (suc (suc (suc zero)))))))) = refl
+message-code (suc (suc (suc (suc (suc (suc (suc (suc (suc zero))))))))) = refl
+message-code (suc (suc (suc (suc (suc (suc (suc (suc (suc (suc zero)))))))))) = refl
+message-code (suc (suc (suc (suc (suc (suc (suc (suc (suc (suc (suc zero))))))))))) = refl
+message-code (suc (suc (suc (suc (suc (suc (suc (suc (suc (suc (suc (suc zero)))))))))))) = refl
+message-code (suc (suc (suc (suc (suc (suc (suc (suc (suc (suc (suc (suc (suc zero))))))))))))) = refl
+message-code (suc (suc (suc (suc (suc (suc (suc (suc (suc (suc (suc (suc (suc (suc zero)))))))))))))) = refl
+message-code (suc (suc (suc (suc (suc (suc (suc (suc (suc (suc (suc (suc (suc (suc (suc zero))))))))))))))) = refl
+message-code (suc (suc (suc (suc (suc (suc (suc (suc (suc (suc (suc (suc (suc (suc (suc (suc zero)))))))))))))))) = refl
+message-code (suc (suc (suc (suc (suc (suc (suc (suc (suc (suc (suc (suc (suc (suc (suc (suc (suc zero))))))))))))))))) = refl
+message-code (suc (suc (suc (suc (suc (suc (suc (suc (suc (suc (suc (suc (suc (suc (suc (suc (suc (suc zero)))))))))))))))))) = refl
+message-code (suc (suc (suc (suc (suc (suc (suc (suc (suc (suc (suc (suc (suc (suc (suc (suc (suc (suc (suc zero))))))))))))))))))) = refl
+message-code (suc (suc (suc (suc (suc (suc (suc (suc (suc (suc (suc (suc (suc (suc (suc (suc (suc (suc (suc (suc n)))))))))))))))))))) = above (suc (suc (suc (suc (suc (suc (suc (suc (suc (suc (suc (suc (suc (suc (suc (suc (suc (suc (suc (suc n)))))))))))))))))))) (omega arith)
+
 pub condition1 : Condition1
 condition1 = record {
   opening-numbered = λ q t a t′ p. open-codes a;
   conversion-numbered = λ o t a t′ p. convert-codes a;
   call-numbered = call-codes;
   orders-numbered = outcomes-coded;
+  message-codes = message-code;
   cause-numbered = λ t ed f out a t′ out′ p. flow-causes a;
   answered = λ c t. (answer c t, after c t, steps c t);
   refused-flow = λ t ed f out a t′ out′ p h. code-keeps t ed f out h p;

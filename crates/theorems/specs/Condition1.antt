@@ -3,6 +3,7 @@ use Prim.Native.Nat.{ℕ}
 use mathlib.Core.Path.{_≡_}
 use mathlib.Core.Bool.{Bool, true}
 use mathlib.Core.List.{List}
+use Rattle.digits.specs.Digits.{isRefusal}
 use Rattle.calendar.specs.declared.Date.{Date}
 use Rattle.record.specs.declared.Key.{Key}
 use Rattle.order.specs.Ordinativo.{Ordinativo}
@@ -17,7 +18,7 @@ use Rattle.notices.specs.Notices.{noticeCodeOf, NoticePromise}
 use Rattle.desk.specs.declared.FlowAnswer.{FlowAnswer}
 use Rattle.desk.specs.Desk.{FlowPromise, flowCode, flowReply}
 use Rattle.theorems.specs.Engine.{Call, Answer, Step, answerCode}
-use Rattle.theorems.specs.Codes.{oneOf, each, openCodes, convertCodes, callCodes, causesWith, orderCodes, outcomeCodes}
+use Rattle.theorems.specs.Codes.{oneOf, each, openCodes, convertCodes, callCodes, causesWith, orderRefusals, orderCodes, outcomeCodes}
 
 pub record Condition1 : Type 0 where
   -- "Every call, on arbitrary flow, table or notice, ends with one of the numbered answers in document 01."
@@ -27,6 +28,8 @@ pub record Condition1 : Type 0 where
   -- and so does every order of a flow taken
   pub orders-numbered : (t : List ℕ) (ed : ℕ) (f out : List ℕ) (a : FlowAnswer) (t′ out′ : List ℕ) → FlowPromise t ed f out a t′ out′ → flowCode a ≡ 0
       → each (oneOf orderCodes) (outcomeCodes (flowReply a .orders) out′) ≡ true
+  -- and the codes that an outcome message may say of a refused order are these (document 02, Req 01: "a code no order can get" is another)
+  pub message-codes : (code : ℕ) → isRefusal code ≡ oneOf orderRefusals code
   -- a flow's cause is a numbered one too: 1 to 4 with code 5, and 0 with every other
   pub cause-numbered : (t : List ℕ) (ed : ℕ) (f out : List ℕ) (a : FlowAnswer) (t′ out′ : List ℕ) → FlowPromise t ed f out a t′ out′ → oneOf (causesWith (flowCode a)) (flowReply a .cause) ≡ true
   -- "It checks its own inputs." There is an answer for every input

@@ -9,8 +9,7 @@ use Rattle.cases_editions.proofs.run_cases.Lts as lts
 use Rattle.casebook.proofs.after.Reads as after-reads
 use Rattle.casebook.proofs.line_end.Reads as line-end-reads
 use Rattle.casebook.proofs.next_line.Reads as next-line-reads
-use Rattle.casebook.proofs.number.Reads as number-reads
-use Rattle.cases_editions.proofs.run_case.Reads as run-case-reads
+use Rattle.cases_editions.proofs.run_line.Reads as run-line-reads
 
 abbrev Inv-loop : tie.InvT-loop
 Inv-loop t₀ s first from second at₀ t at = (at ≤ length s) × (length t ≡ length t₀)
@@ -36,32 +35,8 @@ loop-holds c = (search needs, refl)
 line-end-requires-3 : tie.Need-line-end-requires-3 Inv-loop μ-loop
 line-end-requires-3 c κs = search needs
 
-number-requires : tie.Need-number-requires Inv-loop μ-loop
-number-requires c κs = search needs
-
-sub-run-case : tie.Need-sub-run-case Inv-loop μ-loop
-sub-run-case c = search needs
-
-part-run-case-start : tie.Need-part-run-case-start Inv-loop μ-loop
-part-run-case-start c = search needs
-
-part-run-case-end : tie.Need-part-run-case-end Inv-loop μ-loop
-part-run-case-end c = search needs
-
-run-case-requires : tie.Need-run-case-requires Inv-loop μ-loop
-run-case-requires c κs = search needs
-
-sub-run-case-2 : tie.Need-sub-run-case-2 Inv-loop μ-loop
-sub-run-case-2 c = search needs
-
-part-run-case-start-2 : tie.Need-part-run-case-start-2 Inv-loop μ-loop
-part-run-case-start-2 c = search needs
-
-part-run-case-end-2 : tie.Need-part-run-case-end-2 Inv-loop μ-loop
-part-run-case-end-2 c = search needs
-
-run-case-requires-2 : tie.Need-run-case-requires-2 Inv-loop μ-loop
-run-case-requires-2 c κs = search needs
+run-line-requires : tie.Need-run-line-requires Inv-loop μ-loop
+run-line-requires c κs = search needs
 
 next-line-requires : tie.Need-next-line-requires Inv-loop μ-loop
 next-line-requires c κs = search needs
@@ -90,15 +65,7 @@ run-cases-spec =
     after-requires-2
     loop-holds
     line-end-requires-3
-    number-requires
-    sub-run-case
-    part-run-case-start
-    part-run-case-end
-    run-case-requires
-    sub-run-case-2
-    part-run-case-start-2
-    part-run-case-end-2
-    run-case-requires-2
+    run-line-requires
     next-line-requires
     loop-less
     loop-again
