@@ -1,6 +1,7 @@
 // Cases of writing an outcome message. The first line of the input is a flow. Each further line has a name, how many bytes of the flow are taken, outcome
-// bytes, the caller's nine values, the buffer's length, and what document 02 says of it, by hand; the output has what the code says above it. After a
-// message stand the code of its reading, its entries, the code and length of writing it again, and whether that gave the same bytes.
+// bytes, the caller's nine values, the buffer's length, what document 02 says of it, by hand, and the edition's number; the output has what the code says
+// above it. After a message stand the code of its reading, its entries, the code and length of writing it again, whether that gave the same bytes, and the
+// codes of reading it in edition 2 and by numbers of no edition.
 use casebook::say;
 use casebook::say_next;
 use casebook::say_number;
@@ -46,6 +47,9 @@ fn say_again(m: &[u8]) {
     if scan::same(m, first(&again, w.length)) {
         say(b" the same");
     }
+    say_next(message_read::read_message(2, m, &mut values).code);
+    say_next(message_read::read_message(0, m, &mut values).code);
+    say_next(message_rewrite::rewrite_message(257, m, &mut again).code);
 }
 
 fn say_answer(a: WriteAnswer, m: &[u8]) {
@@ -60,13 +64,13 @@ fn say_answer(a: WriteAnswer, m: &[u8]) {
 }
 
 // What is seen of a case: the line from a up to e.
-fn say_case(flow: &[u8], s: &[u8], a: usize, e: usize, m: &mut [u8])
+fn say_case(flow: &[u8], edition: u64, s: &[u8], a: usize, e: usize, m: &mut [u8])
     requires { ⌜ (a ≤ e) × (e ≤ length (now s)) × (length (now s) ≤ 131072) ⌝ }
 {
     let mut out = [0u8; 2048];
     let n = casebook::bytes(s, a, e, 2, &mut out);
     let answer = message_write::write_message(
-        1,
+        edition,
         flow,
         &out[..n],
         text(s, a, e, 3),
@@ -89,9 +93,10 @@ fn run_case(base: &[u8], s: &[u8], a: usize, e: usize)
     let mut m = [0u8; 65536];
     let flow = first(base, casebook::number(s, a, e, 1));
     let from = last(casebook::number(s, a, e, 12));
+    let edition = casebook::number(s, a, e, 14);
     casebook::say_column(s, a, e, 0);
     say(b"\n");
-    say_case(flow, s, a, e, &mut m[from..]);
+    say_case(flow, edition, s, a, e, &mut m[from..]);
     say(b"\n");
     casebook::say_column(s, a, e, 13);
     say(b"\n");
@@ -108,8 +113,19 @@ fn run_cases(s: &[u8])
     }
 }
 
+// A message without children whose root has an Id: its markup breaks in edition 1, its structure alone in edition 2.
+fn say_id() {
+    let m = b"<messaggi_esito_applicativo Id=\"m1\"></messaggi_esito_applicativo>";
+    let mut values = [0u8; 80];
+    say(b"an Id on the root, read in edition 1 and in edition 2\n");
+    say_number(message_read::read_message(1, m, &mut values).code);
+    say_next(message_read::read_message(2, m, &mut values).code);
+    say(b"\n3 4\n");
+}
+
 fn main() {
     let mut input = [0u8; 131072];
     let n = io::read_full(libc::STDIN_FILENO, &mut input);
     run_cases(&input[..n]);
+    say_id();
 }
