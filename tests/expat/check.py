@@ -52,10 +52,11 @@ def child(tree, name):
     return found[0]
 
 
-def header_field(flow, name):
-    """A field of the flow's header: the root's child, or in edition 2 its testata_flusso's."""
-    nested = [inside for inside_name, inside in flow[1] if inside_name == "testata_flusso"]
-    return child(("testata_flusso", nested[0]), name) if nested and isinstance(nested[0], list) else child(flow, name)
+def flat(flow):
+    """A flow of edition 2 with its header's four fields among the root's children, as edition 1 has them."""
+    four = ("codice_ABI_BT", "identificativo_flusso", "data_ora_creazione_flusso", "codice_ente_BT")
+    fields = [tree for tree in child(flow, "testata_flusso") if tree[0] in four]
+    return (flow[0], fields + [tree for tree in flow[1] if tree[0] not in four])
 
 
 def element_in_error(kind, code):
@@ -71,7 +72,7 @@ def entry_of(flow, order, outcome, time):
     kind, operation, code = outcome[:3]
     name = "mandato" if kind == 1 else "reversale"
     cents = int.from_bytes(outcome[8:16], "big")
-    texts = [header_field(flow, "identificativo_flusso"), child(flow, "esercizio"), str(int.from_bytes(outcome[4:8], "big")),
+    texts = [child(flow, "identificativo_flusso"), child(flow, "esercizio"), str(int.from_bytes(outcome[4:8], "big")),
              child(order, "data_" + name), "%d.%02d" % divmod(cents, 100), ("NON " if code else "") + WORDS[operation], shown(time)]
     assert int(child(order, "numero_" + name)) == int.from_bytes(outcome[4:8], "big")
     assert child(order, "importo_" + name).replace(".", "").lstrip("0") == str(cents).lstrip("0")
@@ -84,8 +85,8 @@ def entry_of(flow, order, outcome, time):
 def due(flow, outcomes, given):
     """The tree that a message has to have."""
     created, time, ente, descrizione, istat, fiscale, tramite_ente, tramite_bt, flusso_bt = given
-    texts = [header_field(flow, "codice_ABI_BT")] + [shown(text) for text in (created, ente, descrizione, istat, fiscale, tramite_ente, tramite_bt)]
-    texts.append(header_field(flow, "codice_ente_BT"))
+    texts = [child(flow, "codice_ABI_BT")] + [shown(text) for text in (created, ente, descrizione, istat, fiscale, tramite_ente, tramite_bt)]
+    texts.append(child(flow, "codice_ente_BT"))
     testata = [(name, text) for name, text in zip(HEADER, texts) if name != "codice_istat_ente" or text]
     orders = [tree for tree in flow[1] if tree[0] in ("mandato", "reversale")]
     entries = [entry_of(flow, order, outcomes[16 * i:16 * i + 16], time) for i, order in enumerate(orders)]
@@ -100,7 +101,7 @@ def check_values(message, values, flow, given, entries):
         return message[place:place + length]
 
     created, time, ente, descrizione, istat, fiscale, tramite_ente, tramite_bt, flusso_bt = given
-    abi, body = (header_field(flow, name).encode() for name in ("codice_ABI_BT", "codice_ente_BT"))
+    abi, body = (child(flow, name).encode() for name in ("codice_ABI_BT", "codice_ente_BT"))
     header = [abi, created, ente, descrizione, istat, fiscale, tramite_ente, tramite_bt, body, flusso_bt]
     assert [text(8 * pair) for pair in range(10)] == header
     assert len(values) == 80 + 48 * len(entries)
@@ -137,8 +138,9 @@ def main():
         what, *parts = line.split()
         parts = [b"" if part == "-" else bytes.fromhex(part) for part in parts]
         if what == "written":
-            flow, outcomes, *given, message, values = parts
+            edition, flow, outcomes, *given, message, values = parts
             flow = read(flow, id_allowed=True)
+            flow = flat(flow) if edition == b"\2" else flow
             tree = due(flow, outcomes, given)
             assert read(message) == tree, (message, tree)
             check_values(message, values, flow, given, tree[1][2:])

@@ -2,7 +2,7 @@
 //!
 //!     written COUNT [SEED]
 //!
-//! A line is `written` and the flow, the outcome bytes, the caller's nine values, the message and the values read from it; or `again`, a
+//! A line is `written` and the edition, the flow, the outcome bytes, the caller's nine values, the message and the values read from it; or `again`, a
 //! message and what it was written again as. Bytes are in hexadecimal, `-` where there are none. COUNT lines of each.
 
 use differential::random::Random;
@@ -36,7 +36,8 @@ fn written(random: &mut Random) -> Option<()> {
     let code = Tried.message_read(1, &message, &mut read, &mut entries, &mut 0, &mut 0);
     assert_eq!(code, 0, "what was written can be read");
     read.truncate(80 + 48 * entries as usize);
-    let mut parts: Vec<&[u8]> = vec![&flow, &outcomes];
+    let edition = [edition as u8];
+    let mut parts: Vec<&[u8]> = vec![&edition, &flow, &outcomes];
     parts.extend(given);
     parts.extend([&message[..], &read]);
     print("written", &parts);
