@@ -1,6 +1,7 @@
 -- Laws of the named children.
 use mathlib.Core.Path.{_≡_, refl, sym, ap, _∙_}
 use mathlib.Core.List.{List, [], _∷_}
+use mathlib.Core.Bool.{Bool, true, false}
 use Prim.Native.Nat.{ℕ, zero, suc, _+_, _-_, _<_}
 use native.Mathlib.Omega.{arith}
 use lib.ListN.{length}
@@ -17,6 +18,9 @@ use Rattle.rows.specs.declared.Kept.{Kept}
 use Rattle.rows.specs.declared.Next.the-variants.{Named, Done}
 use Rattle.rows.specs.Table.{table, spotIn}
 use Rattle.rows.specs.Kept.{keep, keptFrom, nextOf}
+
+pub not-both : {A : Type 0} → _≡_ {A = Bool} false true → A
+not-both e = let z : _≡_ {A = ℕ} 0 1 = cc in absurd (omega arith)
 
 module _ (p : Parent) (s : List ℕ) (i : ℕ) where
   pub kept-end : childAt s i ≡ End → keptFrom p s i ≡ []

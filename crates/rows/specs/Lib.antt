@@ -1,3 +1,4 @@
 pub mod Table
 pub mod Kept
 pub mod Read
+pub mod Inner

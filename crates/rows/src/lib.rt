@@ -6,12 +6,14 @@ use fields::Form;
 use fields::Reading;
 use fields::Value;
 ghost use mathlib.Core.Path.{_≡_};
+ghost use mathlib.Core.Bool.{true};
 ghost use Prim.Native.Nat.{_+_, _≤_, _<_};
 ghost use lib.ListN.{length};
 ghost use Rattle.markup.specs.Noted.{Noted};
 ghost use Rattle.rows.specs.Table.{nameIs, table, spotIn};
 ghost use Rattle.rows.specs.Kept.{keptFrom, nextOf};
 ghost use Rattle.rows.specs.Read.{fieldRead};
+ghost use Rattle.rows.specs.Inner.{ofMessage};
 
 // The parents of document 01's table; then those of outcome messages, and edition 2's root and header.
 pub enum Parent {
@@ -394,6 +396,31 @@ fn testata_flusso_spot(s: &[u8], a: usize, e: usize) -> Spot
     Spot::Passed
 }
 
+// Where a name stands in the table of an outcome message's parent. A function of its own, called from many places, so that the lookup of a flow's names
+// stays short enough to be compiled in place.
+fn message_spot(s: &[u8], a: usize, e: usize, parent: Parent) -> Spot
+    requires { ⌜ (a ≤ e) × (e ≤ length (now s)) × (ofMessage parent ≡ true) ⌝ }
+    ensures { λ r. ⌜ r ≡ spotIn (table parent) 0 (now (s .entry)) a e ⌝ }
+{
+    match parent {
+        Parent::MessaggiEsito => messaggi_spot(s, a, e),
+        Parent::TestataMessaggio => testata_spot(s, a, e),
+        Parent::EsitoReversali => esito_reversali_spot(s, a, e),
+        Parent::EsitoMandati => esito_mandati_spot(s, a, e),
+        Parent::ErroriReversali => errori_reversali_spot(s, a, e),
+        Parent::ErroriMandati => errori_mandati_spot(s, a, e),
+        Parent::FlussoOrdinativi => Spot::Passed,
+        Parent::Mandato => Spot::Passed,
+        Parent::Reversale => Spot::Passed,
+        Parent::InformazioniBeneficiario => Spot::Passed,
+        Parent::InformazioniVersante => Spot::Passed,
+        Parent::Beneficiario => Spot::Passed,
+        Parent::Versante => Spot::Passed,
+        Parent::FlussoOpi => Spot::Passed,
+        Parent::TestataFlusso => Spot::Passed,
+    }
+}
+
 // Where a name stands in its parent's table.
 pub fn spot_of(s: &[u8], a: usize, e: usize, parent: Parent) -> Spot
     requires { ⌜ (a ≤ e) × (e ≤ length (now s)) ⌝ }
@@ -407,12 +434,12 @@ pub fn spot_of(s: &[u8], a: usize, e: usize, parent: Parent) -> Spot
         Parent::InformazioniVersante => informazioni_versante_spot(s, a, e),
         Parent::Beneficiario => beneficiario_spot(s, a, e),
         Parent::Versante => versante_spot(s, a, e),
-        Parent::MessaggiEsito => messaggi_spot(s, a, e),
-        Parent::TestataMessaggio => testata_spot(s, a, e),
-        Parent::EsitoReversali => esito_reversali_spot(s, a, e),
-        Parent::EsitoMandati => esito_mandati_spot(s, a, e),
-        Parent::ErroriReversali => errori_reversali_spot(s, a, e),
-        Parent::ErroriMandati => errori_mandati_spot(s, a, e),
+        Parent::MessaggiEsito => message_spot(s, a, e, parent),
+        Parent::TestataMessaggio => message_spot(s, a, e, parent),
+        Parent::EsitoReversali => message_spot(s, a, e, parent),
+        Parent::EsitoMandati => message_spot(s, a, e, parent),
+        Parent::ErroriReversali => message_spot(s, a, e, parent),
+        Parent::ErroriMandati => message_spot(s, a, e, parent),
         Parent::FlussoOpi => opi_spot(s, a, e),
         Parent::TestataFlusso => testata_flusso_spot(s, a, e),
     }

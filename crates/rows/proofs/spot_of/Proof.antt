@@ -1,6 +1,19 @@
+use mathlib.Core.Path.{refl}
 use borrow.Author.Needs.{needs}
 use Rattle.rows.proofs.spot_of.Statement.{statement}
 use Rattle.rows.proofs.spot_of.Tie as tie
+use Rattle.rows.proofs.spot_of.Reads as reads
+use Rattle.rows.proofs.spot_of.Lts as lts
+use Rattle.rows.proofs.beneficiario_spot.Reads as beneficiario-spot-reads
+use Rattle.rows.proofs.flusso_spot.Reads as flusso-spot-reads
+use Rattle.rows.proofs.informazioni_beneficiario_spot.Reads as informazioni-beneficiario-spot-reads
+use Rattle.rows.proofs.informazioni_versante_spot.Reads as informazioni-versante-spot-reads
+use Rattle.rows.proofs.mandato_spot.Reads as mandato-spot-reads
+use Rattle.rows.proofs.message_spot.Reads as message-spot-reads
+use Rattle.rows.proofs.opi_spot.Reads as opi-spot-reads
+use Rattle.rows.proofs.reversale_spot.Reads as reversale-spot-reads
+use Rattle.rows.proofs.testata_flusso_spot.Reads as testata-flusso-spot-reads
+use Rattle.rows.proofs.versante_spot.Reads as versante-spot-reads
 
 enum-told : tie.Need-enum-told
 enum-told c = search needs
@@ -47,38 +60,38 @@ versante-spot-requires c κs = search needs
 enum-told-8 : tie.Need-enum-told-8
 enum-told-8 c = search needs
 
-messaggi-spot-requires : tie.Need-messaggi-spot-requires
-messaggi-spot-requires c κs = search needs
+message-spot-requires : tie.Need-message-spot-requires
+message-spot-requires c κs = (c .before .before .before .pre .0, c .before .before .before .pre .1, rw (c .enum-told8 .given .1) refl)
 
 enum-told-9 : tie.Need-enum-told-9
 enum-told-9 c = search needs
 
-testata-spot-requires : tie.Need-testata-spot-requires
-testata-spot-requires c κs = search needs
+message-spot-requires-2 : tie.Need-message-spot-requires-2
+message-spot-requires-2 c κs = (c .before .before .before .pre .0, c .before .before .before .pre .1, rw (c .enum-told9 .given .1) refl)
 
 enum-told-10 : tie.Need-enum-told-10
 enum-told-10 c = search needs
 
-esito-reversali-spot-requires : tie.Need-esito-reversali-spot-requires
-esito-reversali-spot-requires c κs = search needs
+message-spot-requires-3 : tie.Need-message-spot-requires-3
+message-spot-requires-3 c κs = (c .before .before .before .pre .0, c .before .before .before .pre .1, rw (c .enum-told10 .given .1) refl)
 
 enum-told-11 : tie.Need-enum-told-11
 enum-told-11 c = search needs
 
-esito-mandati-spot-requires : tie.Need-esito-mandati-spot-requires
-esito-mandati-spot-requires c κs = search needs
+message-spot-requires-4 : tie.Need-message-spot-requires-4
+message-spot-requires-4 c κs = (c .before .before .before .pre .0, c .before .before .before .pre .1, rw (c .enum-told11 .given .1) refl)
 
 enum-told-12 : tie.Need-enum-told-12
 enum-told-12 c = search needs
 
-errori-reversali-spot-requires : tie.Need-errori-reversali-spot-requires
-errori-reversali-spot-requires c κs = search needs
+message-spot-requires-5 : tie.Need-message-spot-requires-5
+message-spot-requires-5 c κs = (c .before .before .before .pre .0, c .before .before .before .pre .1, rw (c .enum-told12 .given .1) refl)
 
 enum-told-13 : tie.Need-enum-told-13
 enum-told-13 c = search needs
 
-errori-mandati-spot-requires : tie.Need-errori-mandati-spot-requires
-errori-mandati-spot-requires c κs = search needs
+message-spot-requires-6 : tie.Need-message-spot-requires-6
+message-spot-requires-6 c κs = (c .before .before .before .pre .0, c .before .before .before .pre .1, rw (c .enum-told13 .given .1) refl)
 
 enum-told-14 : tie.Need-enum-told-14
 enum-told-14 c = search needs
@@ -114,22 +127,22 @@ returns-7 : tie.Need-returns-7
 returns-7 c = rw (c .before .enum-told7 .given .1) (c .versante-spot .ensures)
 
 returns-8 : tie.Need-returns-8
-returns-8 c = rw (c .before .enum-told8 .given .1) (c .messaggi-spot .ensures)
+returns-8 c = search needs
 
 returns-9 : tie.Need-returns-9
-returns-9 c = rw (c .before .enum-told9 .given .1) (c .testata-spot .ensures)
+returns-9 c = search needs
 
 returns-10 : tie.Need-returns-10
-returns-10 c = rw (c .before .enum-told10 .given .1) (c .esito-reversali-spot .ensures)
+returns-10 c = search needs
 
 returns-11 : tie.Need-returns-11
-returns-11 c = rw (c .before .enum-told11 .given .1) (c .esito-mandati-spot .ensures)
+returns-11 c = search needs
 
 returns-12 : tie.Need-returns-12
-returns-12 c = rw (c .before .enum-told12 .given .1) (c .errori-reversali-spot .ensures)
+returns-12 c = search needs
 
 returns-13 : tie.Need-returns-13
-returns-13 c = rw (c .before .enum-told13 .given .1) (c .errori-mandati-spot .ensures)
+returns-13 c = search needs
 
 returns-14 : tie.Need-returns-14
 returns-14 c = rw (c .before .enum-told14 .given .1) (c .opi-spot .ensures)
@@ -156,17 +169,17 @@ spot-of-spec =
     enum-told-7
     versante-spot-requires
     enum-told-8
-    messaggi-spot-requires
+    message-spot-requires
     enum-told-9
-    testata-spot-requires
+    message-spot-requires-2
     enum-told-10
-    esito-reversali-spot-requires
+    message-spot-requires-3
     enum-told-11
-    esito-mandati-spot-requires
+    message-spot-requires-4
     enum-told-12
-    errori-reversali-spot-requires
+    message-spot-requires-5
     enum-told-13
-    errori-mandati-spot-requires
+    message-spot-requires-6
     enum-told-14
     opi-spot-requires
     enum-told-15
