@@ -36,8 +36,8 @@ pub fn used_slots(t: &[u8], base: usize, n: usize) -> usize
     n
 }
 
-// The search for an order, one walk over the body's used slots. The key is compared where the bytes stand, and empty slots are never looked at:
-// they follow the used ones.
+// The search for an order, one walk over the body's used slots. The key is compared where the bytes stand, and of the first empty slot only its kind is
+// read: the empty ones follow the used ones.
 pub fn seek(t: &[u8], base: usize, n: usize, key: Key) -> Sought
     requires { ⌜ base + slotSize * n ≤ length (now t) ⌝ }
     ensures { λ r. ⌜ r ≡ seekIn (recordsAt (now (t .entry)) base n) 0 key ⌝ }
