@@ -15,11 +15,17 @@ struct order {
     int passed_over; /* with the elements of the standards that the desk doesn't read */
 };
 
-static const char HEADER[] =
-    "<?xml version=\"1.0\" encoding=\"UTF-8\"?><flusso_ordinativi><codice_ABI_BT>" BANK "</codice_ABI_BT>"
-    "<identificativo_flusso>A1</identificativo_flusso>"
-    "<data_ora_creazione_flusso>2021-03-01T09:30:00</data_ora_creazione_flusso>"
-    "<codice_ente_BT>" BODY "</codice_ente_BT><esercizio>2021</esercizio>";
+#define DECLARATION "<?xml version=\"1.0\" encoding=\"UTF-8\"?>"
+#define FOUR(zone) \
+    "<codice_ABI_BT>" BANK "</codice_ABI_BT><identificativo_flusso>A1</identificativo_flusso>" \
+    "<data_ora_creazione_flusso>2021-03-01T09:30:00" zone "</data_ora_creazione_flusso><codice_ente_BT>" BODY "</codice_ente_BT>"
+
+/* By edition. */
+static const char *const HEADERS[] = {
+    "",
+    DECLARATION "<flusso_ordinativi>" FOUR("") "<esercizio>2021</esercizio>",
+    DECLARATION "<flusso_ordinativi Id=\"F_1\"><testata_flusso>" FOUR("+01:00") "</testata_flusso><esercizio>2021</esercizio>",
+};
 static const char FOOTER[] = "</flusso_ordinativi>";
 
 /* Names as they come: most are plain, one has a reference, one a letter of two bytes. */
@@ -27,7 +33,7 @@ static const char *const NAMES[] = {"Rossi", "Bianchi", "Verdi &amp; figli", "Ni
 
 const char *shape_name(enum shape shape)
 {
-    static const char *const names[SHAPES] = {"one order", "64 orders", "most lines", "passed-over elements"};
+    static const char *const names[SHAPES] = {"one order", "64 orders", "most lines", "passed-over elements", "64 orders, edition 2"};
     return names[shape];
 }
 
@@ -97,10 +103,11 @@ static int put_order(struct flow *flow, const struct order *order)
     return 1;
 }
 
-static void begin(struct flow *flow)
+static void begin(struct flow *flow, unsigned edition)
 {
     memset(flow, 0, sizeof *flow);
-    put(flow, HEADER);
+    flow->edition = edition;
+    put(flow, HEADERS[edition]);
 }
 
 /* Order number `index` of the table's life: mandati and reversali in turn, each with numbers of their own, as desks number them. */
@@ -128,7 +135,7 @@ static void put_most_lines(struct flow *flow)
 
 void write_flow(struct flow *flow, enum shape shape)
 {
-    begin(flow);
+    begin(flow, shape == EDITION_2 ? 2 : 1);
     if (shape == MOST_LINES) {
         put_most_lines(flow);
     } else {
@@ -148,7 +155,7 @@ int write_earlier_flow(struct flow *flow, unsigned index)
     enum { ORDERS = 16 };
     if (index >= EARLIER_ORDERS / ORDERS)
         return 0;
-    begin(flow);
+    begin(flow, 1);
     for (unsigned i = 0; i < ORDERS; i++) {
         struct order order = order_at(ORDERS * index + i, 1 + i % 3);
         put_order(flow, &order);

@@ -19,12 +19,13 @@ enum {
 struct flow {
     uint8_t bytes[LONGEST_FLOW];
     unsigned length;
+    unsigned edition; /* 1, or 2 with its header in testata_flusso, an Id and a zone */
     unsigned orders;
     unsigned lines;
     unsigned elements; /* all of them, the passed-over ones too */
 };
 
-enum shape { ONE_ORDER, MANY_ORDERS, MOST_LINES, PASSED_OVER, SHAPES };
+enum shape { ONE_ORDER, MANY_ORDERS, MOST_LINES, PASSED_OVER, EDITION_2, SHAPES };
 
 /* A shape's name, for a reader. */
 const char *shape_name(enum shape shape);

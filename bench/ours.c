@@ -30,7 +30,7 @@ static unsigned take(const struct flow *flow)
 {
     static uint8_t outcomes[HONDIVOLE_MOST_OUTCOME_BYTES];
     uint64_t place, orders, accepted, cause, steps;
-    hondivole_flow(table, sizeof table, HONDIVOLE_EDITION_OIL, flow->bytes, flow->length, outcomes, sizeof outcomes, &place, &orders, &accepted, &cause,
+    hondivole_flow(table, sizeof table, flow->edition, flow->bytes, flow->length, outcomes, sizeof outcomes, &place, &orders, &accepted, &cause,
                    &steps);
     return (unsigned)accepted;
 }

@@ -78,6 +78,7 @@ static struct element {
     const xmlChar *pooled; /* the name in the parser's dictionary */
 } elements[] = {
     {"flusso_ordinativi", OUTSIDE, NO_FIELD, 0, NULL},
+    {"testata_flusso", ROOT, NO_FIELD, 0, NULL}, /* edition 2's: it opens no level, its fields are read as the root's */
     {"codice_ABI_BT", ROOT, BANK_CODE, 0, NULL},
     {"identificativo_flusso", ROOT, IDENTIFIER, 0, NULL},
     {"data_ora_creazione_flusso", ROOT, CREATED, 0, NULL},
@@ -106,7 +107,8 @@ static struct element {
 enum { ELEMENTS = sizeof elements / sizeof elements[0] };
 
 /* The places of each level's elements in the list above. */
-static const unsigned LEVELS[] = {0, 1, 8, 17, 23, ELEMENTS};
+static const unsigned LEVELS[] = {0, 1, 9, 18, 24, ELEMENTS};
+enum { TESTATA = 1 };
 
 /* ---- a flow that is being read ---- */
 
@@ -194,7 +196,7 @@ static void read_field(enum field field)
     switch (field) {
     case BANK_CODE: reading.broken |= !is(BANK); break;
     case IDENTIFIER: reading.broken |= length < 1 || length > 35; break;
-    case CREATED: reading.broken |= length != 19; break;
+    case CREATED: reading.broken |= length != 19 && length != 25; break;
     case BODY_CODE: read_body(text, length); break;
     case ESERCIZIO: reading.esercizio = number_of(text, length); break;
     case OPERATION: reading.inserts = is("INSERIMENTO"); break;
@@ -272,6 +274,8 @@ static void on_start(void *context, const xmlChar *name, const xmlChar **attribu
     for (unsigned i = LEVELS[reading.level]; i < LEVELS[reading.level + 1]; i++) {
         if (elements[i].pooled != name)
             continue;
+        if (i == TESTATA)
+            return;
         reading.field = elements[i].field;
         reading.length = 0;
         if (reading.field == NO_FIELD)
@@ -301,12 +305,13 @@ static void on_text(void *context, const xmlChar *text, int length)
 static void on_end(void *context, const xmlChar *name)
 {
     (void)context;
-    (void)name;
     if (reading.passed_over > 0) {
         reading.passed_over--;
     } else if (reading.field != NO_FIELD) {
         read_field(reading.field);
         reading.field = NO_FIELD;
+    } else if (reading.level == ROOT && name == elements[TESTATA].pooled) {
+        return;
     } else {
         if (reading.level == LINE)
             end_line();
