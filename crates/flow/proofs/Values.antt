@@ -45,9 +45,9 @@ use Rattle.structure.proofs.Laws.{HeldIn, fits-parts, all-next, order-last}
 use Rattle.standing.specs.Readings.{Bad, Place, Nowhere, textOf, fieldsIn, fieldsBy, fieldsAt, badOr, firstBad}
 use Rattle.standing.proofs.Readings.{orBad, bad-append}
 use Rattle.order.specs.declared.Line.{Line}
-use Rattle.order.specs.Ordinativo.{Ordinativo, ordinativo}
+use Rattle.order.specs.Ordinativo.{Ordinativo, ordinativo, noLine}
 use Rattle.orders.specs.Shape.{orderRows, lineRows, Shaped, Filled}
-use Rattle.orders.specs.Orders.{those, ofRow, inRow, textIn, valueOf, dateOf, lineOf, linesOf, noLine, eight, linesIn, kindOf, orderBy, orderOf, ordersOf, holdsOrder, isOrder, ordersIn, Header, headerIn}
+use Rattle.orders.specs.Orders.{those, ofRow, inRow, textIn, valueOf, dateOf, lineOf, linesOf, eight, linesIn, kindOf, orderBy, orderOf, ordersOf, holdsOrder, isOrder, ordersIn, Header, headerIn}
 use Rattle.orders.proofs.Laws.{one, held-at, those-at, those-done, those-other, those-one, those-all, found, found-some, shaped-inside, Standing, order-held, order-at, orders-end, standing, lines-length}
 use Rattle.flow.specs.Flow.{headerOf, flowOrders}
 use Rattle.bounds.specs.Bounds.{maxCents}

@@ -16,7 +16,8 @@ use Rattle.rules.specs.declared.Change.{Change}
 use Rattle.rules.specs.declared.Change.the-variants.{Insert, Vary, Annul}
 use Rattle.rules.specs.declared.Ruling.{Ruling}
 use Rattle.rules.specs.declared.Ruling.the-variants.{Accepted, Refused}
-use Rattle.rules.specs.Rules.{anyExecuted, situationIn, situationOf, row, stepCode, nth, sameOrder, firstEmpty, placed, unless, stepped}
+use Rattle.slots.specs.Slots.{nth}
+use Rattle.rules.specs.Rules.{anyExecuted, situationIn, situationOf, row, stepCode, sameOrder, firstEmpty, placed, unless, stepped}
 use Rattle.rules.specs.Inner.{firstCode, meantCode, recordCode, absentCode}
 
 -- a code that isn't 0 comes first

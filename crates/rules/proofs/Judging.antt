@@ -12,7 +12,7 @@ use Rattle.ranges.specs.declared.Found.the-variants.{At, Nothing}
 use Rattle.order.specs.Ordinativo.{Ordinativo}
 use Rattle.record.specs.declared.Record.{Record}
 use Rattle.record.specs.declared.Key.{Key}
-use Rattle.slots.specs.Slots.{findIn}
+use Rattle.slots.specs.Slots.{findIn, nth, noRecord}
 use Rattle.slots.proofs.Search.{found-below}
 use Rattle.rules.specs.declared.Situation.{Situation}
 use Rattle.rules.specs.declared.Situation.the-variants.{Absent, Annulled, Waiting, Executed}
@@ -24,7 +24,7 @@ use Rattle.rules.specs.declared.Ruling.{Ruling}
 use Rattle.rules.specs.declared.Ruling.the-variants.{Accepted, Refused}
 use Rattle.rules.specs.declared.Noticed.the-variants.{Moved, Unmoved}
 use Rattle.lines.specs.Lines.{lineCode}
-use Rattle.rules.specs.Rules.{asksOf, anyExecuted, situationIn, situationOf, stepCode, keyFor, nth, noRecord, sameOrder, placed, unless, stepped, judgeAsked, judgeOrder, lineMoves, noticeIn, noticeAt, judgeNotice}
+use Rattle.rules.specs.Rules.{asksOf, anyExecuted, situationIn, situationOf, stepCode, keyFor, sameOrder, placed, unless, stepped, judgeAsked, judgeOrder, lineMoves, noticeIn, noticeAt, judgeNotice}
 
 -- two constructors are never equal
 abbrev clash : Type 0

@@ -14,17 +14,16 @@ use Rattle.calendar.specs.Calendar.{isDate}
 use Rattle.order.specs.declared.Line.{Line}
 use Rattle.order.specs.Ordinativo.{Ordinativo}
 use Rattle.record.specs.declared.Record.{Record}
-use Rattle.record.specs.Slot.{annulledState, keyOf}
+use Rattle.record.specs.Slot.{annulledState, keyOf, recordWith, withState}
 use Rattle.ranges.specs.declared.Found.the-variants.{At}
 use Rattle.valid.specs.Valid.{lineThere, lineAbsent, lineOk, sum, rangesOk}
-use Rattle.slots.specs.Slots.{findIn}
+use Rattle.slots.specs.Slots.{findIn, nth, noRecord}
 use Rattle.valid.proofs.Valid.{Valid, one-of-sum, ok-bounds, ok-line, ok-sum, ok-amount, ok-tests, ok-from}
 use Rattle.slots.proofs.Search.{found-below, found-key}
 use Rattle.lines.specs.Lines.{numberedFrom, sumOf, lineCode}
 use Rattle.rules.specs.declared.Change.{Change}
 use Rattle.rules.specs.declared.Ruling.the-variants.{Accepted}
-use Rattle.rules.specs.Rules.{anyExecuted, keyFor, nth, noRecord, eightPlaces, amountsOf, judgeOrder, recordWith, written}
-use Rattle.rules.specs.Effects.{withState}
+use Rattle.rules.specs.Rules.{anyExecuted, keyFor, eightPlaces, amountsOf, judgeOrder, written}
 use Rattle.rules.proofs.Laws.{eight-at, length-eight}
 use Rattle.bounds.specs.Bounds.{maxCents}
 use Rattle.rules.proofs.Judging.{Stands, inserting, varying, annulling, accepted, accepted-lines}

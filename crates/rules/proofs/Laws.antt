@@ -9,9 +9,8 @@ use lib.ListN.{length, take, drop, getD, replicate, drop-of-length-le, length-ap
 use lib.Seq.{drop-cons, getD-take, length-take-le}
 use lib.Dec.{ltb}
 use borrow.Author.Tests.{eq-eqb, ne-eqb, le-leb, lt-leb, ltb-true, ltb-false}
-use Rattle.lines.proofs.Laws.{noLine}
 use Rattle.order.specs.declared.Line.{Line}
-use Rattle.order.specs.Ordinativo.{Ordinativo}
+use Rattle.order.specs.Ordinativo.{Ordinativo, noLine}
 use Rattle.record.specs.declared.Record.{Record}
 use Rattle.rules.specs.declared.Situation.{Situation}
 use Rattle.rules.specs.declared.Situation.the-variants.{Absent, Annulled, Waiting, Executed}

@@ -19,7 +19,7 @@ use Rattle.order.specs.Ordinativo.{Ordinativo}
 use Rattle.record.specs.declared.Record.{Record}
 use Rattle.record.specs.declared.Key.{Key}
 use Rattle.record.specs.Slot.{keyOf, keyIs}
-use Rattle.slots.specs.Slots.{findIn, distinct}
+use Rattle.slots.specs.Slots.{findIn, distinct, nth, noRecord}
 use Rattle.slots.proofs.Search.{nothing-is, found-below, found-key}
 use Rattle.lines.specs.Lines.{numberedFrom, sumOf, lineCode}
 use Rattle.rules.specs.declared.Situation.{Situation}
@@ -32,7 +32,7 @@ use Rattle.rules.specs.declared.Ruling.{Ruling}
 use Rattle.rules.specs.declared.Ruling.the-variants.{Accepted, Refused}
 use Rattle.rules.specs.declared.Noticed.{Noticed}
 use Rattle.rules.specs.declared.Noticed.the-variants.{Moved, Unmoved}
-use Rattle.rules.specs.Rules.{asksOf, anyExecuted, situationIn, situationOf, row, stepCode, keyFor, nth, noRecord, eightPlaces, amountsOf, sameList, sameOrder, placed, unless, stepped, judgeChange, judgeAsked, judgeOrder, lineMoves, noticeIn, noticeAt, judgeNotice}
+use Rattle.rules.specs.Rules.{asksOf, anyExecuted, situationIn, situationOf, row, stepCode, keyFor, eightPlaces, amountsOf, sameList, sameOrder, placed, unless, stepped, judgeChange, judgeAsked, judgeOrder, lineMoves, noticeIn, noticeAt, judgeNotice}
 use Rattle.rules.specs.Listed.{Has, HasNone, IsAnnulled, IsExecuted, Numbered, Differs, total, count, amounts, OnRecord, variazione, annullo, Applies, sostituzione, misnumbered, missummed, present, full, absent, annulled, executed, differs, NoticeApplies, unknown, closed, zeroth, past, already, notYet, turn, noticeTurn}
 use Rattle.rules.proofs.Laws.{in-annulled, in-executed, moves-executed, moves-waiting}
 use Rattle.rules.proofs.Kept.{none-executed}

@@ -5,12 +5,13 @@ use mathlib.Core.List.{List, [], _∷_, _++_}
 use lib.ListN.{set, take, drop}
 use Rattle.order.specs.Ordinativo.{Ordinativo}
 use Rattle.record.specs.declared.Record.{Record}
-use Rattle.record.specs.Slot.{keyOf}
+use Rattle.record.specs.Slot.{keyOf, recordWith}
 use Rattle.rules.specs.declared.Ruling.{Ruling}
 use Rattle.rules.specs.declared.Ruling.the-variants.{Accepted, Refused}
 use Rattle.rules.specs.declared.Noticed.{Noticed}
 use Rattle.rules.specs.declared.Noticed.the-variants.{Moved, Unmoved}
-use Rattle.rules.specs.Rules.{nth, judgeOrder, recordWith, written, movedTo}
+use Rattle.slots.specs.Slots.{nth}
+use Rattle.rules.specs.Rules.{judgeOrder, written, movedTo}
 
 -- a record in place of the one at i, or after the last
 abbrev pub storedAt : List Record → ℕ → Record → List Record
@@ -25,10 +26,6 @@ recordsBy year o rs (Refused code) = rs
 unfoldable pub allRecords : ℕ → ℕ → List Ordinativo → List Record → List Record
 allRecords slots year [] rs = rs
 allRecords slots year (o ∷ os) rs = allRecords slots year os (recordsBy year o rs (judgeOrder slots year o rs))
-
--- a record with the state s at line k, counted from 0
-abbrev pub withState : Record → ℕ → ℕ → Record
-withState r k s = recordWith (keyOf r) (r .state) (r .lines) (r .date) (r .total) (set (r .states) k s) (r .amounts)
 
 -- a notice: "Execution sets the line executed; reversal sets it waiting again"
 abbrev pub recordsMoved : Bool → ℕ → List Record → Noticed → List Record

@@ -63,14 +63,6 @@ stepCode Annul s = row 16 17 0 18 s
 abbrev pub keyFor : ℕ → Ordinativo → Key
 keyFor year o = record { kind = o .kind; esercizio = year; number = o .number }
 
--- no record, an empty slot's: nothing ever looks past the last one
-abbrev pub noRecord : Record
-noRecord = recordAt [] 0
-
--- the record at an index of a body's records
-abbrev pub nth : List Record → ℕ → Record
-nth rs i = getD rs i noRecord
-
 unfoldable pub situationOf : List Record → Found → Situation
 situationOf rs Nothing = Absent
 situationOf rs (At i) = situationIn (nth rs i)
@@ -132,20 +124,6 @@ orderCode (Accepted c i) = 0
 orderCode (Refused code) = code
 
 -- WHAT IS WRITTEN
-
--- a record of this key and state: so many lines, date, total, line states and amounts
-abbrev pub recordWith : Key → ℕ → ℕ → Date → ℕ → List ℕ → List ℕ → Record
-recordWith k state lines date total states amounts = record {
-  kind = k .kind;
-  state = state;
-  lines = lines;
-  esercizio = k .esercizio;
-  number = k .number;
-  date = date;
-  total = total;
-  states = states;
-  amounts = amounts;
-}
 
 -- with the order's date, total and lines, all of them waiting
 abbrev pub recordOf : Key → ℕ → Ordinativo → Record

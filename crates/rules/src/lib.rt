@@ -9,8 +9,8 @@ ghost use Prim.Native.Nat.{_≤_};
 ghost use lib.ListN.{replicate};
 ghost use lib.Dec.{ltb};
 ghost use Rattle.order.specs.Ordinativo.{linesThere, ordinativo};
-ghost use Rattle.record.specs.Slot.{acquiredState, annulledState, waitingLine, keyOf};
-ghost use Rattle.rules.specs.Rules.{asksOf, anyExecuted, situationIn, stepCode, eightPlaces, amountsOf, sameList, sameOrder, keyFor, recordWith, recordOf, written, lineMoves, noticeIn};
+ghost use Rattle.record.specs.Slot.{acquiredState, annulledState, waitingLine, keyOf, recordWith};
+ghost use Rattle.rules.specs.Rules.{asksOf, anyExecuted, situationIn, stepCode, eightPlaces, amountsOf, sameList, sameOrder, keyFor, recordOf, written, lineMoves, noticeIn};
 ghost use Rattle.rules.specs.Inner.{rowOf, columnOf, meantCode, recordCode, absentCode};
 
 // Where the step table's columns stand.

@@ -13,7 +13,7 @@ use Rattle.order.specs.Ordinativo.{Ordinativo}
 use Rattle.record.specs.declared.Record.{Record}
 use Rattle.record.specs.Slot.{slotSize, recordAt, recordBytes, keyOf}
 use Rattle.record.proofs.Back.{agree-before, agree-after, length-record}
-use Rattle.slots.specs.Slots.{recordsAt, findIn}
+use Rattle.slots.specs.Slots.{recordsAt, findIn, nth, noRecord}
 use Rattle.body.specs.Body.{bodyOk, centsOf}
 use Rattle.body.proofs.Puts.{records-set, keeps-ok, records-add, adds-ok}
 use Rattle.slots.proofs.Search.{found-key}
@@ -23,12 +23,13 @@ use Rattle.valid.proofs.Valid.{Valid}
 use Rattle.rules.specs.declared.Change.{Change}
 use Rattle.rules.specs.declared.Ruling.{Ruling}
 use Rattle.rules.specs.declared.Ruling.the-variants.{Accepted, Refused}
-use Rattle.rules.specs.Rules.{keyFor, nth, noRecord, judgeOrder, written}
+use Rattle.rules.specs.Rules.{keyFor, judgeOrder, written}
 use Rattle.rules.specs.Effects.{storedAt, recordsBy, allRecords}
 use Rattle.rules.proofs.Judging.{Stands, inserting, varying, annulling, accepted}
 use Rattle.rules.proofs.Kept.{Writable, written-valid, written-key}
 use Rattle.service.specs.Service.{orderComes, orderStored, orderLeaves, allLeave}
-use Rattle.service.proofs.Laws.{Held, held, search-held, order-low}
+use Rattle.slots.proofs.Held.{Held, held, search-held}
+use Rattle.service.proofs.Laws.{order-low}
 use Rattle.service.proofs.Worth.{stored-end, order-cash}
 
 -- a call on a body of n slots from base on left t′ of t

@@ -16,7 +16,7 @@ use Rattle.record.specs.declared.Key.{Key}
 use Rattle.record.specs.Slot.{slotSize, acquiredState, recordAt, recordBytes}
 use Rattle.slots.specs.declared.Sought.{Sought}
 use Rattle.slots.specs.declared.Sought.the-variants as sought
-use Rattle.slots.specs.Slots.{usedAt, recordsAt, findIn}
+use Rattle.slots.specs.Slots.{usedAt, recordsAt, findIn, nth, noRecord}
 use Rattle.slots.specs.Inner.{seekIn}
 use Rattle.body.specs.Body.{bodyOk}
 use Rattle.slots.proofs.Laws.{used-le}
@@ -31,31 +31,12 @@ use Rattle.rules.specs.declared.Ruling.{Ruling}
 use Rattle.rules.specs.declared.Ruling.the-variants.{Accepted, Refused}
 use Rattle.rules.specs.declared.Noticed.the-variants.{Moved, Unmoved}
 use Rattle.lines.specs.Lines.{lineCode}
-use Rattle.rules.specs.Rules.{asksOf, keyFor, nth, noRecord, unless, stepped, judgeChange, judgeAsked, judgeOrder, recordOf, written, noticeIn, noticeAt, judgeNotice}
+use Rattle.rules.specs.Rules.{asksOf, keyFor, unless, stepped, judgeChange, judgeAsked, judgeOrder, recordOf, written, noticeIn, noticeAt, judgeNotice}
 use Rattle.rules.specs.Inner.{absentCode}
 use Rattle.rules.proofs.Judging.{accepted-slot, moved}
 use Rattle.rules.proofs.Codes.{stepped-at, stepped-none, absent-zero}
 use Rattle.service.specs.Inner.{onRecord, onNone, Ruled}
 use Rattle.service.specs.Service.{orderComes, orderStored, OrderServed, outcomeBytes, noticeComes, noticeStored, noticeLeaves}
-
--- A RECORD OF A BODY stands in its slot
-pub record Held (t : List ℕ) (base n i : ℕ) : Type 0 where
-  pub low : i < n
-  pub used : i < usedAt t base n
-  pub same : nth (recordsAt t base n) i ≡ recordAt t (base + slotSize * i)
-
-module _ (t : List ℕ) (base n : ℕ) where
-  abbrev records : List Record
-  records = recordsAt t base n
-
-  pub held : (i : ℕ) → i < length records → Held t base n i
-  held i h =
-      let l = length-records t base n in
-      let u : i < usedAt t base n = omega arith in
-      record { low = omega (arith, used-le t base n); used = u; same = get-record t base n i noRecord u }
-
-  pub search-held : {f : Found} {i : ℕ} (k : Key) → f ≡ findIn records 0 k → f ≡ At i → Held t base n i
-  search-held {f} {i} k e g = held i (found-below records k i noRecord (sym e ∙ g))
 
 -- AN ORDER
 

@@ -13,7 +13,7 @@ use Rattle.order.specs.Ordinativo.{Ordinativo}
 use Rattle.record.specs.declared.Key.{Key}
 use Rattle.record.specs.Slot.{statesOffset, slotSize, recordAt, recordBytes}
 use Rattle.record.proofs.Back.{same-record, agree-before, agree-after}
-use Rattle.slots.specs.Slots.{recordsAt}
+use Rattle.slots.specs.Slots.{recordsAt, statePlace}
 use Rattle.entries.specs.Entry.{entrySize, entryFixed, keptBytes}
 use Rattle.body.specs.Body.{bodyOk, centsOf}
 use Rattle.body.proofs.Same.{records-agree}
@@ -23,10 +23,10 @@ use Rattle.rules.specs.declared.Ruling.the-variants.{Accepted, Refused}
 use Rattle.rules.specs.declared.Noticed.{Noticed}
 use Rattle.rules.specs.declared.Noticed.the-variants.{Moved, Unmoved}
 use Rattle.rules.specs.Rules.{judgeOrder, orderCode, written, judgeNotice, movedTo}
-use Rattle.rules.proofs.Kept.{split}
+use Rattle.valid.proofs.Moved.{split}
 use Rattle.service.proofs.Laws.{order-low, notice-line}
 use Rattle.service.proofs.Kept.{Writables, none, more, order-kept}
-use Rattle.service.specs.Service.{orderComes, orderStored, orderLeaves, outcomeBytes, allLeave, allOutcomes, allAccepted, noticeComes, statePlace, lineMoved, settled, noticeStored, noticeLeaves}
+use Rattle.service.specs.Service.{orderComes, orderStored, orderLeaves, outcomeBytes, allLeave, allOutcomes, allAccepted, noticeComes, lineMoved, settled, noticeStored, noticeLeaves}
 use Rattle.service.specs.Inner.{Served}
 
 -- the same bytes put at the same place

@@ -13,8 +13,8 @@ use Rattle.scan.proofs.Laws.{both}
 use Rattle.ranges.specs.Ranges.{isNothing}
 use Rattle.record.specs.declared.Key.{Key}
 use Rattle.record.specs.declared.Record.{Record}
-use Rattle.record.specs.Slot.{keyOf, keyIs}
-use Rattle.slots.specs.Slots.{findIn, distinct}
+use Rattle.record.specs.Slot.{keyOf, keyIs, withState}
+use Rattle.slots.specs.Slots.{findIn, distinct, nth, noRecord}
 use Rattle.slots.proofs.Search.{found-below, found-key}
 use Rattle.valid.specs.Valid.{executedIn}
 use Rattle.body.specs.Body.{centsOf}
@@ -25,8 +25,8 @@ use Rattle.rules.specs.declared.Ruling.{Ruling}
 use Rattle.rules.specs.declared.Ruling.the-variants.{Accepted, Refused}
 use Rattle.ranges.specs.declared.Found.the-variants.{At}
 use Rattle.rules.specs.declared.Noticed.the-variants.{Moved}
-use Rattle.rules.specs.Rules.{anyExecuted, keyFor, nth, noRecord, eightPlaces, judgeOrder, written, lineMoves, movedTo, judgeNotice}
-use Rattle.rules.specs.Effects.{storedAt, recordsBy, allRecords, withState, recordsMoved}
+use Rattle.rules.specs.Rules.{anyExecuted, keyFor, eightPlaces, judgeOrder, written, lineMoves, movedTo, judgeNotice}
+use Rattle.rules.specs.Effects.{storedAt, recordsBy, allRecords, recordsMoved}
 use Rattle.rules.proofs.Judging.{Stands, inserting, varying, annulling, accepted, Moves, moved}
 use Rattle.rules.proofs.Kept.{waiting-all}
 use Rattle.rules.specs.Worth.{Which, Value, worthIn, worth, ofKind, itsCents, withKey, onLine}

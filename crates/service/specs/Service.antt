@@ -69,10 +69,6 @@ allAccepted t base n year (o ∷ os) =
 unfoldable pub noticeComes : List ℕ → ℕ → ℕ → Bool → Key → ℕ → Noticed
 noticeComes t base n executing k line = judgeNotice executing k line (recordsAt t base n)
 
--- the byte of a line's state, counted from 1: "24-31 eight line states"
-abbrev pub statePlace : ℕ → ℕ → ℕ → ℕ
-statePlace base i line = base + slotSize * i + statesOffset + (line - 1)
-
 -- the line's state is set
 unfoldable pub lineMoved : List ℕ → ℕ → Bool → ℕ → ℕ → List ℕ
 lineMoved t base executing line i = put t (statePlace base i line) (movedTo executing ∷ [])

@@ -19,7 +19,7 @@ use Rattle.days.specs.Days.{served}
 use Rattle.target_days.specs.Target.{closing, targetCode}
 use Rattle.record.specs.declared.Key.{Key}
 use Rattle.record.specs.declared.Record.{Record}
-use Rattle.slots.specs.Slots.{findIn, recordsAt}
+use Rattle.slots.specs.Slots.{findIn, recordsAt, nth}
 use Rattle.lines.specs.Lines.{numberedFrom, sumOf, lineCode}
 use Rattle.rules.specs.declared.Situation.{Situation}
 use Rattle.rules.specs.declared.Situation.the-variants.{Absent, Annulled, Waiting, Executed}
@@ -29,7 +29,7 @@ use Rattle.rules.specs.declared.Ruling.{Ruling}
 use Rattle.rules.specs.declared.Ruling.the-variants.{Accepted, Refused}
 use Rattle.rules.specs.declared.Noticed.{Noticed}
 use Rattle.rules.specs.declared.Noticed.the-variants.{Moved, Unmoved}
-use Rattle.rules.specs.Rules.{asksOf, situationOf, stepCode, nth, sameOrder, placed, unless, stepped, judgeChange, judgeAsked, keyFor, judgeOrder, orderCode, lineMoves, noticeIn, noticeAt, judgeNotice, noticeCode}
+use Rattle.rules.specs.Rules.{asksOf, situationOf, stepCode, sameOrder, placed, unless, stepped, judgeChange, judgeAsked, keyFor, judgeOrder, orderCode, lineMoves, noticeIn, noticeAt, judgeNotice, noticeCode}
 use Rattle.service.specs.Service.{noticeComes}
 use Rattle.address.specs.declared.Addressed.{Addressed}
 use Rattle.address.specs.declared.Addressed.the-variants.{Invalid, Unknown, Body}

@@ -13,7 +13,7 @@ use Rattle.ranges.specs.declared.Found.{Found}
 use Rattle.ranges.specs.declared.Found.the-variants.{At, Nothing}
 use Rattle.record.specs.declared.Key.{Key}
 use Rattle.record.specs.declared.Record.{Record}
-use Rattle.slots.specs.Slots.{recordsAt, findIn, distinct}
+use Rattle.slots.specs.Slots.{recordsAt, findIn, distinct, nth, noRecord}
 use Rattle.slots.proofs.Search.{found-key}
 use Rattle.body.specs.Body.{bodyOk}
 use Rattle.body.proofs.Slots.{parts, valid-at}
@@ -23,10 +23,10 @@ use Rattle.rules.specs.declared.Ruling.{Ruling}
 use Rattle.rules.specs.declared.Ruling.the-variants.{Accepted, Refused}
 use Rattle.rules.specs.declared.Noticed.{Noticed}
 use Rattle.rules.specs.declared.Noticed.the-variants.{Moved, Unmoved}
-use Rattle.rules.specs.Rules.{nth, noRecord, judgeOrder, orderCode, noticeAt, judgeNotice, noticeCode}
+use Rattle.rules.specs.Rules.{judgeOrder, orderCode, noticeAt, judgeNotice, noticeCode}
 use Rattle.rules.specs.Listed.{Applies, turn, NoticeApplies, unknown, closed, zeroth, past, already, notYet, noticeTurn}
 use Rattle.rules.proofs.Listed.{refused-applies, applies-by, accepted-none, one-in-turn, unmoved-applies, notice-by, moved-none, one-notice-in-turn}
-use Rattle.service.proofs.Laws.{search-held}
+use Rattle.slots.proofs.Held.{search-held}
 use Rattle.service.specs.Service.{orderComes, noticeComes, noticeStored}
 use Rattle.address.specs.declared.Addressed.the-variants.{Body}
 use Rattle.address.specs.Address.{addressed}

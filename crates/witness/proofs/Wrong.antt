@@ -12,7 +12,7 @@ use Rattle.scan.specs.Bytes.{bytes}
 use Rattle.scan.proofs.Laws.{both}
 use Rattle.valid.specs.Valid.{lineAbsent, lineOk}
 use Rattle.valid.proofs.Valid.{Valid, ok-line}
-use Rattle.slots.specs.Slots.{recordsAt}
+use Rattle.slots.specs.Slots.{recordsAt, nth}
 use Rattle.body.proofs.Slots.{valid-at}
 use Rattle.entries.specs.Entry.{slotsOf, placeOf}
 use Rattle.table.specs.Table.{tableOk, entryOf}
@@ -34,10 +34,10 @@ use Rattle.fields.specs.declared.Cause.{Cause}
 use Rattle.flow.specs.declared.Verdict.the-variants.{FieldBreaks, Stands}
 use Rattle.flow.specs.Flow.{headerOf}
 use Rattle.rules.specs.Listed.{Has, Applies, sostituzione, misnumbered, missummed, present, full, absent, annulled, executed, differs}
-use Rattle.rules.specs.Rules.{keyFor, nth, judgeOrder, orderCode}
+use Rattle.rules.specs.Rules.{keyFor, judgeOrder, orderCode}
 use Rattle.rules.specs.Effects.{recordsBy, allRecords}
 use Rattle.service.specs.Service.{outcomeSize, orderComes}
-use Rattle.service.proofs.Laws.{held}
+use Rattle.slots.proofs.Held.{held}
 use Rattle.theorems.specs.Engine.{flow as aFlow, recordsOf, owned}
 use Rattle.theorems.specs.Codes.{outcomeCodes}
 use Rattle.theorems.specs.Condition2.{codesInTurn}
