@@ -3,22 +3,24 @@ use Prim.Native.Nat.{ℕ, suc, _+_, _-_, _*_, _≤_, _<_}
 use mathlib.Core.List.{List, [], _∷_}
 use mathlib.Core.Path.{_≡_, refl, sym, ap, _∙_}
 use native.Mathlib.Omega.{arith}
-use lib.ListN.{length}
+use native.Mathlib.Numerals.{add-one}
+use lib.ListN.{length, drop}
+use lib.Seq.{drop-cons, drop-length}
 use Rattle.words.specs.Numbers.{put}
 use Rattle.words.proofs.Laws.{length-put}
 use Rattle.ranges.specs.declared.Found.{Found}
 use Rattle.ranges.specs.declared.Found.the-variants.{At, Nothing}
-use Rattle.order.specs.declared.Order.{Order}
-use Rattle.order.specs.Ordinativo.{ordinativo}
+use Rattle.order.specs.declared.Line.{Line}
+use Rattle.order.specs.Ordinativo.{noLine}
 use Rattle.record.specs.declared.Record.{Record}
 use Rattle.record.specs.Slot.{slotSize, recordAt}
 use Rattle.slots.specs.Slots.{recordsAt, nth, statePlace, findIn}
 use Rattle.slots.proofs.Held.{Held, search-held}
 use Rattle.body.proofs.State.{state-records}
 use Rattle.replacing.specs.declared.Naming.{Naming}
-use Rattle.replacing.specs.Replacing.{namings, lineNamedIn, namedAt, namedCode, withReplacedAt, withReplaced, replaceCode, lineStored, linePut, linesPut}
-use Rattle.replacing.specs.Inner.{namingAt, namingsFrom, lineCount}
-use Rattle.replacing.proofs.Marks.{Takes, takes, inside-list, or-zero, allNamings, namings-are}
+use Rattle.replacing.specs.Replacing.{namingsOf, lineNamedIn, namedAt, namedCode, withReplacedAt, withReplaced, replaceCode, lineStored, linePut, linesPut}
+use Rattle.replacing.specs.Inner.{namingAt}
+use Rattle.replacing.proofs.Marks.{Takes, takes, inside-list, or-zero}
 
 -- WHAT A SEARCH TOLD
 
@@ -82,51 +84,45 @@ module _ (t : List ℕ) (base n : ℕ) (m : Naming) (e : namedCode (recordsAt t 
 -- ALL NAMED LINES, one after another
 
 -- the order's first j lines are marked on t, which was t₀
-pub record Going (t₀ t : List ℕ) (base n : ℕ) (o : Order) (j : ℕ) : Type 0 where
-  pub low : j ≤ lineCount o
+pub record Going (t₀ t : List ℕ) (base n kind : ℕ) (ls : List Line) (j : ℕ) : Type 0 where
+  pub low : j ≤ length ls
   pub long : length t ≡ length t₀
-  pub same : linesPut t base n (namingsFrom o j (lineCount o - j)) ≡ linesPut t₀ base n (allNamings o)
-  pub stands : replaceCode (recordsAt t base n) (namingsFrom o j (lineCount o - j)) ≡ 0
+  pub same : linesPut t base n (namingsOf kind (drop j ls)) ≡ linesPut t₀ base n (namingsOf kind ls)
+  pub stands : replaceCode (recordsAt t base n) (namingsOf kind (drop j ls)) ≡ 0
 
-module _ (t₀ : List ℕ) (base n : ℕ) (o : Order) where
-  abbrev count : ℕ
-  count = lineCount o
+module _ (t₀ : List ℕ) (base n kind : ℕ) (ls : List Line) where
+  pub going-start : replaceCode (recordsAt t₀ base n) (namingsOf kind ls) ≡ 0 → Going t₀ t₀ base n kind ls 0
+  going-start e = record { low = omega arith; long = refl; same = refl; stands = e }
 
-  pub going-start : replaceCode (recordsAt t₀ base n) (namings (ordinativo o)) ≡ 0 → Going t₀ t₀ base n o 0
-  going-start e =
-      let q : count - 0 ≡ count = omega arith in
-      record {
-        low = omega arith;
-        long = refl;
-        same = ap (λ (x : ℕ). linesPut t₀ base n (namingsFrom o 0 x)) q;
-        stands = ap (λ (x : ℕ). replaceCode (recordsAt t₀ base n) (namingsFrom o 0 x)) q ∙ ap (replaceCode (recordsAt t₀ base n)) (namings-are o) ∙ e;
-      }
+  module _ (t : List ℕ) (j : ℕ) (g : Going t₀ t base n kind ls j) where
+    pub going-end : length ls ≤ j → t ≡ linesPut t₀ base n (namingsOf kind ls)
+    unfolding linesPut namingsOf
+    going-end h =
+        let q : length ls ≡ j = omega (arith, g .low) in
+        sym (ap (λ (l : List Line). linesPut t base n (namingsOf kind l)) (ap (λ (x : ℕ). drop x ls) (sym q) ∙ drop-length ls)) ∙ g .same
 
-  module _ (t : List ℕ) (j : ℕ) (g : Going t₀ t base n o j) where
-    pub going-end : count ≤ j → t ≡ linesPut t₀ base n (namings (ordinativo o))
-    unfolding linesPut namingsFrom
-    going-end h = let q : 0 ≡ count - j = omega arith in ap (λ (x : ℕ). linesPut t base n (namingsFrom o j x)) q ∙ g .same ∙ ap (linesPut t₀ base n) (namings-are o)
+    module _ (h : j < length ls) where
+      here : namingsOf kind (drop j ls) ≡ namingAt kind ls j ∷ namingsOf kind (drop (suc j) ls)
+      unfolding namingsOf namingAt
+      here = ap (namingsOf kind) (drop-cons ls j noLine h)
 
-    module _ (h : j < count) where
-      here : count - j ≡ suc (count - (j + 1))
-      here = omega arith
+      codes : (namedCode (recordsAt t base n) (namingAt kind ls j) ≡ 0) × (replaceCode (withReplaced (recordsAt t base n) (namingAt kind ls j)) (namingsOf kind (drop (suc j) ls)) ≡ 0)
+      unfolding replaceCode
+      codes = or-zero _ _ (sym (ap (replaceCode (recordsAt t base n)) here) ∙ g .stands)
 
-      codes : (namedCode (recordsAt t base n) (namingAt o j) ≡ 0) × (replaceCode (withReplaced (recordsAt t base n) (namingAt o j)) (namingsFrom o (j + 1) (count - (j + 1))) ≡ 0)
-      unfolding replaceCode namingsFrom
-      codes = or-zero _ _ (sym (ap (λ (x : ℕ). replaceCode (recordsAt t base n) (namingsFrom o j x)) here) ∙ g .stands)
-
-      pub going-code : {x : Naming} → x ≡ namingAt o j → namedCode (recordsAt t base n) x ≡ 0
+      pub going-code : {x : Naming} → x ≡ namingAt kind ls j → namedCode (recordsAt t base n) x ≡ 0
       going-code q = ap (namedCode (recordsAt t base n)) q ∙ codes .0
 
-      pub going-next : base + slotSize * n ≤ length t → {x : Naming} {t′ : List ℕ} → x ≡ namingAt o j → t′ ≡ linePut t base n x → Going t₀ t′ base n o (j + 1)
-      unfolding linesPut namingsFrom
+      pub going-next : base + slotSize * n ≤ length t → {x : Naming} {t′ : List ℕ} → x ≡ namingAt kind ls j → t′ ≡ linePut t base n x → Going t₀ t′ base n kind ls (j + 1)
+      unfolding linesPut
       going-next fits {x} {t′} q p =
-          let d : t′ ≡ linePut t base n (namingAt o j) = p ∙ ap (linePut t base n) q in
-          record {
+          let d : t′ ≡ linePut t base n (namingAt kind ls j) = p ∙ ap (linePut t base n) q in
+          rw (add-one j) (record {
             low = omega arith;
-            long = ap length d ∙ line-long t base n (namingAt o j) (codes .0) fits ∙ g .long;
-            same = ap (λ (y : List ℕ). linesPut y base n (namingsFrom o (j + 1) (count - (j + 1)))) d ∙ sym (ap (λ (y : ℕ). linesPut t base n (namingsFrom o j y)) here) ∙ g .same;
+            long = ap length d ∙ line-long t base n (namingAt kind ls j) (codes .0) fits ∙ g .long;
+            same = ap (λ (y : List ℕ). linesPut y base n (namingsOf kind (drop (suc j) ls))) d ∙ sym (ap (linesPut t base n) here) ∙ g .same;
             stands =
-                ap (λ (y : List Record). replaceCode y (namingsFrom o (j + 1) (count - (j + 1)))) (ap (λ (y : List ℕ). recordsAt y base n) d ∙ line-records t base n (namingAt o j) (codes .0) fits)
+                ap (λ (y : List Record). replaceCode y (namingsOf kind (drop (suc j) ls)))
+                (ap (λ (y : List ℕ). recordsAt y base n) d ∙ line-records t base n (namingAt kind ls j) (codes .0) fits)
                 ∙ codes .1;
-          }
+          })

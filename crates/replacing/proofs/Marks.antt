@@ -2,11 +2,10 @@
 use Prim.Native.Nat.{ℕ, zero, suc, _+_, _-_, _*_, _≤_, _<_}
 use mathlib.Core.Bool.{Bool, true, false, _&&_, _||_, cond, and-true, or-true}
 use mathlib.Core.List.{List, [], _∷_}
-use mathlib.Core.Path.{_≡_, refl, sym, ap, _∙_}
+use mathlib.Core.Path.{_≡_, refl, sym, ap, subst, _∙_}
 use native.Mathlib.Omega.{arith}
-use native.Mathlib.Nat.{zero-add}
 use native.Mathlib.Numerals.{add-one}
-use lib.ListN.{length, getD, set, take, drop, length-set, List·getD-eq-default}
+use lib.ListN.{length, getD, set, drop, length-set, List·getD-eq-default}
 use lib.Seq.{getD-set-same, getD-set-other, drop-cons, drop-length}
 use lib.Dec.{eqb, leb, ltb}
 use borrow.Author.Tests.{eqb-true, eqb-false, leb-true, eq-eqb, ltb-true, ltb-false}
@@ -14,16 +13,15 @@ use Rattle.scan.proofs.Laws.{both}
 use Rattle.ranges.specs.declared.Found.{Found}
 use Rattle.ranges.specs.declared.Found.the-variants.{At, Nothing}
 use Rattle.order.specs.declared.Line.{Line}
-use Rattle.order.specs.declared.Order.{Order}
-use Rattle.order.specs.Ordinativo.{noLine, linesThere, ordinativo}
+use Rattle.order.specs.Ordinativo.{noLine}
 use Rattle.record.specs.declared.Record.{Record}
 use Rattle.record.specs.declared.Key.{Key}
 use Rattle.record.specs.Slot.{keyOf, withState}
 use Rattle.slots.specs.Slots.{findIn, distinct, noRecord, nth}
 use Rattle.slots.proofs.Search.{find-set, distinct-set, found-below, found-key}
 use Rattle.replacing.specs.declared.Naming.{Naming}
-use Rattle.replacing.specs.Replacing.{namingOf, namingsOf, namings, lineNamedIn, namedAt, namedCode, withReplacedAt, withReplaced, firstCode, replaceCode, replacedBy}
-use Rattle.replacing.specs.Inner.{namingAt, namingsFrom, lineCount, sameLine, earlier, codeAgain, replacedTo}
+use Rattle.replacing.specs.Replacing.{namingsOf, lineNamedIn, namedAt, namedCode, withReplacedAt, withReplaced, firstCode, replaceCode, replacedBy}
+use Rattle.replacing.specs.Inner.{namingAt, sameLine, earlier, codeAgain, readCode, replacedTo}
 
 abbrev clash : Type 0
 clash = _≡_ {A = ℕ} 0 1
@@ -265,97 +263,91 @@ or-zero (suc a) b e = absurd (omega arith)
 
 -- JUDGED BY READING ONLY
 
--- what all lines of an order name, by index
-abbrev pub allNamings : Order → List Naming
-allNamings o = namingsFrom o 0 (lineCount o)
-
--- and that is what they name one after another
-from-is : (o : Order) (j m : ℕ) → j + m ≡ lineCount o → namingsFrom o j m ≡ namingsOf (o .kind) (drop j (linesThere (o .lines)))
-unfolding namingsFrom namingsOf namingAt
-from-is o j zero e =
-    let q : lineCount o ≡ j = omega arith in
-    sym (ap (λ (x : ℕ). namingsOf (o .kind) (drop x (linesThere (o .lines)))) (sym q) ∙ ap (namingsOf (o .kind)) (drop-length (linesThere (o .lines))))
-from-is o j (suc m) e =
-    let d = drop-cons (linesThere (o .lines)) j noLine (omega arith) in
-    ap (λ (ms : List Naming). namingAt o j ∷ ms) (from-is o (j + 1) m (omega arith) ∙ ap (λ (x : ℕ). namingsOf (o .kind) (drop x (linesThere (o .lines)))) (add-one j))
-    ∙ sym (ap (namingsOf (o .kind)) d)
-
-pub namings-are : (o : Order) → allNamings o ≡ namings (ordinativo o)
-namings-are o = from-is o 0 (lineCount o) (zero-add (lineCount o))
-
--- a line's own place
-pub naming-there : (o : Order) (j : ℕ) → j < lineCount o → namingOf (o .kind) (getD (o .lines .each) j noLine) ≡ namingAt o j
+kind-of : (kind : ℕ) (ls : List Line) (j : ℕ) → namingAt kind ls j .key .kind ≡ kind
 unfolding namingAt
-naming-there o j h = ap (namingOf (o .kind)) (sym (take-get (o .lines .count) (o .lines .each) j h))
-  where
-    take-get : (n : ℕ) (e : List Line) (j : ℕ) → j < length (take n e) → getD (take n e) j noLine ≡ getD e j noLine
-    take-get zero e j h = absurd (omega arith)
-    take-get (suc n) [] j h = absurd (omega arith)
-    take-get (suc n) (x ∷ e) zero h = refl
-    take-get (suc n) (x ∷ e) (suc j) h = take-get n e j (omega arith)
+kind-of kind ls j = refl
 
-kind-of : (o : Order) (j : ℕ) → namingAt o j .key .kind ≡ o .kind
-unfolding namingAt
-kind-of o j = refl
-
-module _ (rs : List Record) (o : Order) where
-  seen : (j : ℕ) → ((i : ℕ) → i < j → namedCode (replacedTo rs o i) (namingAt o i) ≡ 0) → (m : Naming) → m .key .kind ≡ o .kind
-      → namedCode (replacedTo rs o j) m ≡ codeAgain (earlier o j m) (namedCode rs m)
+module _ (rs : List Record) (kind : ℕ) (ls : List Line) where
+  seen : (j : ℕ) → ((i : ℕ) → i < j → namedCode (replacedTo kind ls rs i) (namingAt kind ls i) ≡ 0) → (m : Naming) → m .key .kind ≡ kind
+      → namedCode (replacedTo kind ls rs j) m ≡ codeAgain (earlier kind ls j m) (namedCode rs m)
   unfolding replacedTo earlier codeAgain
   seen zero h m k = refl
   seen (suc j) h m k =
-      mark-step (replacedTo rs o j) (namingAt o j) m (h j (omega arith)) (kind-of o j ∙ sym k)
-      ∙ ap (codeAgain (sameLine (namingAt o j) m)) (seen j (λ i l. h i (omega arith)) m k)
-      ∙ again-twice (sameLine (namingAt o j) m) (earlier o j m) (namedCode rs m)
+      mark-step (replacedTo kind ls rs j) (namingAt kind ls j) m (h j (omega arith)) (kind-of kind ls j ∙ sym k)
+      ∙ ap (codeAgain (sameLine (namingAt kind ls j) m)) (seen j (λ i l. h i (omega arith)) m k)
+      ∙ again-twice (sameLine (namingAt kind ls j) m) (earlier kind ls j m) (namedCode rs m)
 
-  abbrev count : ℕ
-  count = lineCount o
+  abbrev whole : ℕ
+  whole = replaceCode rs (namingsOf kind ls)
+
+  -- what is still to be judged after the first j lines
+  abbrev rest : ℕ → ℕ
+  rest j = replaceCode (replacedTo kind ls rs j) (namingsOf kind (drop j ls))
 
   -- the order's first j lines stand, and the answer from there is the whole answer
   pub record Sofar (j : ℕ) : Type 0 where
-    pub low : j ≤ count
-    pub same : replaceCode (replacedTo rs o j) (namingsFrom o j (count - j)) ≡ replaceCode rs (allNamings o)
-    pub past : (i : ℕ) → i < j → namedCode (replacedTo rs o i) (namingAt o i) ≡ 0
-
-  whole : replaceCode rs (namings (ordinativo o)) ≡ replaceCode rs (allNamings o)
-  whole = ap (replaceCode rs) (sym (namings-are o))
+    pub low : j ≤ length ls
+    pub same : rest j ≡ whole
+    pub past : (i : ℕ) → i < j → namedCode (replacedTo kind ls rs i) (namingAt kind ls i) ≡ 0
 
   pub sofar-start : Sofar 0
   unfolding replacedTo
-  sofar-start = let q : count - 0 ≡ count = omega arith in record { low = omega arith; same = ap (λ (n : ℕ). replaceCode rs (namingsFrom o 0 n)) q; past = λ i l. absurd (omega arith) }
+  sofar-start = record { low = omega arith; same = refl; past = λ i l. absurd (omega arith) }
 
-  pub sofar-end : (j : ℕ) → Sofar j → count ≤ j → replaceCode rs (namings (ordinativo o)) ≡ 0
-  unfolding replaceCode namingsFrom
+  pub sofar-end : (j : ℕ) → Sofar j → length ls ≤ j → whole ≡ 0
+  unfolding replaceCode namingsOf
   sofar-end j s h =
-      let q : count - j ≡ 0 = omega arith in
-      whole ∙ sym (s .same) ∙ ap (λ (n : ℕ). replaceCode (replacedTo rs o j) (namingsFrom o j n)) q
+      let q : j ≡ length ls = omega (arith, s .low) in
+      sym (s .same) ∙ ap (λ (l : List Line). replaceCode (replacedTo kind ls rs j) (namingsOf kind l)) (ap (λ (n : ℕ). drop n ls) q ∙ drop-length ls)
 
-  module _ (j c : ℕ) (s : Sofar j) (h : j < count) (e : c ≡ codeAgain (earlier o j (namingAt o j)) (namedCode rs (namingAt o j))) where
-    code-is : namedCode (replacedTo rs o j) (namingAt o j) ≡ c
-    code-is = seen j (s .past) (namingAt o j) (kind-of o j) ∙ sym e
+  -- a line that stood, by reading only
+  pub sofar-read : (j : ℕ) → Sofar j → (i : ℕ) → i < j → readCode kind ls rs i ≡ 0
+  sofar-read j s i l = sym (seen i (λ x b. s .past x (omega arith)) (namingAt kind ls i) (kind-of kind ls i)) ∙ s .past i l
 
-    more : replaceCode rs (allNamings o) ≡ firstCode c (replaceCode (withReplaced (replacedTo rs o j) (namingAt o j)) (namingsFrom o (j + 1) (count - (j + 1))))
-    unfolding replaceCode namingsFrom
+  module _ (j c : ℕ) (s : Sofar j) (h : j < length ls) (e : c ≡ readCode kind ls rs j) where
+    code-is : namedCode (replacedTo kind ls rs j) (namingAt kind ls j) ≡ c
+    code-is = seen j (s .past) (namingAt kind ls j) (kind-of kind ls j) ∙ sym e
+
+    more : whole ≡ firstCode c (rest (suc j))
+    unfolding replaceCode namingsOf namingAt replacedTo
     more =
-        let q : count - j ≡ suc (count - (j + 1)) = omega arith in
-        sym (s .same) ∙ ap (λ (n : ℕ). replaceCode (replacedTo rs o j) (namingsFrom o j n)) q
-        ∙ ap (λ (x : ℕ). firstCode x (replaceCode (withReplaced (replacedTo rs o j) (namingAt o j)) (namingsFrom o (j + 1) (count - (j + 1))))) code-is
+        sym (s .same) ∙ ap (λ (l : List Line). replaceCode (replacedTo kind ls rs j) (namingsOf kind l)) (drop-cons ls j noLine h)
+        ∙ ap (λ (x : ℕ). firstCode x (rest (suc j))) code-is
 
-    pub sofar-stops : (c ≡ 0 → ⊥) → replaceCode rs (namings (ordinativo o)) ≡ c
-    sofar-stops ne = whole ∙ more ∙ go c ne
+    pub sofar-stops : (c ≡ 0 → ⊥) → whole ≡ c
+    sofar-stops ne = more ∙ go c ne
       where
-        go : (x : ℕ) → (x ≡ 0 → ⊥) → firstCode x (replaceCode (withReplaced (replacedTo rs o j) (namingAt o j)) (namingsFrom o (j + 1) (count - (j + 1)))) ≡ x
+        go : (x : ℕ) → (x ≡ 0 → ⊥) → firstCode x (rest (suc j)) ≡ x
         go zero n = absurd (n refl)
         go (suc x) n = refl
 
     pub sofar-next : c ≡ 0 → Sofar (j + 1)
-    unfolding replacedTo
     sofar-next z = record {
       low = omega arith;
-      same = rw (add-one j) (rw (add-one j) at (sym (more ∙ ap (λ (x : ℕ). firstCode x (replaceCode (withReplaced (replacedTo rs o j) (namingAt o j)) (namingsFrom o (j + 1) (count - (j + 1))))) z)));
+      same = rw (add-one j) (sym (more ∙ ap (λ (x : ℕ). firstCode x (rest (suc j))) z));
       past = λ i l. split i (eqb i j) refl l;
     }
       where
-        split : (i : ℕ) (b : Bool) → eqb i j ≡ b → i < j + 1 → namedCode (replacedTo rs o i) (namingAt o i) ≡ 0
+        split : (i : ℕ) (b : Bool) → eqb i j ≡ b → i < j + 1 → namedCode (replacedTo kind ls rs i) (namingAt kind ls i) ≡ 0
         split i true q l = rw (eqb-true i j q) (code-is ∙ z)
         split i false q l = s .past i (omega (arith, eqb-false i j q))
+
+  -- WHAT THE LINES COME TO: the first that doesn't stand decides, or all stand
+  pub data Comes : ℕ → Type 0 where
+    stops : (j c : ℕ) → j < length ls → readCode kind ls rs j ≡ suc c → ((i : ℕ) → i < j → readCode kind ls rs i ≡ 0) → Comes (suc c)
+    stands : ((i : ℕ) → i < length ls → readCode kind ls rs i ≡ 0) → Comes 0
+
+  pub comes : Comes whole
+  comes = go (length ls) 0 sofar-start (omega arith)
+    where
+      go : (n j : ℕ) → Sofar j → length ls ≤ j + n → Comes whole
+      go zero j s h = let l = s .low in subst Comes (sym (sofar-end j s (omega arith))) (stands (λ i b. sofar-read j s i (omega arith)))
+      go (suc n) j s h = step (ltb j (length ls)) refl (go n (j + 1))
+        where
+          at : (c : ℕ) → readCode kind ls rs j ≡ c → j < length ls → (Sofar (j + 1) → length ls ≤ j + 1 + n → Comes whole) → Comes whole
+          at zero e l next = next (sofar-next j 0 s l (sym e) refl) (omega arith)
+          at (suc c) e l next = subst Comes (sym (sofar-stops j (suc c) s l (sym e) (λ (z : suc c ≡ 0). omega arith))) (stops j c l e (sofar-read j s))
+
+          step : (b : Bool) → ltb j (length ls) ≡ b → (Sofar (j + 1) → length ls ≤ j + 1 + n → Comes whole) → Comes whole
+          step true q next = at (readCode kind ls rs j) refl (ltb-true j (length ls) q) next
+          step false q next = subst Comes (sym (sofar-end j s (ltb-false j (length ls) q))) (stands (λ i b. sofar-read j s i (omega (arith, ltb-false j (length ls) q))))

@@ -1,17 +1,19 @@
 -- Laws of one line of the code at a time: the record that is named, and the earlier lines of the order.
 use Prim.Native.Nat.{ℕ, zero, suc, _+_, _-_, _≤_, _<_}
 use mathlib.Core.Bool.{Bool, true, false, _&&_, _||_, cond}
-use mathlib.Core.List.{List}
+use mathlib.Core.List.{List, [], _∷_}
 use mathlib.Core.Path.{_≡_, refl, sym, ap, _∙_}
 use native.Mathlib.Omega.{arith}
-use lib.ListN.{length, getD, List·getD-eq-default}
+use lib.ListN.{length, getD, take, List·getD-eq-default}
 use lib.Dec.{eqb, leb}
 use borrow.Author.Tests.{lt-leb, le-leb, eq-eqb, ne-eqb}
-use Rattle.order.specs.declared.Order.{Order}
+use Rattle.order.specs.declared.Line.{Line}
+use Rattle.order.specs.declared.Lines.{Lines}
+use Rattle.order.specs.Ordinativo.{noLine, linesThere}
 use Rattle.record.specs.declared.Record.{Record}
 use Rattle.replacing.specs.declared.Naming.{Naming}
-use Rattle.replacing.specs.Replacing.{lineNamedIn, namedCode}
-use Rattle.replacing.specs.Inner.{namingAt, sameLine, earlier, codeAgain}
+use Rattle.replacing.specs.Replacing.{namingOf, lineNamedIn, namedCode}
+use Rattle.replacing.specs.Inner.{namingAt, sameLine, earlier, codeAgain, readCode}
 use Rattle.replacing.proofs.Marks.{in-out, in-there}
 
 -- THE RECORD
@@ -42,25 +44,36 @@ module _ (r : Record) (line amount : ℕ) where
 
 -- THE EARLIER LINES
 
-module _ (o : Order) (i : ℕ) (m : Naming) where
-  pub earlier-none : i ≤ 0 → earlier o i m ≡ false
+module _ (kind : ℕ) (ls : List Line) (i : ℕ) (m : Naming) where
+  pub earlier-none : i ≤ 0 → earlier kind ls i m ≡ false
   unfolding earlier
   earlier-none h = let q : i ≡ 0 = omega arith in rw q
 
-  module _ {x : Naming} {b : Bool} (h : 0 < i) (e : x ≡ namingAt o (i - 1)) (s : b ≡ sameLine x m) where
-    more : earlier o i m ≡ (b || earlier o (i - 1) m)
+  module _ {x : Naming} {b : Bool} (h : 0 < i) (e : x ≡ namingAt kind ls (i - 1)) (s : b ≡ sameLine x m) where
+    more : earlier kind ls i m ≡ (b || earlier kind ls (i - 1) m)
     unfolding earlier
     more =
         let q : i ≡ suc (i - 1) = omega arith in
-        ap (λ (n : ℕ). earlier o n m) q ∙ ap (λ (y : Bool). y || earlier o (i - 1) m) (sym (s ∙ ap (λ (y : Naming). sameLine y m) e))
+        ap (λ (n : ℕ). earlier kind ls n m) q ∙ ap (λ (y : Bool). y || earlier kind ls (i - 1) m) (sym (s ∙ ap (λ (y : Naming). sameLine y m) e))
 
-    pub earlier-hit : b ≡ true → earlier o i m ≡ true
+    pub earlier-hit : b ≡ true → earlier kind ls i m ≡ true
     earlier-hit q = more ∙ rw q
 
-    pub earlier-miss : b ≡ false → earlier o i m ≡ earlier o (i - 1) m
+    pub earlier-miss : b ≡ false → earlier kind ls i m ≡ earlier kind ls (i - 1) m
     earlier-miss q = more ∙ rw q
 
 -- one line, as the code puts it together
-pub line-comes : (rs : List Record) (o : Order) (j : ℕ) {m : Naming} {b : Bool} {c x : ℕ} → m ≡ namingAt o j → c ≡ namedCode rs m → b ≡ earlier o j m → x ≡ codeAgain b c
-    → x ≡ codeAgain (earlier o j (namingAt o j)) (namedCode rs (namingAt o j))
-line-comes rs o j e p q s = s ∙ (λ i. codeAgain (q i) (p i)) ∙ ap (λ (y : Naming). codeAgain (earlier o j y) (namedCode rs y)) e
+pub line-comes : (rs : List Record) (kind : ℕ) (ls : List Line) (j : ℕ) {m : Naming} {b : Bool} {c x : ℕ} → m ≡ namingAt kind ls j → c ≡ namedCode rs m → b ≡ earlier kind ls j m → x ≡ codeAgain b c
+    → x ≡ readCode kind ls rs j
+line-comes rs kind ls j e p q s = s ∙ (λ i. codeAgain (q i) (p i)) ∙ ap (λ (y : Naming). codeAgain (earlier kind ls j y) (namedCode rs y)) e
+
+-- what a line names, read at its own place
+pub naming-there : (kind : ℕ) (ls : Lines) (j : ℕ) → j < length (linesThere ls) → namingOf kind (getD (ls .each) j noLine) ≡ namingAt kind (linesThere ls) j
+unfolding namingAt
+naming-there kind ls j h = ap (namingOf kind) (sym (take-get (ls .count) (ls .each) j h))
+  where
+    take-get : (n : ℕ) (e : List Line) (j : ℕ) → j < length (take n e) → getD (take n e) j noLine ≡ getD e j noLine
+    take-get zero e j h = absurd (omega arith)
+    take-get (suc n) [] j h = absurd (omega arith)
+    take-get (suc n) (x ∷ e) zero h = refl
+    take-get (suc n) (x ∷ e) (suc j) h = take-get n e j (omega arith)

@@ -7,11 +7,11 @@ ghost use mathlib.Core.Path.{_≡_};
 ghost use mathlib.Core.Bool.{true};
 ghost use Prim.Native.Nat.{ℕ, _+_, _*_, _≤_, _<_};
 ghost use lib.ListN.{length};
-ghost use Rattle.order.specs.Ordinativo.{ordinativo};
+ghost use Rattle.order.specs.Ordinativo.{linesThere, ordinativo};
 ghost use Rattle.record.specs.Slot.{slotSize};
 ghost use Rattle.slots.specs.Slots.{recordsAt};
 ghost use Rattle.replacing.specs.Replacing.{namings, lineNamedIn, namedCode, replaceCode, linePut, linesPut};
-ghost use Rattle.replacing.specs.Inner.{namingAt, lineCount, sameLine, earlier, codeAgain};
+ghost use Rattle.replacing.specs.Inner.{namingAt, sameLine, earlier, codeAgain, readCode};
 
 // The line that a line of an order names, and that line's own amount.
 pub struct Naming {
@@ -22,8 +22,8 @@ pub struct Naming {
 
 // By line j of an order, counted from 0.
 fn naming_at(o: Order, j: usize) -> Naming
-    requires { ⌜ (j < lineCount o) × (j < 8) ⌝ }
-    ensures { λ m. ⌜ m ≡ namingAt o j ⌝ }
+    requires { ⌜ (j < length (linesThere (o .lines))) × (j < 8) ⌝ }
+    ensures { λ m. ⌜ m ≡ namingAt (o .kind) (linesThere (o .lines)) j ⌝ }
 {
     let ls = o.lines;
     let each = ls.each;
@@ -98,8 +98,8 @@ fn same_line(a: Naming, b: Naming) -> bool
 
 // Whether one of the order's first j lines names this line.
 fn named_before(o: Order, j: usize, m: Naming) -> bool
-    requires { ⌜ (j ≤ lineCount o) × (j ≤ 8) ⌝ }
-    ensures { λ r. ⌜ r ≡ earlier o j m ⌝ }
+    requires { ⌜ (j ≤ length (linesThere (o .lines))) × (j ≤ 8) ⌝ }
+    ensures { λ r. ⌜ r ≡ earlier (o .kind) (linesThere (o .lines)) j m ⌝ }
 {
     let mut i = j;
     while 0 < i {
@@ -123,8 +123,8 @@ fn code_again(before: bool, c: u8) -> u8
 
 // What line j of an order comes to, by reading only.
 fn line_code(t: &[u8], base: usize, n: usize, o: Order, j: usize) -> u8
-    requires { ⌜ (base + slotSize * n ≤ length (now t)) × (j < lineCount o) × (j < 8) ⌝ }
-    ensures { λ c. ⌜ c ≡ codeAgain (earlier o j (namingAt o j)) (namedCode (recordsAt (now (t .entry)) base n) (namingAt o j)) ⌝ }
+    requires { ⌜ (base + slotSize * n ≤ length (now t)) × (j < length (linesThere (o .lines))) × (j < 8) ⌝ }
+    ensures { λ c. ⌜ c ≡ readCode (o .kind) (linesThere (o .lines)) (recordsAt (now (t .entry)) base n) j ⌝ }
 {
     let m = naming_at(o, j);
     let c = named_code(t, base, n, m);

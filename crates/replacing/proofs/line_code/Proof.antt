@@ -1,4 +1,5 @@
 use Rattle.slots.specs.Slots.{recordsAt}
+use Rattle.order.specs.Ordinativo.{linesThere}
 use Rattle.replacing.proofs.Walk.{line-comes}
 use borrow.Author.Needs.{needs}
 use Rattle.replacing.proofs.line_code.Statement.{statement}
@@ -23,7 +24,7 @@ code-again-requires : tie.Need-code-again-requires
 code-again-requires c κs = search needs
 
 returns : tie.Need-returns
-returns c = line-comes (recordsAt (c .before .before .before .before .before .args .t .now) (c .before .before .before .before .before .args .base) (c .before .before .before .before .before .args .n)) (c .before .before .before .before .before .args .o) (c .before .before .before .before .before .args .j) (c .before .before .before .naming-at .ensures) (c .before .before .named-code .ensures) (c .before .named-before .ensures) (c .code-again .ensures)
+returns c = line-comes (recordsAt (c .before .before .before .before .before .args .t .now) (c .before .before .before .before .before .args .base) (c .before .before .before .before .before .args .n)) (c .before .before .before .before .before .args .o .kind) (linesThere (c .before .before .before .before .before .args .o .lines)) (c .before .before .before .before .before .args .j) (c .before .before .before .naming-at .ensures) (c .before .before .named-code .ensures) (c .before .named-before .ensures) (c .code-again .ensures)
 
 pub line-code-spec : {M : Type 1} → statement M
 line-code-spec =
