@@ -1,5 +1,4 @@
 pub mod Laws
 pub mod Judging
 pub mod Kept
-pub mod Listed
 pub mod Codes

@@ -5,7 +5,10 @@ use mathlib.Core.List.{List, [], _∷_, _++_}
 use lib.ListN.{set, take, drop}
 use Rattle.order.specs.Ordinativo.{Ordinativo}
 use Rattle.record.specs.declared.Record.{Record}
-use Rattle.record.specs.Slot.{keyOf, recordWith}
+use Rattle.record.specs.Slot.{withState}
+use Rattle.replacing.specs.Replacing.{namings, replacedBy}
+use Rattle.rules.specs.declared.Change.{Change}
+use Rattle.rules.specs.declared.Change.the-variants.{Insert, Vary, Annul, Replace}
 use Rattle.rules.specs.declared.Ruling.{Ruling}
 use Rattle.rules.specs.declared.Ruling.the-variants.{Accepted, Refused}
 use Rattle.rules.specs.declared.Noticed.{Noticed}
@@ -17,9 +20,16 @@ use Rattle.rules.specs.Rules.{judgeOrder, written, movedTo}
 abbrev pub storedAt : List Record → ℕ → Record → List Record
 storedAt rs i r = take i rs ++ r ∷ drop (suc i) rs
 
+-- the body's records beside the order's own: a SOSTITUZIONE's named lines are replaced (document 02, Req 07)
+abbrev pub besides : Change → Ordinativo → List Record → List Record
+besides Insert o rs = rs
+besides Vary o rs = rs
+besides Annul o rs = rs
+besides Replace o rs = replacedBy rs (namings o)
+
 -- an order: "Accepted, INSERIMENTO fills the body's first empty slot ..; VARIAZIONE replaces ..; ANNULLO sets the state only"
 abbrev pub recordsBy : ℕ → Ordinativo → List Record → Ruling → List Record
-recordsBy year o rs (Accepted c i) = storedAt rs i (written year o (nth rs i) c)
+recordsBy year o rs (Accepted c i) = storedAt (besides c o rs) i (written year o (nth rs i) c)
 recordsBy year o rs (Refused code) = rs
 
 -- the orders of a flow, "taken as written, each on the table the one before left"
