@@ -38,6 +38,15 @@ lines-within t base n (m ∷ ms) e fits ok =
     let k = line-within t base n m (z .0) fits ok in
     within-on k (lines-within (linePut t base n m) base n ms (ap (λ (x : List Record). replaceCode x ms) (line-records t base n m (z .0) fits) ∙ z .1) (omega (arith, k .long)) (k .ok))
 
+-- nothing gets longer
+pub lines-long : (t : List ℕ) (base n : ℕ) (ms : List Naming) → replaceCode (recordsAt t base n) ms ≡ 0 → base + slotSize * n ≤ length t → length (linesPut t base n ms) ≡ length t
+unfolding replaceCode linesPut
+lines-long t base n [] e fits = refl
+lines-long t base n (m ∷ ms) e fits =
+    let z = or-zero (namedCode (recordsAt t base n) m) _ e in
+    let l = line-long t base n m (z .0) fits in
+    lines-long (linePut t base n m) base n ms (ap (λ (x : List Record). replaceCode x ms) (line-records t base n m (z .0) fits) ∙ z .1) (omega arith) ∙ l
+
 -- the bytes are the book's records
 pub lines-records : (t : List ℕ) (base n : ℕ) (ms : List Naming) → replaceCode (recordsAt t base n) ms ≡ 0 → base + slotSize * n ≤ length t
     → recordsAt (linesPut t base n ms) base n ≡ replacedBy (recordsAt t base n) ms

@@ -23,6 +23,7 @@ use Rattle.rules.specs.declared.Ruling.the-variants.{Accepted, Refused}
 use Rattle.rules.specs.declared.Noticed.the-variants.{Moved, Unmoved}
 use Rattle.lines.specs.Lines.{lineCode}
 use Rattle.replacing.specs.Replacing.{namings, replaceCode}
+use Rattle.rules.specs.Inner.{namesCode}
 use Rattle.rules.specs.Rules.{changeOf, anyExecuted, situationIn, situationOf, stepCode, keyFor, sameOrder, firstEmpty, placed, unless, stepped, judgeOrder, lineMoves, noticeIn, noticeAt, judgeNotice}
 
 -- two constructors are never equal
@@ -40,9 +41,9 @@ unmoved e = let z : clash = cc in absurd (no z)
 
 -- AN ORDER'S RECORD
 
-there : (r : Record) → situationIn r ≡ Absent → ⊥
+pub there-is : (r : Record) → situationIn r ≡ Absent → ⊥
 unfolding situationIn
-there r e = go (eqb (r .state) 2) (anyExecuted (r .states)) e
+there-is r e = go (eqb (r .state) 2) (anyExecuted (r .states)) e
   where
     go : (a b : Bool) → cond a Annulled (cond b Executed Waiting) ≡ Absent → ⊥
     go true b e = let z : clash = cc in no z
@@ -114,8 +115,8 @@ module _ (slots year : ℕ) (o : Ordinativo) (rs : List Record) (c : Change) (i 
       let r = unless-zero (replaceCode rs (namings o)) _ e in
       let w = empty Replace (r .1) in
       replacing (w .0) f (w .1) (w .2) (r .0)
-  stand Replace (At j) f s e = absurd (there (nth rs j) (replaces (situationIn (nth rs j)) s))
-  stand Insert (At j) f s e = absurd (there (nth rs j) (inserts (situationIn (nth rs j)) s))
+  stand Replace (At j) f s e = absurd (there-is (nth rs j) (replaces (situationIn (nth rs j)) s))
+  stand Insert (At j) f s e = absurd (there-is (nth rs j) (inserts (situationIn (nth rs j)) s))
   stand Vary Nothing f s e = absurd (omega arith)
   stand Vary (At j) f s e =
       let p : c ≡ Vary = cc in
@@ -153,6 +154,16 @@ module _ (slots year : ℕ) (o : Ordinativo) (rs : List Record) (c : Change) (i 
 
     pub accepted : Stands slots year o rs c i
     accepted = stand (passed .change) (findIn rs 0 (keyFor year o)) refl (passed .step) (passed .place)
+
+    -- the lines that it names stand
+    pub names-zero : namesCode c o rs ≡ 0
+    names-zero = go accepted
+      where
+        go : Stands slots year o rs c i → namesCode c o rs ≡ 0
+        go (inserting p f q l) = ap (λ (x : Change). namesCode x o rs) p
+        go (replacing p f q l n) = ap (λ (x : Change). namesCode x o rs) p ∙ n
+        go (varying p f w) = ap (λ (x : Change). namesCode x o rs) p
+        go (annulling p f w s) = ap (λ (x : Change). namesCode x o rs) p
 
     -- its slot is used already, or is the first empty one
     pub accepted-within : i ≤ length rs

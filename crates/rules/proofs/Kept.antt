@@ -85,6 +85,10 @@ pub record Writable (o : Ordinativo) : Type 0 where
   pub total : o .total ≤ maxCents
   pub count : (1 ≤ length (o .lines)) × (length (o .lines) ≤ 8)
 
+pub data Writables : List Ordinativo → Type 0 where
+  none : Writables []
+  more : {o : Ordinativo} {os : List Ordinativo} → Writable o → Writables os → Writables (o ∷ os)
+
 code-zero : (ls : List Line) (total : ℕ) → lineCode ls total ≡ 0 → (numberedFrom 1 ls ≡ true) × (sumOf ls ≡ total)
 unfolding lineCode
 code-zero ls total e = go (numberedFrom 1 ls) (eqb (sumOf ls) total) refl refl e

@@ -1,49 +1,41 @@
 -- What a moved line leaves: one byte of its record's states, so that record with one state changed, the body valid, and its entry's totals those of
 -- its records.
-use Prim.Native.Nat.{ℕ, zero, suc, _+_, _-_, _*_, _≤_, _<_}
-use mathlib.Core.Bool.{Bool, true, false, _&&_}
+use Prim.Native.Nat.{ℕ, _+_, _-_, _*_, _≤_, _<_}
+use mathlib.Core.Bool.{Bool, true, false}
 use mathlib.Core.List.{List, [], _∷_}
 use mathlib.Core.Path.{_≡_, refl, sym, ap, _∙_}
 use native.Mathlib.Omega.{arith}
-use lib.ListN.{length, getD, set, length-set}
-use lib.Seq.{ext-getD, getD-set-same, getD-set-other}
-use lib.Dec.{eqb, ltb}
-use borrow.Author.Tests.{eqb-true, eqb-false, ltb-true, ltb-false}
+use lib.ListN.{length}
 use Rattle.words.specs.Numbers.{put}
-use Rattle.words.proofs.Laws.{Agree, on, at-it, same2, same4, same8, get-before, get-in, get-after, length-put}
+use Rattle.words.proofs.Laws.{Agree, on, length-put}
 use Rattle.record.specs.declared.Record.{Record}
 use Rattle.record.specs.declared.Key.{Key}
-use Rattle.record.specs.Slot.{statesOffset, slotSize, eightAt, be8s, dateAt, recordAt, restZero, keyOf, withState}
-use Rattle.record.proofs.Back.{eight-at, same-be8s, same-record, agree-before, agree-after}
-use Rattle.valid.specs.Valid.{recordOk}
-use Rattle.slots.specs.Slots.{usedAt, slotsAt, recordsAt, findIn, distinct, nth, statePlace}
+use Rattle.record.specs.Slot.{slotSize, recordAt, withState}
+use Rattle.record.proofs.Back.{agree-before, agree-after}
+use Rattle.slots.specs.Slots.{recordsAt, findIn, nth, statePlace}
+use Rattle.slots.proofs.Held.{Held, search-held}
 use Rattle.entries.specs.Entry.{entrySize, entryFixed, entryRest, kept, keptBytes}
 use Rattle.ranges.specs.declared.Found.the-variants.{At}
-use Rattle.body.specs.Body.{slotOk, bodyOk, centsOf}
-use Rattle.slots.proofs.Laws.{used-le}
-use Rattle.body.proofs.Laws.{slot-rest, cents-most}
-use Rattle.body.proofs.Same.{slot-ok-agree, records-agree, body-agree}
-use Rattle.slots.proofs.Search.{distinct-set}
-use Rattle.slots.proofs.Index.{length-slots, get-slot, used-is, used-kind, used-empty}
-use Rattle.body.proofs.Slots.{slots-each, each-slots, parts, together, valid-at}
-use Rattle.valid.proofs.Valid.{Valid, ok-used, ok-bounds}
-use Rattle.ranges.proofs.Laws.{zeros-get, get-zeros}
-use Rattle.scan.proofs.Laws.{both}
+use Rattle.body.specs.Body.{bodyOk, centsOf}
+use Rattle.body.proofs.Laws.{cents-most}
+use Rattle.body.proofs.Same.{records-agree, body-agree}
+use Rattle.body.proofs.Slots.{valid-at}
+use Rattle.body.proofs.State.{state-records, state-within}
+use Rattle.valid.proofs.Valid.{Valid, ok-bounds}
+use Rattle.valid.proofs.Moved.{moved-valid}
 use Rattle.rules.specs.declared.Noticed.{Noticed}
 use Rattle.rules.specs.declared.Noticed.the-variants.{Moved, Unmoved}
 use Rattle.rules.specs.Rules.{judgeNotice, movedTo}
 use Rattle.rules.specs.Effects.{recordsMoved}
 use Rattle.rules.proofs.Judging.{Moves, moved}
-use Rattle.valid.proofs.Moved.{moved-valid}
 use Rattle.service.specs.Service.{noticeComes, lineMoved, settled, noticeStored, noticeLeaves}
 use Rattle.service.specs.Inner.{sumMoved, Movable, its, keptMoved, Served}
-use Rattle.slots.proofs.Held.{Held, search-held}
 use Rattle.service.proofs.Kept.{unchanged}
 use Rattle.service.proofs.Totals.{agrees-is, is-agrees, kept-same, put-paid, put-collected, cash-moves, Settled, kept-settled}
 
 -- A NOTICE
 
-moved-state : (executing : Bool) → (1 ≤ movedTo executing) × (movedTo executing ≤ 2)
+moved-state : (executing : Bool) → (1 ≤ movedTo executing) × (movedTo executing ≤ 3)
 moved-state true = (omega arith, omega arith)
 moved-state false = (omega arith, omega arith)
 
@@ -93,29 +85,11 @@ module _ (t : List ℕ) (e base n : ℕ) (executing : Bool) (k : Key) (line : �
     slot-fits : base + slotSize * i + slotSize ≤ length t
     slot-fits = omega (arith, here .low, fits)
 
-    others : (j : ℕ) → (j ≡ i → ⊥) → Agree left (base + slotSize * j) t (base + slotSize * j) slotSize
-    others j ne = go (ltb j i) refl
-      where
-        go : (b : Bool) → ltb j i ≡ b → Agree left (base + slotSize * j) t (base + slotSize * j) slotSize
-        go true z = agree-before t (statePlace base i line) (s ∷ []) (base + slotSize * j) (omega (arith, below, slot-fits)) slotSize (omega (arith, ltb-true j i z))
-        go false z =
-            agree-after t (statePlace base i line) (s ∷ []) (base + slotSize * j) (omega (arith, below, slot-fits)) slotSize (omega (arith, ltb-false j i z, below))
-
-    new-there : recordAt left (base + slotSize * i) ≡ new
-    new-there = state-record t (base + slotSize * i) (line - 1) s below slot-fits
-
-    new-rest : restZero left (base + slotSize * i) ≡ true
-    new-rest = state-rest t (base + slotSize * i) (line - 1) s below slot-fits ∙ rest-of t base n i ok (here .used)
-
     left-ok : bodyOk left base n ≡ true
-    left-ok =
-        changed-ok t left base n i new new-valid new-there new-rest others (here .used) ok refl
-        (λ x b. get-after t (statePlace base i line) (s ∷ []) x (omega (arith, below, here .used)) (omega (arith, below, slot-fits)))
+    left-ok = state-within t base n i (line - 1) s below fits (here .used) ok new-valid .ok
 
     left-records : recordsAt left base n ≡ recordsMoved executing line (recordsAt t base n) (Moved i cents)
-    left-records =
-        changed-records t left base n i new new-valid new-there new-rest others (here .used) ok
-        ∙ ap (λ (x : Record). set (recordsAt t base n) i (withState x (line - 1) s)) (sym (here .same))
+    left-records = state-records t base n i (line - 1) s below fits (here .used)
 
     -- THE TOTALS, of the records afterwards
     abbrev new-records : List Record

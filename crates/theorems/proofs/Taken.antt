@@ -25,7 +25,8 @@ use Rattle.rules.specs.Rules.{judgeOrder, orderCode}
 use Rattle.rules.specs.Effects.{recordsBy, allRecords}
 use Rattle.rules.specs.Listed.{Applies}
 use Rattle.service.specs.Service.{orderComes, orderLeaves, outcomeSize, allLeave}
-use Rattle.service.proofs.Kept.{Writables, none, more, order-kept, order-records, all-kept, all-records}
+use Rattle.rules.proofs.Kept.{Writables, none, more}
+use Rattle.service.proofs.Kept.{order-kept, order-records, all-kept, all-records}
 use Rattle.desk.specs.declared.FlowAnswer.{FlowAnswer}
 use Rattle.desk.specs.declared.FlowAnswer.the-variants.{InvalidTable, TooLong, BrokenMarkup, BrokenStructure, BrokenField, OtherBank, UnknownBody, NoRoom}
 use Rattle.desk.specs.Desk.{Reading, refused, served, maxFlow, flowReads, flowAnswer, FlowPromise, flowCode, flowReply}

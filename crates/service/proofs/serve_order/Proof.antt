@@ -1,38 +1,25 @@
 use Rattle.order.specs.Ordinativo.{ordinativo}
-use Rattle.service.proofs.Laws.{served-change, served-refused}
+use Rattle.service.proofs.Laws.{served-change}
 use borrow.Author.Needs.{needs}
 use Rattle.service.proofs.serve_order.Statement.{statement}
 use Rattle.service.proofs.serve_order.Tie as tie
+use Rattle.service.proofs.serve_order.Reads as reads
+use Rattle.service.proofs.serve_order.Lts as lts
+use Rattle.rules.proofs.change_of.Reads as change-of-reads
+use Rattle.service.proofs.serve_change.Reads as serve-change-reads
 
-asks-of-requires : tie.Need-asks-of-requires
-asks-of-requires c κs = search needs
-
-enum-known-c : tie.Need-enum-known-c
-enum-known-c c = search needs
+change-of-requires : tie.Need-change-of-requires
+change-of-requires c κs = search needs
 
 serve-change-requires : tie.Need-serve-change-requires
 serve-change-requires c κs = search needs
-
-enum-known-code : tie.Need-enum-known-code
-enum-known-code c = search needs
 
 same-length : tie.Need-same-length
 same-length c = search needs
 
 returns : tie.Need-returns
-returns c = served-change (c .before .before .before .before .before .before .before .before .before .args .t .now) (c .before .before .before .before .before .before .before .before .before .args .base) (c .before .before .before .before .before .before .before .before .before .args .n) (c .before .before .before .before .before .before .before .before .before .args .year) (ordinativo (c .before .before .before .before .before .before .before .before .before .args .o)) (c .before .before .before .before .before .before .before .asks-of .ensures) (c .before .before .before .before .before .c .given .1) (c .before .before .serve-change .ensures)
-
-returns-2 : tie.Need-returns-2
-returns-2 c = served-refused (c .before .before .before .before .before .args .t .now) (c .before .before .before .before .before .args .base) (c .before .before .before .before .before .args .n) (c .before .before .before .before .before .args .year) (ordinativo (c .before .before .before .before .before .args .o)) (c .before .before .before .asks-of .ensures) (c .before .code .given .1)
+returns c = served-change (c .before .before .before .before .before .before .args .t .now) (c .before .before .before .before .before .before .args .base) (c .before .before .before .before .before .before .args .n) (c .before .before .before .before .before .before .args .year) (ordinativo (c .before .before .before .before .before .before .args .o)) (c .before .before .before .before .change-of .ensures) (c .before .before .serve-change .ensures)
 
 pub serve-order-spec : {M : Type 1} → statement M
 serve-order-spec =
-    tie.close
-    (tie.spec
-    asks-of-requires
-    enum-known-c
-    serve-change-requires
-    enum-known-code
-    same-length
-    returns
-    returns-2)
+    tie.close (tie.spec change-of-requires serve-change-requires same-length returns)
