@@ -24,7 +24,7 @@ use Rattle.tree.specs.Flow.{Answered}
 use Rattle.rules.specs.Rules.{orderCode, judgeOrder, judgeNotice}
 use Rattle.rules.specs.declared.Ruling.{Ruling}
 use Rattle.rules.specs.Effects.{recordsBy, allRecords, recordsMoved}
-use Rattle.rules.specs.Listed.{Applies, turn, NoticeApplies, noticeTurn}
+use Rattle.rules.specs.Listed.{Applies, NoticeApplies, noticeTurn}
 use Rattle.service.specs.Service.{orderComes}
 use Rattle.notices.specs.declared.NoticeAnswer.{NoticeAnswer}
 use Rattle.notices.specs.declared.NoticeAnswer.the-variants.{InvalidTable, WrongDay, UnknownBody, Declined}
@@ -60,6 +60,13 @@ Exactly a b = (a → b) × (b → a)
 abbrev pub None : (ℕ → Type 0) → Type 0
 None applies = (c : ℕ) → applies c → ⊥
 
+-- the same of refusals that have a turn and a code: none applies; this code's applies, none that applies having an earlier turn
+abbrev pub NoneListed : (ℕ → ℕ → Type 0) → Type 0
+NoneListed applies = (t c : ℕ) → applies t c → ⊥
+
+abbrev pub FirstListed : (ℕ → ℕ → Type 0) → ℕ → Type 0
+FirstListed applies code = (t : ℕ) × applies t code × ((u c : ℕ) → applies u c → t ≤ u)
+
 -- a refusal that applies, none that applies having an earlier turn
 abbrev pub InTurn : (ℕ → ℕ) → (ℕ → Type 0) → ℕ → Type 0
 InTurn turn applies code = applies code × ((c : ℕ) → applies c → turn code ≤ turn c)
@@ -93,7 +100,7 @@ pub record Taken (t f : List ℕ) (a : FlowAnswer) (t′ out′ : List ℕ) : Ty
   -- "An order is accepted exactly when no listed refusal applies", on what the orders before it left
   pub exactly : (before : List Ordinativo) (o : Ordinativo) (after : List Ordinativo) → flowOrders f at ≡ before ++ (o ∷ after)
       → let rs = allRecords (slotsOf t (entryOf body)) (headerOf f at .esercizio) before (recordsOf body t) in
-      Exactly (orderCode (judgeOrder (slotsOf t (entryOf body)) (headerOf f at .esercizio) o rs) ≡ 0) (None (Applies (slotsOf t (entryOf body)) (headerOf f at .esercizio) o rs))
+      Exactly (orderCode (judgeOrder (slotsOf t (entryOf body)) (headerOf f at .esercizio) o rs) ≡ 0) (NoneListed (Applies (slotsOf t (entryOf body)) (headerOf f at .esercizio) o rs))
 
 pub record Condition2 : Type 0 where
   -- "A flow is read as the profile in document 01 says": of any bytes, by grammar, tree, schema and fields alone (crates/tree/specs/Flow)
@@ -114,9 +121,9 @@ pub record Condition2 : Type 0 where
       recordsAt t′ (placeOf t (entryOf b)) (slotsOf t (entryOf b)) ≡ recordsMoved executing line (recordsOf b t) (judgeNotice executing k line (recordsOf b t)))
   -- "An order is accepted exactly when no listed refusal applies." (What each says: rules/specs/Listed.) Its code is another exactly when that refusal
   -- is the first that does
-  pub exactly : EachOrder (λ t b year o. Exactly (orderCode (comesTo t b year o) ≡ 0) (None (Applies (slotsOf t (entryOf b)) year o (recordsOf b t))))
+  pub exactly : EachOrder (λ t b year o. Exactly (orderCode (comesTo t b year o) ≡ 0) (NoneListed (Applies (slotsOf t (entryOf b)) year o (recordsOf b t))))
   pub answer : EachOrder (λ t b year o. (c : ℕ) → (c ≡ 0 → ⊥)
-      → Exactly (orderCode (comesTo t b year o) ≡ c) (InTurn turn (Applies (slotsOf t (entryOf b)) year o (recordsOf b t)) c))
+      → Exactly (orderCode (comesTo t b year o) ≡ c) (FirstListed (Applies (slotsOf t (entryOf b)) year o (recordsOf b t)) c))
   -- and so is a notice
   pub notice-exactly : EachNotice (λ t b executing k line a t′. Exactly (noticeCodeOf a ≡ 0) (None (NoticeApplies executing k line (recordsOf b t))))
   pub notice-answer : EachNotice (λ t b executing k line a t′. (c : ℕ) → (c ≡ 0 → ⊥)
