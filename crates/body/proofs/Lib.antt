@@ -2,3 +2,4 @@ pub mod Laws
 pub mod Same
 pub mod Slots
 pub mod Puts
+pub mod State

@@ -46,9 +46,9 @@ use Rattle.structure.proofs.Laws.{HeldIn, fits-parts, all-next, order-last}
 use Rattle.standing.specs.Readings.{Bad, Place, Nowhere, textOf, fieldsIn, fieldsBy, fieldsAt, badOr, firstBad}
 use Rattle.standing.proofs.Readings.{orBad, bad-append}
 use Rattle.order.specs.declared.Line.{Line}
-use Rattle.order.specs.Ordinativo.{Ordinativo, ordinativo}
+use Rattle.order.specs.Ordinativo.{Ordinativo, ordinativo, noLine}
 use Rattle.orders.specs.Shape.{orderRows, lineRows, Shaped, Filled}
-use Rattle.orders.specs.Orders.{those, ofRow, inRow, textIn, valueOf, dateOf, lineOf, linesOf, noLine, eight, linesIn, kindOf, orderBy, orderOf, ordersOf, holdsOrder, isOrder, ordersIn}
+use Rattle.orders.specs.Orders.{those, ofRow, inRow, textIn, valueOf, dateOf, lineOf, linesOf, eight, linesIn, kindOf, orderBy, orderOf, ordersOf, holdsOrder, isOrder, ordersIn}
 use Rattle.editions.specs.declared.Edition.{Edition}
 use Rattle.editions.specs.declared.Edition.the-variants.{Oil, Opi}
 use Rattle.header.specs.Header.{Header, rootOf, testataOf, headerIn}

@@ -11,13 +11,10 @@ use lib.Seq.{drop-cons, drop-length}
 use lib.Dec.{eqb, leb, eqb·suc-suc}
 use borrow.Author.Tests.{leb-true, leb-false, ne-eqb}
 use Rattle.order.specs.declared.Line.{Line}
+use Rattle.order.specs.Ordinativo.{noLine}
 use Rattle.lines.specs.declared.Tally.{Tally}
 use Rattle.lines.specs.Lines.{numberedFrom, sumOf, lineCode}
 use Rattle.lines.specs.Walk.{startOf, stepOf, answerOf}
-
--- what stands past the end of a list of lines
-abbrev pub noLine : Line
-noLine = record { progressivo = 0; amount = 0 }
 
 abbrev pub codeFrom : Tally → ℕ → List Line → ℕ
 codeFrom t i ls = cond (t .numbered && numberedFrom (i + 1) ls) (cond (t .fits && eqb (sumOf ls) (t .left)) 0 13) 12

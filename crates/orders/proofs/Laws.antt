@@ -45,7 +45,8 @@ use Rattle.structure.proofs.Laws.{HeldIn, fits-parts, once-done, once-next, all
 use Rattle.order.specs.declared.Line.{Line}
 use Rattle.order.specs.declared.Order.{Order}
 use Rattle.orders.specs.Shape.{rangesOf, orderRows, lineRows, Shaped, Filled}
-use Rattle.orders.specs.Orders.{those, ofRow, inRow, textIn, inside, operationOf, valueOf, dateOf, lineBy, lineOf, linesOf, noLine, eight, linesIn, kindOf, orderBy, orderOf, ordersOf, holdsOrder, isOrder, ordersIn}
+use Rattle.order.specs.Ordinativo.{noName, noLine}
+use Rattle.orders.specs.Orders.{those, ofRow, inRow, textIn, inside, operationOf, valueOf, dateOf, lineBy, lineOf, linesOf, eight, linesIn, kindOf, orderBy, orderOf, ordersOf, holdsOrder, isOrder, ordersIn}
 
 no-next : {k : Kept} {A : Type 0} → Done ≡ Named k → A
 no-next e = let z : _≡_ {A = ℕ} 0 1 = cc in absurd (omega arith)
@@ -328,8 +329,8 @@ module _ (s : List ℕ) (c : Child) (t : List ℕ) (e : t ≡ part s (c .gt + 1)
   says-operazione = rw (← e) (operation-said c (causeOf TipoOperazione t) (tipoOperazione t))
 
 -- A LINE AND AN ORDER, put together of their parts
-pub line-made : (s : List ℕ) (ks : List Kept) (l : Line) → l .progressivo ≡ valueOf (progressivo (textIn 0 s ks)) → l .amount ≡ valueOf (importo (textIn 1 s ks)) → l ≡ lineBy s ks
-line-made s ks l a b = rw (← a, ← b)
+pub line-made : (s : List ℕ) (ks : List Kept) (l : Line) → l .progressivo ≡ valueOf (progressivo (textIn 0 s ks)) → l .amount ≡ valueOf (importo (textIn 1 s ks)) → l .named ≡ noName → l ≡ lineBy s ks
+line-made s ks l a b c = rw (← a, ← b, ← c)
 
 pub order-made : (kind : ℕ) (s : List ℕ) (ks : List Kept) (o : Order)
     → o .kind ≡ kind → o .operation ≡ operationOf (tipoOperazione (textIn 0 s ks)) → o .number ≡ valueOf (numero (textIn 1 s ks))

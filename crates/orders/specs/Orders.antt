@@ -28,6 +28,7 @@ use Rattle.rows.specs.Kept.{keptFrom, nextOf}
 use Rattle.order.specs.declared.Line.{Line}
 use Rattle.order.specs.declared.Lines.{Lines}
 use Rattle.order.specs.declared.Order.{Order}
+use Rattle.order.specs.Ordinativo.{noName, noLine}
 
 -- the named children of which f holds
 unfoldable pub those : (Kept → Bool) → List Kept → List Kept
@@ -72,7 +73,7 @@ inside s k = insideOf s k (k .holds)
 
 -- A LINE: progressivo is row 0 of its table, importo row 1
 abbrev pub lineBy : List ℕ → List Kept → Line
-lineBy s ks = record { progressivo = valueOf (progressivo (textIn 0 s ks)); amount = valueOf (importo (textIn 1 s ks)) }
+lineBy s ks = record { progressivo = valueOf (progressivo (textIn 0 s ks)); amount = valueOf (importo (textIn 1 s ks)); named = noName }
 
 unfoldable pub lineOf : List ℕ → Kept → Line
 lineOf s k = lineBy s (inside s k)
@@ -80,10 +81,6 @@ lineOf s k = lineBy s (inside s k)
 unfoldable pub linesOf : List ℕ → List Kept → List Line
 linesOf s [] = []
 linesOf s (k ∷ ks) = lineOf s k ∷ linesOf s ks
-
--- no line
-abbrev pub noLine : Line
-noLine = record { progressivo = 0; amount = 0 }
 
 -- eight places, `noLine` after the lines
 unfoldable pub eight : List Line → List Line

@@ -6,6 +6,7 @@ use fields::Form;
 use fields::Value;
 use order::Line;
 use order::Lines;
+use order::NamedLine;
 use order::Order;
 use rows::FieldRead;
 use rows::Holds;
@@ -134,6 +135,11 @@ fn line_from(s: &[u8], from: usize, parent: Parent, past: &[u32]) -> Line
     Line {
         progressivo,
         amount,
+        named: NamedLine {
+            number: 0,
+            line: 0,
+            esercizio: 0,
+        },
     }
 }
 
@@ -148,6 +154,11 @@ fn line_of(s: &[u8], k: Kept, past: &[u32]) -> Line
         Holds::Text(_) => Line {
             progressivo: 0,
             amount: 0,
+            named: NamedLine {
+                number: 0,
+                line: 0,
+                esercizio: 0,
+            },
         },
         Holds::Rows(p) => line_from(s, scan::white_end(s, c.gt + 1), p, past),
     }
@@ -161,6 +172,11 @@ fn lines_from(s: &[u8], from: usize, parent: Parent, past: &[u32]) -> Lines
     let none = Line {
         progressivo: 0,
         amount: 0,
+        named: NamedLine {
+            number: 0,
+            line: 0,
+            esercizio: 0,
+        },
     };
     let mut each: [Line; 8] = [none; 8];
     let mut count: usize = 0;

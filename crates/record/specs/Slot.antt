@@ -2,7 +2,7 @@
 use Prim.Native.Nat.{ℕ, zero, suc, _+_, _%_}
 use mathlib.Core.Bool.{Bool, true, false, _&&_}
 use mathlib.Core.List.{List, [], _∷_, _++_}
-use lib.ListN.{length, getD}
+use lib.ListN.{length, getD, set}
 use lib.Dec.{eqb}
 use Rattle.words.specs.Numbers.{be2, be4, be8, bytes2, bytes4, bytes8}
 use Rattle.calendar.specs.declared.Date.{Date}
@@ -33,6 +33,10 @@ waitingLine = 1
 
 abbrev pub executedLine : ℕ
 executedLine = 2
+
+-- document 02, Req 07: "it becomes replaced (line state 3)"
+abbrev pub replacedLine : ℕ
+replacedLine = 3
 
 -- "24-31 eight line states; 32-95 eight amounts"
 abbrev pub statesOffset : ℕ
@@ -98,3 +102,21 @@ keyIs r k = eqb (r .kind) (k .kind) && (eqb (r .esercizio) (k .esercizio) && eqb
 -- a record's key
 abbrev pub keyOf : Record → Key
 keyOf r = record { kind = r .kind; esercizio = r .esercizio; number = r .number }
+
+-- a record of this key and state: so many lines, date, total, line states and amounts
+abbrev pub recordWith : Key → ℕ → ℕ → Date → ℕ → List ℕ → List ℕ → Record
+recordWith k state lines date total states amounts = record {
+  kind = k .kind;
+  state = state;
+  lines = lines;
+  esercizio = k .esercizio;
+  number = k .number;
+  date = date;
+  total = total;
+  states = states;
+  amounts = amounts;
+}
+
+-- a record with the state s at line k, counted from 0
+abbrev pub withState : Record → ℕ → ℕ → Record
+withState r k s = recordWith (keyOf r) (r .state) (r .lines) (r .date) (r .total) (set (r .states) k s) (r .amounts)

@@ -27,6 +27,8 @@ pub const WAITING: u8 = 1;
 
 pub const EXECUTED: u8 = 2;
 
+pub const REPLACED: u8 = 3;
+
 // What a slot holds of an order.
 pub struct Record {
     pub kind: u8,

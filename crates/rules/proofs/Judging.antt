@@ -12,19 +12,19 @@ use Rattle.ranges.specs.declared.Found.the-variants.{At, Nothing}
 use Rattle.order.specs.Ordinativo.{Ordinativo}
 use Rattle.record.specs.declared.Record.{Record}
 use Rattle.record.specs.declared.Key.{Key}
-use Rattle.slots.specs.Slots.{findIn}
+use Rattle.slots.specs.Slots.{findIn, nth, noRecord}
 use Rattle.slots.proofs.Search.{found-below}
 use Rattle.rules.specs.declared.Situation.{Situation}
 use Rattle.rules.specs.declared.Situation.the-variants.{Absent, Annulled, Waiting, Executed}
 use Rattle.rules.specs.declared.Change.{Change}
-use Rattle.rules.specs.declared.Change.the-variants.{Insert, Vary, Annul}
-use Rattle.rules.specs.declared.Asks.{Asks}
-use Rattle.rules.specs.declared.Asks.the-variants.{For, Unserved}
+use Rattle.rules.specs.declared.Change.the-variants.{Insert, Vary, Annul, Replace}
 use Rattle.rules.specs.declared.Ruling.{Ruling}
 use Rattle.rules.specs.declared.Ruling.the-variants.{Accepted, Refused}
 use Rattle.rules.specs.declared.Noticed.the-variants.{Moved, Unmoved}
 use Rattle.lines.specs.Lines.{lineCode}
-use Rattle.rules.specs.Rules.{asksOf, anyExecuted, situationIn, situationOf, stepCode, keyFor, nth, noRecord, sameOrder, placed, unless, stepped, judgeAsked, judgeOrder, lineMoves, noticeIn, noticeAt, judgeNotice}
+use Rattle.replacing.specs.Replacing.{namings, replaceCode}
+use Rattle.rules.specs.Inner.{namesCode}
+use Rattle.rules.specs.Rules.{changeOf, anyExecuted, situationIn, situationOf, stepCode, keyFor, sameOrder, firstEmpty, placed, unless, stepped, judgeOrder, lineMoves, noticeIn, noticeAt, judgeNotice}
 
 -- two constructors are never equal
 abbrev clash : Type 0
@@ -41,9 +41,9 @@ unmoved e = let z : clash = cc in absurd (no z)
 
 -- AN ORDER'S RECORD
 
-there : (r : Record) → situationIn r ≡ Absent → ⊥
+pub there-is : (r : Record) → situationIn r ≡ Absent → ⊥
 unfolding situationIn
-there r e = go (eqb (r .state) 2) (anyExecuted (r .states)) e
+there-is r e = go (eqb (r .state) 2) (anyExecuted (r .states)) e
   where
     go : (a b : Bool) → cond a Annulled (cond b Executed Waiting) ≡ Absent → ⊥
     go true b e = let z : clash = cc in no z
@@ -81,9 +81,13 @@ varies Executed e = absurd (omega arith)
 annuls : (s : Situation) → stepCode Annul s ≡ 0 → s ≡ Waiting
 annuls s e = varies s e
 
+replaces : (s : Situation) → stepCode Replace s ≡ 0 → s ≡ Absent
+replaces s e = inserts s e
+
 -- AN ACCEPTED ORDER, of a body with so many slots and these records: it stands at i
 pub data Stands (slots year : ℕ) (o : Ordinativo) (rs : List Record) (c : Change) (i : ℕ) : Type 0 where
   inserting : c ≡ Insert → findIn rs 0 (keyFor year o) ≡ Nothing → i ≡ length rs → length rs < slots → Stands slots year o rs c i
+  replacing : c ≡ Replace → findIn rs 0 (keyFor year o) ≡ Nothing → i ≡ length rs → length rs < slots → replaceCode rs (namings o) ≡ 0 → Stands slots year o rs c i
   varying : c ≡ Vary → findIn rs 0 (keyFor year o) ≡ At i → Waits (nth rs i) → Stands slots year o rs c i
   annulling : c ≡ Annul → findIn rs 0 (keyFor year o) ≡ At i → Waits (nth rs i) → sameOrder o (nth rs i) ≡ true → Stands slots year o rs c i
 
@@ -92,18 +96,27 @@ unless-zero zero next e = (refl, e)
 unless-zero (suc code) next e = refused e
 
 module _ (slots year : ℕ) (o : Ordinativo) (rs : List Record) (c : Change) (i : ℕ) where
+  -- the first empty slot
+  empty : (d : Change) → firstEmpty d slots rs ≡ Accepted c i → (c ≡ d) × (i ≡ length rs) × (length rs < slots)
+  empty d e = go (ltb (length rs) slots) refl e
+    where
+      go : (b : Bool) → ltb (length rs) slots ≡ b → cond b (Accepted d (length rs)) (Refused 15) ≡ Accepted c i → (c ≡ d) × (i ≡ length rs) × (length rs < slots)
+      go true h e =
+          let p : c ≡ d = cc in
+          let q : i ≡ length rs = cc in
+          (p, q, ltb-true (length rs) slots h)
+      go false h e = refused e
+
   stand : (d : Change) (f : Found) → findIn rs 0 (keyFor year o) ≡ f
       → stepCode d (situationOf rs f) ≡ 0 → placed slots o rs d f ≡ Accepted c i → Stands slots year o rs c i
   unfolding situationOf placed
-  stand Insert Nothing f s e = go (ltb (length rs) slots) refl e
-    where
-      go : (b : Bool) → ltb (length rs) slots ≡ b → cond b (Accepted Insert (length rs)) (Refused 15) ≡ Accepted c i → Stands slots year o rs c i
-      go true h e =
-          let p : c ≡ Insert = cc in
-          let q : i ≡ length rs = cc in
-          inserting p f q (ltb-true (length rs) slots h)
-      go false h e = refused e
-  stand Insert (At j) f s e = absurd (there (nth rs j) (inserts (situationIn (nth rs j)) s))
+  stand Insert Nothing f s e = let w = empty Insert e in inserting (w .0) f (w .1) (w .2)
+  stand Replace Nothing f s e =
+      let r = unless-zero (replaceCode rs (namings o)) _ e in
+      let w = empty Replace (r .1) in
+      replacing (w .0) f (w .1) (w .2) (r .0)
+  stand Replace (At j) f s e = absurd (there-is (nth rs j) (replaces (situationIn (nth rs j)) s))
+  stand Insert (At j) f s e = absurd (there-is (nth rs j) (inserts (situationIn (nth rs j)) s))
   stand Vary Nothing f s e = absurd (omega arith)
   stand Vary (At j) f s e =
       let p : c ≡ Vary = cc in
@@ -130,14 +143,11 @@ module _ (slots year : ℕ) (o : Ordinativo) (rs : List Record) (c : Change) (i 
 
     passed : Passed
     unfolding judgeOrder stepped
-    passed = go (asksOf (o .operation)) e
-      where
-        go : (a : Asks) → judgeAsked slots year o rs a ≡ Accepted c i → Passed
-        go (For d) e =
-            let l = unless-zero (lineCode (o .lines) (o .total)) _ e in
-            let s = unless-zero (stepCode d (situationOf rs (findIn rs 0 (keyFor year o)))) _ (l .1) in
-            record { change = d; lines = l .0; step = s .0; place = s .1 }
-        go (Unserved code) e = refused e
+    passed =
+        let d = changeOf (o .operation) in
+        let l = unless-zero (lineCode (o .lines) (o .total)) _ e in
+        let s = unless-zero (stepCode d (situationOf rs (findIn rs 0 (keyFor year o)))) _ (l .1) in
+        record { change = d; lines = l .0; step = s .0; place = s .1 }
 
     pub accepted-lines : lineCode (o .lines) (o .total) ≡ 0
     accepted-lines = passed .lines
@@ -145,12 +155,23 @@ module _ (slots year : ℕ) (o : Ordinativo) (rs : List Record) (c : Change) (i 
     pub accepted : Stands slots year o rs c i
     accepted = stand (passed .change) (findIn rs 0 (keyFor year o)) refl (passed .step) (passed .place)
 
+    -- the lines that it names stand
+    pub names-zero : namesCode c o rs ≡ 0
+    names-zero = go accepted
+      where
+        go : Stands slots year o rs c i → namesCode c o rs ≡ 0
+        go (inserting p f q l) = ap (λ (x : Change). namesCode x o rs) p
+        go (replacing p f q l n) = ap (λ (x : Change). namesCode x o rs) p ∙ n
+        go (varying p f w) = ap (λ (x : Change). namesCode x o rs) p
+        go (annulling p f w s) = ap (λ (x : Change). namesCode x o rs) p
+
     -- its slot is used already, or is the first empty one
     pub accepted-within : i ≤ length rs
     accepted-within = go accepted
       where
         go : Stands slots year o rs c i → i ≤ length rs
         go (inserting p f q l) = omega arith
+        go (replacing p f q l n) = omega arith
         go (varying p f w) = omega (arith, found-below rs (keyFor year o) i noRecord f)
         go (annulling p f w s) = omega (arith, found-below rs (keyFor year o) i noRecord f)
 
@@ -159,6 +180,7 @@ module _ (slots year : ℕ) (o : Ordinativo) (rs : List Record) (c : Change) (i 
       where
         go : Stands slots year o rs c i → i < slots
         go (inserting p f q l) = omega arith
+        go (replacing p f q l n) = omega arith
         go (varying p f w) = omega (arith, found-below rs (keyFor year o) i noRecord f)
         go (annulling p f w s) = omega (arith, found-below rs (keyFor year o) i noRecord f)
 

@@ -2,6 +2,7 @@
 use Prim.Native.Nat.{ℕ, zero, suc, _+_, _≤_, _<_}
 use mathlib.Core.Bool.{Bool, true, false, _&&_, _||_, cond}
 use mathlib.Core.List.{List, [], _∷_, _++_}
+use mathlib.Core.Logic.{_⊎_, inl, inr}
 use mathlib.Core.Path.{_≡_, refl, sym, ap, _∙_}
 use native.Mathlib.Omega.{arith}
 use lib.ListN.{length, getD, take, set, replicate, length-set, length-replicate, getD-replicate, List·getD-eq-default}
@@ -14,84 +15,32 @@ use Rattle.calendar.specs.Calendar.{isDate}
 use Rattle.order.specs.declared.Line.{Line}
 use Rattle.order.specs.Ordinativo.{Ordinativo}
 use Rattle.record.specs.declared.Record.{Record}
-use Rattle.record.specs.Slot.{annulledState, keyOf}
+use Rattle.record.specs.Slot.{annulledState, keyOf, recordWith, withState}
 use Rattle.ranges.specs.declared.Found.the-variants.{At}
 use Rattle.valid.specs.Valid.{lineThere, lineAbsent, lineOk, sum, rangesOk}
-use Rattle.slots.specs.Slots.{findIn}
+use Rattle.slots.specs.Slots.{findIn, nth, noRecord}
 use Rattle.valid.proofs.Valid.{Valid, one-of-sum, ok-bounds, ok-line, ok-sum, ok-amount, ok-tests, ok-from}
+use Rattle.valid.proofs.Moved.{within, split, line-waits, line-moved, line-in, line-absent, line-none}
 use Rattle.slots.proofs.Search.{found-below, found-key}
 use Rattle.lines.specs.Lines.{numberedFrom, sumOf, lineCode}
 use Rattle.rules.specs.declared.Change.{Change}
 use Rattle.rules.specs.declared.Ruling.the-variants.{Accepted}
-use Rattle.rules.specs.Rules.{anyExecuted, keyFor, nth, noRecord, eightPlaces, amountsOf, judgeOrder, recordWith, written}
-use Rattle.rules.specs.Effects.{withState}
-use Rattle.rules.proofs.Laws.{eight-at, length-eight}
+use Rattle.rules.specs.Rules.{wasExecuted, anyExecuted, keyFor, eightPlaces, amountsOf, judgeOrder, written}
+use Rattle.rules.proofs.Laws.{eight-at, length-eight, was-2, was-3}
 use Rattle.bounds.specs.Bounds.{maxCents}
-use Rattle.rules.proofs.Judging.{Stands, inserting, varying, annulling, accepted, accepted-lines}
-
-within : (lo hi b : ℕ) → (lo ≤ b) × (b ≤ hi) → between lo hi b ≡ true
-within lo hi b h = rw (le-leb lo b (h .0), le-leb b hi (h .1))
-
--- A LINE, counted from 0
-
-pub split : (k n : ℕ) {A : Type 0} → (k < n → A) → (n ≤ k → A) → A
-split k n {A} f g = go (ltb k n) refl
-  where
-    go : (b : Bool) → ltb k n ≡ b → A
-    go true e = f (ltb-true k n e)
-    go false e = g (ltb-false k n e)
-
-module _ (r : Record) (k : ℕ) where
-  abbrev stateOf : ℕ
-  stateOf = getD (r .states) k 0
-
-  abbrev amountOf : ℕ
-  amountOf = getD (r .amounts) k 0
-
-  module _ (h : k < r .lines) where
-    line-there : lineOk r k ≡ lineThere (eqb (r .state) 2) stateOf amountOf
-    unfolding lineOk
-    line-there = rw (lt-ltb k (r .lines) h)
-
-    line-waits : stateOf ≡ 1 → amountOf ≤ maxCents → lineOk r k ≡ true
-    unfolding lineThere
-    line-waits s a = line-there ∙ rw (s, le-leb amountOf maxCents a) (go (eqb (r .state) 2))
-      where
-        go : (b : Bool) → ((leb 1 1 && leb 1 (cond b 1 2)) && true) ≡ true
-        go true = refl
-        go false = refl
-
-    line-moved : (r .state ≡ 2 → ⊥) → (1 ≤ stateOf) × (stateOf ≤ 2) → amountOf ≤ maxCents → lineOk r k ≡ true
-    unfolding lineThere
-    line-moved q s a = line-there ∙ rw (ne-eqb _ _ q, within 1 2 stateOf s, le-leb amountOf maxCents a)
-
-    line-in : lineOk r k ≡ true → (1 ≤ stateOf) × (stateOf ≤ 2)
-    unfolding lineThere
-    line-in e = go (eqb (r .state) 2) (sym line-there ∙ e)
-      where
-        go : (b : Bool) → (between 1 (cond b 1 2) stateOf && leb amountOf maxCents) ≡ true → (1 ≤ stateOf) × (stateOf ≤ 2)
-        go true f = let q = in-range 1 1 stateOf (both (between 1 1 stateOf) _ f .0) in (omega arith, omega arith)
-        go false f = in-range 1 2 stateOf (both (between 1 2 stateOf) _ f .0)
-
-  module _ (h : r .lines ≤ k) where
-    line-absent : lineOk r k ≡ lineAbsent stateOf amountOf
-    unfolding lineOk
-    line-absent = rw (le-ltb k (r .lines) h)
-
-    line-none : stateOf ≡ 0 → amountOf ≡ 0 → lineOk r k ≡ true
-    unfolding lineAbsent
-    line-none s a = line-absent ∙ rw (s, a)
+use Rattle.rules.proofs.Judging.{Stands, inserting, replacing, varying, annulling, accepted, accepted-lines}
 
 -- ALL LINES WAITING
 
-pub none-executed : (s : List ℕ) (k : ℕ) → anyExecuted s ≡ false → getD s k 0 ≡ 2 → ⊥
+pub none-executed : (s : List ℕ) (k : ℕ) → anyExecuted s ≡ false → wasExecuted (getD s k 0) ≡ true → ⊥
 unfolding anyExecuted
-none-executed [] k e h = omega arith
-none-executed (x ∷ s) k e h = go (eqb x 2) refl e k h (none-executed s)
+none-executed [] k e h = let z : _≡_ {A = ℕ} 0 1 = cc in omega arith
+none-executed (x ∷ s) k e h = go (wasExecuted x) refl e k h (none-executed s)
   where
-    go : (b : Bool) → eqb x 2 ≡ b → (b || anyExecuted s) ≡ false → (k : ℕ) → getD (x ∷ s) k 0 ≡ 2 → ((k : ℕ) → anyExecuted s ≡ false → getD s k 0 ≡ 2 → ⊥) → ⊥
+    go : (b : Bool) → wasExecuted x ≡ b → (b || anyExecuted s) ≡ false → (k : ℕ) → wasExecuted (getD (x ∷ s) k 0) ≡ true
+        → ((k : ℕ) → anyExecuted s ≡ false → wasExecuted (getD s k 0) ≡ true → ⊥) → ⊥
     go true q f k h next = let z : _≡_ {A = ℕ} 0 1 = cc in omega arith
-    go false q f zero h next = eqb-false x 2 q h
+    go false q f zero h next = let y : _≡_ {A = Bool} false true = sym q ∙ h in let z : _≡_ {A = ℕ} 0 1 = cc in omega arith
     go false q f (suc k) h next = next k f h
 
 -- all lines waiting, and no line after them
@@ -136,6 +85,10 @@ pub record Writable (o : Ordinativo) : Type 0 where
   pub total : o .total ≤ maxCents
   pub count : (1 ≤ length (o .lines)) × (length (o .lines) ≤ 8)
 
+pub data Writables : List Ordinativo → Type 0 where
+  none : Writables []
+  more : {o : Ordinativo} {os : List Ordinativo} → Writable o → Writables os → Writables (o ∷ os)
+
 code-zero : (ls : List Line) (total : ℕ) → lineCode ls total ≡ 0 → (numberedFrom 1 ls ≡ true) × (sumOf ls ≡ total)
 unfolding lineCode
 code-zero ls total e = go (numberedFrom 1 ls) (eqb (sumOf ls) total) refl refl e
@@ -145,9 +98,9 @@ code-zero ls total e = go (numberedFrom 1 ls) (eqb (sumOf ls) total) refl refl e
     go true false p q e = absurd (omega arith)
     go false b p q e = absurd (omega arith)
 
--- the record that an order leaves with all its lines waiting
-abbrev fresh : Ordinativo → ℕ → ℕ → ℕ → ℕ → Record
-fresh o kind state esercizio number = record {
+-- the record that an order leaves with all its lines in one state
+abbrev fresh : Ordinativo → ℕ → ℕ → ℕ → ℕ → ℕ → Record
+fresh o kind state esercizio number s = record {
   kind = kind;
   state = state;
   lines = length (o .lines);
@@ -155,7 +108,7 @@ fresh o kind state esercizio number = record {
   number = number;
   date = o .date;
   total = o .total;
-  states = eightPlaces (replicate (length (o .lines)) 1);
+  states = eightPlaces (replicate (length (o .lines)) s);
   amounts = eightPlaces (amountsOf (o .lines));
 }
 
@@ -163,33 +116,42 @@ module _ (o : Ordinativo) (w : Writable o) (z : lineCode (o .lines) (o .total) �
   fresh-sum : sum (eightPlaces (amountsOf (o .lines))) ≡ o .total
   fresh-sum = sum-first 8 8 (amountsOf (o .lines)) (omega (arith, length-amounts (o .lines), w .count)) ∙ sum-amounts (o .lines) ∙ code-zero (o .lines) (o .total) z .1
 
-  module _ (kind state esercizio number : ℕ) where
-    fresh-line : (k : ℕ) → k < 8 → lineOk (fresh o kind state esercizio number) k ≡ true
+  -- waiting, or of an acquired order executed
+  module _ (kind state esercizio number s : ℕ) (may : (s ≡ 1) ⊎ ((state ≡ 2 → ⊥) × (s ≡ 2))) where
+    fresh-line : (k : ℕ) → k < 8 → lineOk (fresh o kind state esercizio number s) k ≡ true
     fresh-line k h =
         let n = length (o .lines) in
         split k n
-        (λ l. line-waits (fresh o kind state esercizio number) k l (eight-at (replicate n 1) k h ∙ getD-replicate n k 1 0 l)
+        (λ l. right may k l (eight-at (replicate n s) k h ∙ getD-replicate n k s 0 l)
         (omega (arith, one-of-sum (eightPlaces (amountsOf (o .lines))) k, fresh-sum, w .total)))
-        (λ l. line-none (fresh o kind state esercizio number) k l
-        (eight-at (replicate n 1) k h ∙ List·getD-eq-default (replicate n 1) 0 (omega (arith, length-replicate {A = ℕ} n 1)))
+        (λ l. line-none (fresh o kind state esercizio number s) k l
+        (eight-at (replicate n s) k h ∙ List·getD-eq-default (replicate n s) 0 (omega (arith, length-replicate {A = ℕ} n s)))
         (eight-at (amountsOf (o .lines)) k h ∙ List·getD-eq-default (amountsOf (o .lines)) 0 (omega (arith, length-amounts (o .lines)))))
+      where
+        right : (s ≡ 1) ⊎ ((state ≡ 2 → ⊥) × (s ≡ 2)) → (j : ℕ) → j < length (o .lines) → getD (eightPlaces (replicate (length (o .lines)) s)) j 0 ≡ s
+            → getD (eightPlaces (amountsOf (o .lines))) j 0 ≤ maxCents → lineOk (fresh o kind state esercizio number s) j ≡ true
+        right (inl q) j l e a = line-waits (fresh o kind state esercizio number s) j l (e ∙ q) a
+        right (inr q) j l e a = let x : getD (eightPlaces (replicate (length (o .lines)) s)) j 0 ≡ 2 = e ∙ q .1 in line-moved (fresh o kind state esercizio number s) j l (q .0) (omega arith, omega arith) a
 
     module _ (a : (1 ≤ kind) × (kind ≤ 2)) (b : (1 ≤ state) × (state ≤ 2)) (c : (2000 ≤ esercizio) × (esercizio ≤ 2099)) (d : (1 ≤ number) × (number ≤ 9999999)) where
-      fresh-ranges : rangesOk (fresh o kind state esercizio number) ≡ true
+      fresh-ranges : rangesOk (fresh o kind state esercizio number s) ≡ true
       unfolding rangesOk
       fresh-ranges =
           rw (within 1 2 kind a, within 1 2 state b, within 1 8 (length (o .lines)) (w .count), within 2000 2099 esercizio c, within 1 9999999 number d, w .date, le-leb (o .total) maxCents (w .total))
 
-      fresh-valid : Valid (fresh o kind state esercizio number)
+      fresh-valid : Valid (fresh o kind state esercizio number s)
       fresh-valid = record {
-        ok = ok-from (fresh o kind state esercizio number) fresh-ranges fresh-line fresh-sum;
-        states = length-eight (replicate (length (o .lines)) 1);
+        ok = ok-from (fresh o kind state esercizio number s) fresh-ranges fresh-line fresh-sum;
+        states = length-eight (replicate (length (o .lines)) s);
         amounts = length-eight (amountsOf (o .lines));
       }
 
 -- an order whose lines all wait stays valid as it is annulled
-between-one : (s : ℕ) → (1 ≤ s) × (s ≤ 2) → (s ≡ 2 → ⊥) → s ≡ 1
-between-one s h n = omega arith
+between-one : (s : ℕ) → (1 ≤ s) × (s ≤ 3) → (wasExecuted s ≡ true → ⊥) → s ≡ 1
+between-one s h n =
+    let a : s ≡ 2 → ⊥ = λ q. n (was-2 s q) in
+    let b : s ≡ 3 → ⊥ = λ q. n (was-3 s q) in
+    omega arith
 
 abbrev annulled : Record → Record
 annulled r = recordWith (keyOf r) annulledState (r .lines) (r .date) (r .total) (r .states) (r .amounts)
@@ -235,6 +197,7 @@ module _ (slots year : ℕ) (o : Ordinativo) (rs : List Record) (c : Change) (i 
     where
       go : Stands slots year o rs c i → keyOf (written year o r c) ≡ keyFor year o
       go (inserting p f q l) = rw p
+      go (replacing p f q l n) = rw p
       go (varying p f w) = rw p (held-key f)
       go (annulling p f w s) = rw p (held-key f)
 
@@ -246,37 +209,12 @@ module _ (slots year : ℕ) (o : Ordinativo) (rs : List Record) (c : Change) (i 
       z = accepted-lines slots year o rs c i e
 
       go : Stands slots year o rs c i → Valid (written year o r c)
-      go (inserting p f q l) = rw p (fresh-valid o w z (o .kind) 1 year (o .number) (w .kind) (omega arith, omega arith) y (w .number))
+      go (inserting p f q l) = rw p (fresh-valid o w z (o .kind) 1 year (o .number) 1 (inl refl) (w .kind) (omega arith, omega arith) y (w .number))
+      go (replacing p f q l n) = rw p (fresh-valid o w z (o .kind) 1 year (o .number) 2 (inr (λ (q : _≡_ {A = ℕ} 1 2). omega arith, refl)) (w .kind) (omega arith, omega arith) y (w .number))
       go (varying p f a) =
           let u = v (found-below rs (keyFor year o) i noRecord f) in
           let b = ok-bounds r (u .ok) in
-          rw p (fresh-valid o w z (r .kind) (r .state) (r .esercizio) (r .number) (b .kind) (b .state) (b .esercizio) (b .number))
+          rw p (fresh-valid o w z (r .kind) (r .state) (r .esercizio) (r .number) 1 (inl refl) (b .kind) (b .state) (b .esercizio) (b .number))
       go (annulling p f a s) =
           let u = v (found-below rs (keyFor year o) i noRecord f) in
           rw p (annulled-valid r u (ap (λ (x : Record). anyExecuted (x .states)) (held-here f) ∙ a .waits))
-
--- A MOVED LINE
-
--- a line whose state stays is as valid as it was
-same-line : (r : Record) (k s j : ℕ) → getD (set (r .states) k s) j 0 ≡ getD (r .states) j 0 → lineOk (withState r k s) j ≡ lineOk r j
-unfolding lineOk
-same-line r k s j t = rw t
-
-module _ (r : Record) (k s : ℕ) (v : Valid r) (a : r .state ≡ 2 → ⊥) (h : k < r .lines) (b : (1 ≤ s) × (s ≤ 2)) where
-  moved-ranges : rangesOk (withState r k s) ≡ true
-  unfolding rangesOk
-  moved-ranges = ok-tests r (v .ok) .0
-
-  moved-line : (j : ℕ) → j < 8 → (x : Bool) → eqb j k ≡ x → lineOk (withState r k s) j ≡ true
-  moved-line j g true q =
-      let e : j ≡ k = eqb-true j k q in
-      let t : getD (set (r .states) k s) j 0 ≡ s = ap (λ (n : ℕ). getD (set (r .states) k s) n 0) e ∙ getD-set-same (r .states) k s 0 (omega (arith, ok-bounds r (v .ok) .lines, v .states)) in
-      line-moved (withState r k s) j (omega arith) a (omega arith, omega arith) (ok-amount r (v .ok) j)
-  moved-line j g false q = same-line r k s j (getD-set-other (r .states) k j s 0 (eqb-false j k q)) ∙ ok-line r (v .ok) j g
-
-  pub moved-valid : Valid (withState r k s)
-  moved-valid = record {
-    ok = ok-from (withState r k s) moved-ranges (λ j g. moved-line j g (eqb j k) refl) (ok-sum r (v .ok));
-    states = length-set (r .states) k s ∙ v .states;
-    amounts = v .amounts;
-  }

@@ -1,6 +1,6 @@
 -- Laws of the rules, one way out of the code at a time: what the proofs of this crate cite.
 use Prim.Native.Nat.{ℕ, zero, suc, _+_, _-_, _≤_, _<_}
-use mathlib.Core.Bool.{Bool, true, false, cond, and-false}
+use mathlib.Core.Bool.{Bool, true, false, cond, and-false, or-true}
 use mathlib.Core.List.{List, [], _∷_, _++_}
 use mathlib.Core.Path.{_≡_, refl, sym, ap, _∙_}
 use native.Mathlib.Omega.{arith}
@@ -9,16 +9,15 @@ use lib.ListN.{length, take, drop, getD, replicate, drop-of-length-le, length-ap
 use lib.Seq.{drop-cons, getD-take, length-take-le}
 use lib.Dec.{ltb}
 use borrow.Author.Tests.{eq-eqb, ne-eqb, le-leb, lt-leb, ltb-true, ltb-false}
-use Rattle.lines.proofs.Laws.{noLine}
 use Rattle.order.specs.declared.Line.{Line}
-use Rattle.order.specs.Ordinativo.{Ordinativo}
+use Rattle.order.specs.Ordinativo.{Ordinativo, noLine}
 use Rattle.record.specs.declared.Record.{Record}
 use Rattle.rules.specs.declared.Situation.{Situation}
 use Rattle.rules.specs.declared.Situation.the-variants.{Absent, Annulled, Waiting, Executed}
 use Rattle.rules.specs.declared.Change.{Change}
-use Rattle.rules.specs.declared.Change.the-variants.{Insert, Vary, Annul}
+use Rattle.rules.specs.declared.Change.the-variants.{Insert, Vary, Annul, Replace}
 use Rattle.rules.specs.declared.Noticed.the-variants.{Moved, Unmoved}
-use Rattle.rules.specs.Rules.{anyExecuted, situationIn, row, stepCode, eightPlaces, amountsOf, sameList, sameOrder, lineMoves, noticeIn, unless}
+use Rattle.rules.specs.Rules.{wasExecuted, anyExecuted, situationIn, row, stepCode, eightPlaces, amountsOf, sameList, sameOrder, lineMoves, noticeIn, unless}
 use Rattle.rules.specs.Inner.{rowOf, columnOf}
 
 -- EIGHT PLACES
@@ -81,19 +80,19 @@ amount-there n e k =
     tested n k (λ h. amount-at (take n e) k ∙ ap (λ (l : Line). l .amount) (getD-take n e k noLine h))
     (λ h. amount-at (take n e) k ∙ ap (λ (l : Line). l .amount) (List·getD-eq-default (take n e) noLine (omega (arith, length-take n e))))
 
-pub waiting-there : (n k : ℕ) → _≡_ {A = ℕ} (cond (ltb k n) 1 0) (getD (replicate n 1) k 0)
-waiting-there n k = tested n k (getD-replicate n k 1 0) (λ h. List·getD-eq-default (replicate n 1) 0 (omega (arith, length-replicate {A = ℕ} n 1)))
+pub state-there : (s n k : ℕ) → cond (ltb k n) s 0 ≡ getD (replicate n s) k 0
+state-there s n k = tested n k (getD-replicate n k s 0) (λ h. List·getD-eq-default (replicate n s) 0 (omega (arith, length-replicate {A = ℕ} n s)))
 
 -- A LIST, FROM i ON
 
 module _ (s : List ℕ) (i : ℕ) where
-  pub executed-here : i < length s → getD s i 0 ≡ 2 → anyExecuted (drop i s) ≡ true
+  pub executed-here : i < length s → {b : Bool} → b ≡ wasExecuted (getD s i 0) → b ≡ true → anyExecuted (drop i s) ≡ true
   unfolding anyExecuted
-  executed-here h e = rw (drop-cons s i 0 h, eq-eqb _ _ e)
+  executed-here h q e = rw (drop-cons s i 0 h, sym q ∙ e)
 
-  pub executed-later : i < length s → (getD s i 0 ≡ 2 → ⊥) → anyExecuted (drop i s) ≡ anyExecuted (drop (i + 1) s)
+  pub executed-later : i < length s → {b : Bool} → b ≡ wasExecuted (getD s i 0) → b ≡ false → anyExecuted (drop i s) ≡ anyExecuted (drop (i + 1) s)
   unfolding anyExecuted
-  executed-later h e = rw (add-one, drop-cons s i 0 h, ne-eqb _ _ e)
+  executed-later h q e = rw (add-one, drop-cons s i 0 h, sym q ∙ e)
 
   pub executed-none : length s ≤ i → anyExecuted (drop i s) ≡ false
   unfolding anyExecuted
@@ -153,6 +152,7 @@ pub step-at : (c : Change) (s : Situation) {i j : ℕ} → i ≡ rowOf c → j �
 step-at Insert s p q = rw (p, q) (by-row 0 14 14 14 s)
 step-at Vary s p q = rw (p, q) (by-row 16 17 0 18 s)
 step-at Annul s p q = rw (p, q) (by-row 16 17 0 18 s)
+step-at Replace s p q = rw (p, q) (by-row 0 14 14 14 s)
 
 pub column-below : (s : Situation) → columnOf s < 4
 column-below Absent = omega arith
@@ -164,6 +164,7 @@ pub row-below : (c : Change) → rowOf c < 3
 row-below Insert = omega arith
 row-below Vary = omega arith
 row-below Annul = omega arith
+row-below Replace = omega arith
 
 -- AN ORDER AND A RECORD
 module _ (o : Ordinativo) (r : Record) where
@@ -182,13 +183,32 @@ module _ (o : Ordinativo) (r : Record) where
 
 -- A NOTICE
 
-pub moves-executed : (s : ℕ) → s ≡ 2 → (lineMoves true s ≡ 21) × (lineMoves false s ≡ 0)
-unfolding lineMoves
-moves-executed s e = (rw (eq-eqb _ _ e), rw (eq-eqb _ _ e))
+-- a line that is executed or replaced
+pub was-2 : (s : ℕ) → s ≡ 2 → wasExecuted s ≡ true
+was-2 s e = rw (eq-eqb s 2 e)
 
-pub moves-waiting : (s : ℕ) → (s ≡ 2 → ⊥) → (lineMoves true s ≡ 0) × (lineMoves false s ≡ 22)
+pub was-3 : (s : ℕ) → s ≡ 3 → wasExecuted s ≡ true
+was-3 s e = rw (eq-eqb s 3 e, or-true)
+
+pub was-not : (s : ℕ) → (s ≡ 2 → ⊥) → (s ≡ 3 → ⊥) → wasExecuted s ≡ false
+was-not s e f = rw (ne-eqb s 2 e, ne-eqb s 3 f)
+
+module _ (s : ℕ) {b : Bool} (q : b ≡ wasExecuted s) where
+  pub execution-stops : b ≡ true → lineMoves true s ≡ 21
+  unfolding lineMoves
+  execution-stops e = rw (sym q ∙ e)
+
+  pub execution-moves : b ≡ false → lineMoves true s ≡ 0
+  unfolding lineMoves
+  execution-moves e = rw (sym q ∙ e)
+
+pub reversal-moves : (s : ℕ) → s ≡ 2 → lineMoves false s ≡ 0
 unfolding lineMoves
-moves-waiting s e = (rw (ne-eqb _ _ e), rw (ne-eqb _ _ e))
+reversal-moves s e = rw (eq-eqb _ _ e)
+
+pub reversal-stops : (s : ℕ) → (s ≡ 2 → ⊥) → lineMoves false s ≡ 22
+unfolding lineMoves
+reversal-stops s e = rw (ne-eqb _ _ e)
 
 module _ (executing : Bool) (line i : ℕ) (r : Record) where
   pub notice-annulled : r .state ≡ 2 → noticeIn executing line i r ≡ Unmoved 17

@@ -1,13 +1,13 @@
 -- The refusals that the rules give are those that are listed, and an accepted order or a moved line has none.
-use Prim.Native.Nat.{ℕ, zero, suc, _+_, _-_, _≤_, _<_}
-use mathlib.Core.Bool.{Bool, true, false, _&&_, _||_, cond, and-false}
+use Prim.Native.Nat.{ℕ, zero, suc, _+_, _-_, _*_, _≤_, _<_}
+use mathlib.Core.Bool.{Bool, true, false, _&&_, _||_, cond, and-false, or-true}
 use mathlib.Core.List.{List, [], _∷_, map, List·Memᴰ, List·Memᴰ·head, List·Memᴰ·tail, List·Memᴰ·not-nil, List·Memᴰ·cases-cons}
 use mathlib.Core.Logic.{_⊎_, inl, inr}
 use mathlib.Core.Path.{_≡_, refl, sym, ap, subst, _∙_}
 use native.Mathlib.Omega.{arith}
 use lib.ListN.{length, getD}
 use lib.Dec.{eqb, leb, ltb}
-use borrow.Author.Tests.{eq-eqb, ne-eqb, eqb-true, eqb-false, ltb-false, le-ltb, leb-false, lt-leb}
+use borrow.Author.Tests.{eq-eqb, ne-eqb, eqb-true, eqb-false, ltb-true, ltb-false, le-ltb, leb-true, leb-false, lt-leb}
 use Rattle.scan.proofs.Laws.{both}
 use Rattle.ranges.specs.Ranges.{isNothing}
 use Rattle.ranges.specs.declared.Found.{Found}
@@ -15,26 +15,29 @@ use Rattle.ranges.specs.declared.Found.the-variants.{At, Nothing}
 use Rattle.codes.specs.declared.Operation.{Operation}
 use Rattle.codes.specs.declared.Operation.the-variants.{Inserimento, Variazione, Annullo, Sostituzione}
 use Rattle.order.specs.declared.Line.{Line}
-use Rattle.order.specs.Ordinativo.{Ordinativo}
+use Rattle.order.specs.declared.NamedLine.{NamedLine}
+use Rattle.order.specs.Ordinativo.{noLine, Ordinativo}
 use Rattle.record.specs.declared.Record.{Record}
 use Rattle.record.specs.declared.Key.{Key}
 use Rattle.record.specs.Slot.{keyOf, keyIs}
-use Rattle.slots.specs.Slots.{findIn, distinct}
+use Rattle.slots.specs.Slots.{findIn, distinct, nth, noRecord}
 use Rattle.slots.proofs.Search.{nothing-is, found-below, found-key}
 use Rattle.lines.specs.Lines.{numberedFrom, sumOf, lineCode}
+use Rattle.replacing.specs.declared.Naming.{Naming}
+use Rattle.replacing.specs.Replacing.{namings, lineNamedIn, namedAt, namedCode, replaceCode}
+use Rattle.replacing.specs.Inner.{namingAt, sameLine, earlier, codeAgain, readCode}
+use Rattle.replacing.proofs.Marks.{Comes, stops, stands, comes}
 use Rattle.rules.specs.declared.Situation.{Situation}
-use Rattle.rules.specs.declared.Situation.the-variants.{Annulled, Waiting, Executed}
+use Rattle.rules.specs.declared.Situation.the-variants.{Absent, Annulled, Waiting, Executed}
 use Rattle.rules.specs.declared.Change.{Change}
-use Rattle.rules.specs.declared.Change.the-variants.{Insert, Vary, Annul}
-use Rattle.rules.specs.declared.Asks.{Asks}
-use Rattle.rules.specs.declared.Asks.the-variants.{For, Unserved}
+use Rattle.rules.specs.declared.Change.the-variants.{Insert, Vary, Annul, Replace}
 use Rattle.rules.specs.declared.Ruling.{Ruling}
 use Rattle.rules.specs.declared.Ruling.the-variants.{Accepted, Refused}
 use Rattle.rules.specs.declared.Noticed.{Noticed}
 use Rattle.rules.specs.declared.Noticed.the-variants.{Moved, Unmoved}
-use Rattle.rules.specs.Rules.{asksOf, anyExecuted, situationIn, situationOf, row, stepCode, keyFor, nth, noRecord, eightPlaces, amountsOf, sameList, sameOrder, placed, unless, stepped, judgeChange, judgeAsked, judgeOrder, lineMoves, noticeIn, noticeAt, judgeNotice}
-use Rattle.rules.specs.Listed.{Has, HasNone, IsAnnulled, IsExecuted, Numbered, Differs, total, count, amounts, OnRecord, variazione, annullo, Applies, sostituzione, misnumbered, missummed, present, full, absent, annulled, executed, differs, NoticeApplies, unknown, closed, zeroth, past, already, notYet, turn, noticeTurn}
-use Rattle.rules.proofs.Laws.{in-annulled, in-executed, moves-executed, moves-waiting}
+use Rattle.rules.specs.Rules.{changeOf, wasExecuted, anyExecuted, situationIn, situationOf, row, stepCode, keyFor, eightPlaces, amountsOf, sameList, sameOrder, firstEmpty, placed, unless, stepped, judgeOrder, lineMoves, noticeIn, noticeAt, judgeNotice}
+use Rattle.rules.specs.Listed.{Has, HasNone, IsAnnulled, IsExecuted, IsReplaced, Numbered, Differs, total, count, amounts, OnRecord, variazione, annullo, WithNew, inserimento, sostituzione, lineAt, namedKey, namedNumber, nameTurn, lastTurn, Applies, misnumbered, missummed, present, absent, annulled, executed, no-order, line-zero, line-past, not-executed, named-before, other-amount, full, differs, NoticeApplies, unknown, closed, zeroth, past, already, notYet, noticeTurn}
+use Rattle.rules.proofs.Laws.{in-annulled, in-executed, was-2, was-3, execution-stops, reversal-stops}
 use Rattle.rules.proofs.Kept.{none-executed}
 
 -- two constructors are never equal
@@ -123,16 +126,29 @@ is-not false h = refl
 
 -- LINES
 
-some-executed : (s : List ℕ) → anyExecuted s ≡ true → (k : ℕ) × (getD s k 0 ≡ 2)
+-- a line that was executed is so still, or has been replaced
+was-is : (s : ℕ) → wasExecuted s ≡ true → (s ≡ 2) ⊎ (s ≡ 3)
+was-is s e = go (eqb s 2) (eqb s 3) refl refl e
+  where
+    go : (a b : Bool) → eqb s 2 ≡ a → eqb s 3 ≡ b → (a || b) ≡ true → (s ≡ 2) ⊎ (s ≡ 3)
+    go true b p q e = inl (eqb-true s 2 p)
+    go false true p q e = inr (eqb-true s 3 q)
+    go false false p q e = false-true e
+
+is-was : (s : ℕ) → (s ≡ 2) ⊎ (s ≡ 3) → wasExecuted s ≡ true
+is-was s (inl e) = was-2 s e
+is-was s (inr e) = was-3 s e
+
+some-executed : (s : List ℕ) → anyExecuted s ≡ true → (k : ℕ) × (wasExecuted (getD s k 0) ≡ true)
 unfolding anyExecuted
 some-executed [] e = false-true e
-some-executed (x ∷ s) e = go (eqb x 2) refl e (some-executed s)
+some-executed (x ∷ s) e = go (wasExecuted x) refl e (some-executed s)
   where
-    go : (b : Bool) → eqb x 2 ≡ b → (b || anyExecuted s) ≡ true → (anyExecuted s ≡ true → (k : ℕ) × (getD s k 0 ≡ 2)) → (k : ℕ) × (getD (x ∷ s) k 0 ≡ 2)
-    go true p f ih = (0, eqb-true x 2 p)
+    go : (b : Bool) → wasExecuted x ≡ b → (b || anyExecuted s) ≡ true → (anyExecuted s ≡ true → (k : ℕ) × (wasExecuted (getD s k 0) ≡ true)) → (k : ℕ) × (wasExecuted (getD (x ∷ s) k 0) ≡ true)
+    go true p f ih = (0, p)
     go false p f ih = let y = ih f in (suc (y .0), y .1)
 
-is-executed : (s : List ℕ) (k : ℕ) → getD s k 0 ≡ 2 → anyExecuted s ≡ true
+is-executed : (s : List ℕ) (k : ℕ) → wasExecuted (getD s k 0) ≡ true → anyExecuted s ≡ true
 is-executed s k e = go (anyExecuted s) refl
   where
     go : (b : Bool) → anyExecuted s ≡ b → b ≡ true
@@ -200,120 +216,150 @@ module _ (o : Ordinativo) (r : Record) where
   same-differs e (count h) = h (eqb-true _ _ (both (eqb (length (o .lines)) (r .lines)) (sameList mine (r .amounts)) (both (eqb (o .total) (r .total)) _ e .1) .0))
   same-differs e (amounts h) = h (same-true mine (r .amounts) (both (eqb (length (o .lines)) (r .lines)) (sameList mine (r .amounts)) (both (eqb (o .total) (r .total)) _ e .1) .1))
 
--- AN ORDER THAT IS REFUSED
-module _ (slots year : ℕ) (o : Ordinativo) (rs : List Record) (code : ℕ) where
-  abbrev k : Key
-  k = keyFor year o
+-- THE LINE THAT A LINE NAMES, by reading only
 
-  give : {c : ℕ} → Applies slots year o rs c → Refused c ≡ Refused code → Applies slots year o rs code
-  give {c} h e = let q : c ≡ code = cc in subst (Applies slots year o rs) q h
+-- what `namedCode` tells
+data Tells (rs : List Record) (m : Naming) : ℕ → Type 0 where
+  none-such : HasNone rs (m .key) → Tells rs m 24
+  not-first : m .line ≡ 0 → Tells rs m 24
+  too-far : (r : Record) → Has rs (m .key) r → r .lines < m .line → Tells rs m 24
+  unexecuted : (r : Record) → Has rs (m .key) r → (getD (r .states) (m .line - 1) 0 ≡ 2 → ⊥) → Tells rs m 25
+  unequal : (r : Record) → Has rs (m .key) r → (getD (r .amounts) (m .line - 1) 0 ≡ m .amount → ⊥) → Tells rs m 26
+  fine : Tells rs m 0
 
-  accepts : {A : Type 0} {c : Change} {i : ℕ} → Accepted c i ≡ Refused code → A
-  accepts e = let z : clash = cc in no z
+tells-in : (rs : List Record) (m : Naming) (r : Record) → Has rs (m .key) r → Tells rs m (lineNamedIn r (m .line) (m .amount))
+unfolding lineNamedIn
+tells-in rs m r h = go (leb 1 (m .line)) (leb (m .line) (r .lines)) (eqb (getD (r .states) (m .line - 1) 0) 2) (eqb (getD (r .amounts) (m .line - 1) 0) (m .amount)) refl refl refl refl
+  where
+    go : (a b c d : Bool) → leb 1 (m .line) ≡ a → leb (m .line) (r .lines) ≡ b → eqb (getD (r .states) (m .line - 1) 0) 2 ≡ c → eqb (getD (r .amounts) (m .line - 1) 0) (m .amount) ≡ d
+        → Tells rs m (cond (a && b) (cond c (cond d 0 26) 25) 24)
+    go false b c d p q s u = not-first (omega (arith, leb-false 1 (m .line) p))
+    go true false c d p q s u = too-far r h (leb-false (m .line) (r .lines) q)
+    go true true false d p q s u = unexecuted r h (eqb-false _ _ s)
+    go true true true false p q s u = unequal r h (eqb-false _ _ u)
+    go true true true true p q s u = fine
 
-  lines-apply : (c : ℕ) → lineCode (o .lines) (o .total) ≡ suc c → Applies slots year o rs (suc c)
-  unfolding lineCode
-  lines-apply c e = go (numberedFrom 1 (o .lines)) (eqb (sumOf (o .lines)) (o .total)) refl refl e
+tells : (rs : List Record) (m : Naming) → Tells rs m (namedCode rs m)
+unfolding namedCode namedAt
+tells rs m = go (findIn rs 0 (m .key)) refl
+  where
+    go : (f : Found) → findIn rs 0 (m .key) ≡ f → Tells rs m (namedAt rs m f)
+    go Nothing e = none-such (nothing-none rs (m .key) e)
+    go (At i) e = tells-in rs m (nth rs i) (found-has rs (m .key) i e)
+
+-- and the other way round: a code from 24 to x
+abbrev To : ℕ → ℕ → Type 0
+To x c = (24 ≤ c) × (c ≤ x)
+
+in-to : (r : Record) (line amount : ℕ) (x : ℕ) → (x ≡ 24 → (leb 1 line && leb line (r .lines)) ≡ false) → (x ≡ 25 → eqb (getD (r .states) (line - 1) 0) 2 ≡ false)
+    → (x ≡ 26 → eqb (getD (r .amounts) (line - 1) 0) amount ≡ false) → To 26 x → To x (lineNamedIn r line amount)
+unfolding lineNamedIn
+in-to r line amount x f g h t = go (leb 1 line && leb line (r .lines)) (eqb (getD (r .states) (line - 1) 0) 2) (eqb (getD (r .amounts) (line - 1) 0) amount) f g h
+  where
+    no-such : {a : Bool} {A : Type 0} → a ≡ true → a ≡ false → A
+    no-such p q = false-true (sym q ∙ p)
+
+    go : (a b c : Bool) → (x ≡ 24 → a ≡ false) → (x ≡ 25 → b ≡ false) → (x ≡ 26 → c ≡ false) → To x (cond a (cond b (cond c 0 26) 25) 24)
+    go false b c f g h = (omega arith, t .0)
+    go true false c f g h = (omega arith, ge 25 (λ (q : x ≡ 24). no-such refl (f q)))
+      where
+        ge : (y : ℕ) → (x ≡ 24 → ⊥) → 25 ≤ x
+        ge y n = omega (arith, t)
+    go true true false f g h = (omega arith, ge (λ (q : x ≡ 24). no-such refl (f q)) (λ (q : x ≡ 25). no-such refl (g q)))
+      where
+        ge : (x ≡ 24 → ⊥) → (x ≡ 25 → ⊥) → 26 ≤ x
+        ge n m = omega (arith, t)
+    go true true true f g h = absurd (none (λ (q : x ≡ 24). no-such refl (f q)) (λ (q : x ≡ 25). no-such refl (g q)) (λ (q : x ≡ 26). no-such refl (h q)))
+      where
+        none : (x ≡ 24 → ⊥) → (x ≡ 25 → ⊥) → (x ≡ 26 → ⊥) → ⊥
+        none n m k = omega (arith, t)
+
+-- a line that was named before, too
+again-to : (b : Bool) (x c : ℕ) → To x c → To x (codeAgain b c)
+unfolding codeAgain
+again-to false x c t = t
+again-to true x c t = go (eqb c 24) refl
+  where
+    go : (a : Bool) → eqb c 24 ≡ a → To x (cond a 24 25)
+    go true e = (omega arith, omega (arith, t))
+    go false e = (omega arith, omega (arith, t, eqb-false c 24 e))
+
+-- WHETHER A LINE IS NAMED BEFORE
+module _ (o : Ordinativo) where
+  abbrev at : ℕ → Naming
+  at j = namingAt (o .kind) (o .lines) j
+
+  same-named : (i j : ℕ) → sameLine (at i) (at j) ≡ true → lineAt o i .named ≡ lineAt o j .named
+  unfolding sameLine namingAt
+  same-named i j e =
+      let a = both (eqb (at i .line) (at j .line)) _ e in
+      let b = both (eqb (at i .key .number) (at j .key .number)) (eqb (at i .key .esercizio) (at j .key .esercizio)) (a .1) in
+      let x = eqb-true _ _ (a .0) in
+      let y = eqb-true _ _ (b .0) in
+      let z = eqb-true _ _ (b .1) in
+      λ k. record { number = y k; line = x k; esercizio = z k }
+
+  named-same : (i j : ℕ) → lineAt o i .named ≡ lineAt o j .named → sameLine (at i) (at j) ≡ true
+  unfolding sameLine namingAt
+  named-same i j e =
+      rw (
+        eq-eqb (lineAt o i .named .line) (lineAt o j .named .line) (ap (λ (n : NamedLine). n .line) e),
+        eq-eqb (lineAt o i .named .number) (lineAt o j .named .number) (ap (λ (n : NamedLine). n .number) e),
+        eq-eqb (lineAt o i .named .esercizio) (lineAt o j .named .esercizio) (ap (λ (n : NamedLine). n .esercizio) e),
+      )
+
+  before : (n j : ℕ) → earlier (o .kind) (o .lines) n (at j) ≡ true → (i : ℕ) × (i < n) × (lineAt o i .named ≡ lineAt o j .named)
+  unfolding earlier
+  before zero j e = false-true e
+  before (suc n) j e = go (sameLine (at n) (at j)) refl e (before n j)
     where
-      go : (a b : Bool) → numberedFrom 1 (o .lines) ≡ a → eqb (sumOf (o .lines)) (o .total) ≡ b → cond a (cond b 0 13) 12 ≡ suc c → Applies slots year o rs (suc c)
-      go true true p q e = absurd (omega arith)
-      go true false p q e = subst (Applies slots year o rs) e (missummed (eqb-false _ _ q))
-      go false b p q e = subst (Applies slots year o rs) e (misnumbered (λ n. false-true (sym p ∙ numbered-true (o .lines) n)))
+      go : (b : Bool) → sameLine (at n) (at j) ≡ b → (b || earlier (o .kind) (o .lines) n (at j)) ≡ true
+          → (earlier (o .kind) (o .lines) n (at j) ≡ true → (i : ℕ) × (i < n) × (lineAt o i .named ≡ lineAt o j .named)) → (i : ℕ) × (i < suc n) × (lineAt o i .named ≡ lineAt o j .named)
+      go true p e next = (n, omega arith, same-named n j p)
+      go false p e next = let x = next e in let l = x .1 in (x .0, omega arith, x .2)
 
-  at-lines : (c : ℕ) → lineCode (o .lines) (o .total) ≡ c → (next : Ruling) → (next ≡ Refused code → Applies slots year o rs code) → unless Refused c next ≡ Refused code → Applies slots year o rs code
-  at-lines zero p next go e = go e
-  at-lines (suc c) p next go e = give (lines-apply c p) e
-
-  inserts : o .operation ≡ Inserimento → (f : Found) → findIn rs 0 k ≡ f → unless Refused (stepCode Insert (situationOf rs f)) (placed slots o rs Insert f) ≡ Refused code → Applies slots year o rs code
-  unfolding situationOf situationIn placed
-  inserts p Nothing f e = go (ltb (length rs) slots) refl e
+  is-before : (n j i : ℕ) → i < n → lineAt o i .named ≡ lineAt o j .named → earlier (o .kind) (o .lines) n (at j) ≡ true
+  unfolding earlier
+  is-before zero j i h e = absurd (omega arith)
+  is-before (suc n) j i h e = go (eqb i n) refl (λ q. is-before n j i q e)
     where
-      go : (b : Bool) → ltb (length rs) slots ≡ b → cond b (Accepted Insert (length rs)) (Refused 15) ≡ Refused code → Applies slots year o rs code
-      go true q e = accepts e
-      go false q e = give (full p (ltb-false (length rs) slots q)) e
-  inserts p (At i) f e = go (eqb (nth rs i .state) 2) (anyExecuted (nth rs i .states)) e
-    where
-      there : Applies slots year o rs 14
-      there = present p (nth rs i) (found-has rs k i f)
+      go : (b : Bool) → eqb i n ≡ b → (i < n → earlier (o .kind) (o .lines) n (at j) ≡ true) → (sameLine (at n) (at j) || earlier (o .kind) (o .lines) n (at j)) ≡ true
+      go true p next = let q = eqb-true i n p in rw (named-same n j (ap (λ (x : ℕ). lineAt o x .named) (sym q) ∙ e))
+      go false p next = rw (next (omega (arith, eqb-false i n p)), or-true)
 
-      go : (a b : Bool) → unless Refused (row 0 14 14 14 (cond a Annulled (cond b Executed Waiting))) (placed slots o rs Insert (At i)) ≡ Refused code → Applies slots year o rs code
-      go true b e = give there e
-      go false true e = give there e
-      go false false e = give there e
+-- no line's code is above 26
+at-most : {rs : List Record} {m : Naming} (b : Bool) {n : ℕ} → Tells rs m n → {c : ℕ} → codeAgain b n ≡ c → c ≤ 26
+unfolding codeAgain
+at-most true {n} t {c} e = late (eqb n 24) e
+  where
+    late : (a : Bool) → cond a 24 25 ≡ c → c ≤ 26
+    late true p = omega arith
+    late false p = omega arith
+at-most false (none-such h) e = omega arith
+at-most false (not-first h) e = omega arith
+at-most false (too-far r h k) e = omega arith
+at-most false (unexecuted r h k) e = omega arith
+at-most false (unequal r h k) e = omega arith
+at-most false fine e = omega arith
 
-  on-record : OnRecord (o .operation) → (f : Found) → findIn rs 0 k ≡ f → (next : Ruling) → ((i : ℕ) → f ≡ At i → next ≡ Refused code → Applies slots year o rs code)
-      → unless Refused (row 16 17 0 18 (situationOf rs f)) next ≡ Refused code → Applies slots year o rs code
-  unfolding situationOf situationIn
-  on-record w Nothing f next later e = give (absent w (nothing-none rs k f)) e
-  on-record w (At i) f next later e = go (eqb (nth rs i .state) 2) (anyExecuted (nth rs i .states)) refl refl e
-    where
-      has : Has rs k (nth rs i)
-      has = found-has rs k i f
+-- which of three a number is
+unfoldable third : ℕ → ℕ
+third zero = 0
+third (suc zero) = 1
+third (suc (suc zero)) = 2
+third (suc (suc (suc n))) = third n
 
-      go : (a b : Bool) → eqb (nth rs i .state) 2 ≡ a → anyExecuted (nth rs i .states) ≡ b
-          → unless Refused (row 16 17 0 18 (cond a Annulled (cond b Executed Waiting))) next ≡ Refused code → Applies slots year o rs code
-      go true b p q e = give (annulled w (nth rs i) has (eqb-true _ _ p)) e
-      go false true p q e = let x = some-executed (nth rs i .states) q in give (executed w (nth rs i) has (eqb-false _ _ p) (x .0) (x .1)) e
-      go false false p q e = later i refl e
+thirds : (j k : ℕ) → k < 3 → third (3 * j + k) ≡ k
+unfolding third
+thirds zero zero h = refl
+thirds zero (suc zero) h = refl
+thirds zero (suc (suc zero)) h = refl
+thirds zero (suc (suc (suc k))) h = absurd (omega arith)
+thirds (suc j) k h =
+    let q : 3 * suc j + k ≡ suc (suc (suc (3 * j + k))) = omega arith in
+    ap third q ∙ thirds j k h
 
-  varies : (f : Found) (i : ℕ) → f ≡ At i → placed slots o rs Vary f ≡ Refused code → Applies slots year o rs code
-  unfolding placed
-  varies f i p e = accepts (sym (ap (placed slots o rs Vary) p) ∙ e)
-
-  annuls : o .operation ≡ Annullo → (f : Found) → findIn rs 0 k ≡ f → (i : ℕ) → f ≡ At i → placed slots o rs Annul f ≡ Refused code → Applies slots year o rs code
-  unfolding placed
-  annuls p f q i s e = go (sameOrder o (nth rs i)) refl (sym (ap (placed slots o rs Annul) s) ∙ e)
-    where
-      go : (b : Bool) → sameOrder o (nth rs i) ≡ b → cond b (Accepted Annul i) (Refused 19) ≡ Refused code → Applies slots year o rs code
-      go true h e = accepts e
-      go false h e = give (differs p (nth rs i) (found-has rs k i (q ∙ s)) (other-differs o (nth rs i) h)) e
-
-  pub refused-applies : judgeOrder slots year o rs ≡ Refused code → Applies slots year o rs code
-  unfolding judgeOrder stepped
-  refused-applies e = go (o .operation) refl e
-    where
-      go : (p : Operation) → o .operation ≡ p → judgeAsked slots year o rs (asksOf p) ≡ Refused code → Applies slots year o rs code
-      go Inserimento p e = at-lines (lineCode (o .lines) (o .total)) refl _ (inserts p (findIn rs 0 k) refl) e
-      go Variazione p e =
-          at-lines (lineCode (o .lines) (o .total)) refl _
-          (on-record (subst OnRecord (sym p) variazione) (findIn rs 0 k) refl _ (varies (findIn rs 0 k))) e
-      go Annullo p e =
-          at-lines (lineCode (o .lines) (o .total)) refl _
-          (on-record (subst OnRecord (sym p) annullo) (findIn rs 0 k) refl _ (annuls p (findIn rs 0 k) refl)) e
-      go Sostituzione p e = give (sostituzione p) e
-
--- AN ORDER TO WHICH A LISTED REFUSAL APPLIES is refused, in the turn of that refusal or an earlier one
-
--- refused by turn t
-pub record By (j : Ruling) (t : ℕ) : Type 0 where
-  pub code : ℕ
-  pub is : j ≡ Refused code
-  pub soon : turn code ≤ t
-
-by : {j k : Ruling} {t : ℕ} → j ≡ k → By k t → By j t
-by e b = record { code = b .code; is = e ∙ b .is; soon = b .soon }
-
--- the change of an operation on a record, and its row
-record Row (p : Operation) : Type 0 where
-  change : Change
-  asks : asksOf p ≡ For change
-  codes : (s : Situation) → stepCode change s ≡ row 16 17 0 18 s
-
-row-of : {p : Operation} → OnRecord p → Row p
-row-of variazione = record { change = Vary; asks = refl; codes = λ s. refl }
-row-of annullo = record { change = Annul; asks = refl; codes = λ s. refl }
-
--- the code that the step table gives what is asked for, and the one that comes after it
-abbrev stepFor : Asks → Situation → ℕ
-stepFor (For c) s = stepCode c s
-stepFor (Unserved code) s = 0
-
-abbrev lastFor : Asks → ℕ
-lastFor (For Insert) = 15
-lastFor (For Vary) = 0
-lastFor (For Annul) = 19
-lastFor (Unserved code) = 0
-
+-- AN ORDER
 module _ (slots year : ℕ) (o : Ordinativo) (rs : List Record) where
   abbrev key : Key
   key = keyFor year o
@@ -321,147 +367,438 @@ module _ (slots year : ℕ) (o : Ordinativo) (rs : List Record) where
   abbrev answer : Ruling
   answer = judgeOrder slots year o rs
 
-  asks-is : {p : Operation} {a : Asks} → o .operation ≡ p → asksOf p ≡ a → answer ≡ judgeAsked slots year o rs a
-  unfolding judgeOrder
-  asks-is q e = ap (λ (x : Operation). judgeAsked slots year o rs (asksOf x)) q ∙ ap (judgeAsked slots year o rs) e
+  abbrev change : Change
+  change = changeOf (o .operation)
 
-  any-change : (t : ℕ) → 1 ≤ t → ((c : Change) → By (judgeChange slots year o rs c) t) → By answer t
-  any-change t l f = go (o .operation) refl
+  abbrev found : Found
+  found = findIn rs 0 key
+
+  abbrev step : ℕ
+  step = stepCode change (situationOf rs found)
+
+  -- what line j comes to
+  abbrev code : ℕ → ℕ
+  code j = readCode (o .kind) (o .lines) rs j
+
+  -- a refused line: what applies to it
+  named-applies : o .operation ≡ Sostituzione → (j : ℕ) → j < length (o .lines) → (c : ℕ) → code j ≡ suc c → Applies slots year o rs (nameTurn j + (suc c - 24)) (suc c)
+  unfolding codeAgain namingAt
+  named-applies p j l c e = go (earlier (o .kind) (o .lines) j (at o j)) refl (tells rs (at o j)) e
     where
-      go : (p : Operation) → o .operation ≡ p → By answer t
-      go Inserimento q = by (asks-is q refl) (f Insert)
-      go Variazione q = by (asks-is q refl) (f Vary)
-      go Annullo q = by (asks-is q refl) (f Annul)
-      go Sostituzione q = record { code = 11; is = asks-is q refl; soon = l }
+      absent-again : (b : Bool) → codeAgain b 24 ≡ 24
+      absent-again true = refl
+      absent-again false = refl
 
-  -- THE LINES
-  numbers-wrong : (c : Change) → numberedFrom 1 (o .lines) ≡ false → By (judgeChange slots year o rs c) 2
-  unfolding lineCode
-  numbers-wrong c e = record { code = 12; is = rw e; soon = omega arith }
+      kept-as : {t x : ℕ} → Applies slots year o rs t x → x ≡ suc c → t ≡ nameTurn j + (x - 24) → Applies slots year o rs (nameTurn j + (suc c - 24)) (suc c)
+      kept-as {t} {x} a q r = subst (λ (y : ℕ). Applies slots year o rs (nameTurn j + (y - 24)) y) q (subst (λ (y : ℕ). Applies slots year o rs y x) r a)
 
-  sum-wrong : (c : Change) → eqb (sumOf (o .lines)) (o .total) ≡ false → By (judgeChange slots year o rs c) 3
-  unfolding lineCode
-  sum-wrong c e = rw e (go (numberedFrom 1 (o .lines)))
-    where
-      go : (b : Bool) → By (unless Refused (cond b 13 12) (stepped slots o rs c (findIn rs 0 key))) 3
-      go true = record { code = 13; is = refl; soon = omega arith }
-      go false = record { code = 12; is = refl; soon = omega arith }
+      go : (b : Bool) → earlier (o .kind) (o .lines) j (at o j) ≡ b → {n : ℕ} → Tells rs (at o j) n → codeAgain b n ≡ suc c → Applies slots year o rs (nameTurn j + (suc c - 24)) (suc c)
+      go b q (none-such h) e = kept-as (no-order p j l h) (sym (absent-again b) ∙ e) (omega arith)
+      go b q (not-first h) e = kept-as (line-zero p j l h) (sym (absent-again b) ∙ e) (omega arith)
+      go b q (too-far r h k) e = kept-as (line-past p j l r h k) (sym (absent-again b) ∙ e) (omega arith)
+      go true q (unexecuted r h k) e = kept-as (not-executed p j l r h k) e (omega arith)
+      go false q (unexecuted r h k) e = kept-as (not-executed p j l r h k) e (omega arith)
+      go true q (unequal r h k) e = let x = before o j j q in kept-as (named-before p j l (x .0) (x .1) (x .2)) e (omega arith)
+      go false q (unequal r h k) e = kept-as (other-amount p j l r h k) e (omega arith)
+      go true q fine e = let x = before o j j q in kept-as (named-before p j l (x .0) (x .1) (x .2)) e (omega arith)
+      go false q fine e = absurd (omega arith)
 
-  past-lines : (c : Change) (t : ℕ) → 3 ≤ t → By (stepped slots o rs c (findIn rs 0 key)) t → By (judgeChange slots year o rs c) t
-  unfolding lineCode
-  past-lines c t l b = go (numberedFrom 1 (o .lines)) (eqb (sumOf (o .lines)) (o .total))
-    where
-      go : (x y : Bool) → By (unless Refused (cond x (cond y 0 13) 12) (stepped slots o rs c (findIn rs 0 key))) t
-      go true true = b
-      go true false = record { code = 13; is = refl; soon = l }
-      go false y = record { code = 12; is = refl; soon = omega arith }
-
-  -- THE STEP TABLE, by what the search found
-  abbrev stepBy : Change → Found → (Situation → ℕ) → Ruling
-  stepBy c f codes = unless Refused (codes (situationOf rs f)) (placed slots o rs c f)
-
-  changing-by : (c : Change) (t : ℕ) → 4 ≤ t → (f : Found) → asksOf (o .operation) ≡ For c → findIn rs 0 key ≡ f → By (stepBy c f (stepCode c)) t → By answer t
-  unfolding stepped
-  changing-by c t l f q e b = by (asks-is refl q) (past-lines c t (omega arith) (by (ap (stepped slots o rs c) e) b))
-
-  record-by : OnRecord (o .operation) → (f : Found) → findIn rs 0 key ≡ f → ((c : Change) → By (stepBy c f (row 16 17 0 18)) 4) → By answer 4
-  record-by w f e b =
-      let r = row-of w in
-      let c = r .change in
-      changing-by c 4 (omega arith) f (r .asks) e (by (ap (λ (m : ℕ). unless Refused m (placed slots o rs c f)) (r .codes (situationOf rs f))) (b c))
-
-  there-by : (i : ℕ) → By (stepBy Insert (At i) (row 0 14 14 14)) 4
-  unfolding situationOf situationIn
-  there-by i = go (eqb (nth rs i .state) 2) (anyExecuted (nth rs i .states))
-    where
-      go : (a b : Bool) → By (unless Refused (row 0 14 14 14 (cond a Annulled (cond b Executed Waiting))) (placed slots o rs Insert (At i))) 4
-      go true b = record { code = 14; is = refl; soon = omega arith }
-      go false true = record { code = 14; is = refl; soon = omega arith }
-      go false false = record { code = 14; is = refl; soon = omega arith }
-
-  full-by : slots ≤ length rs → (f : Found) → By (stepBy Insert f (row 0 14 14 14)) 5
-  unfolding situationOf placed
-  full-by l Nothing = record { code = 15; is = rw (le-ltb (length rs) slots l); soon = omega arith }
-  full-by l (At i) = let b = there-by i in record { code = b .code; is = b .is; soon = omega (arith, b .soon) }
-
-  annulled-by : (c : Change) (i : ℕ) → IsAnnulled (nth rs i) → By (stepBy c (At i) (row 16 17 0 18)) 4
-  unfolding situationOf situationIn
-  annulled-by c i e = record { code = 17; is = rw (eq-eqb (nth rs i .state) 2 e); soon = omega arith }
-
-  executed-by : (c : Change) (i k : ℕ) → (IsAnnulled (nth rs i) → ⊥) → IsExecuted (nth rs i) k → By (stepBy c (At i) (row 16 17 0 18)) 4
-  unfolding situationOf situationIn
-  executed-by c i k n e = record { code = 18; is = rw (ne-eqb (nth rs i .state) 2 n, is-executed (nth rs i .states) k e); soon = omega arith }
-
-  differs-by : (i : ℕ) → sameOrder o (nth rs i) ≡ false → By (stepBy Annul (At i) (row 16 17 0 18)) 5
-  unfolding situationOf situationIn placed
-  differs-by i e = go (eqb (nth rs i .state) 2) (anyExecuted (nth rs i .states))
-    where
-      go : (a b : Bool) → By (unless Refused (row 16 17 0 18 (cond a Annulled (cond b Executed Waiting))) (placed slots o rs Annul (At i))) 5
-      go true b = record { code = 17; is = refl; soon = omega arith }
-      go false true = record { code = 18; is = refl; soon = omega arith }
-      go false false = record { code = 19; is = rw e; soon = omega arith }
-
+  -- THE STEP TABLE, at what is listed
   module _ (d : distinct rs ≡ true) where
-    pub applies-by : {c : ℕ} → Applies slots year o rs c → By answer (turn c)
-    unfolding situationOf
-    applies-by (sostituzione q) = record { code = 11; is = asks-is q refl; soon = omega arith }
-    applies-by (misnumbered h) = any-change 2 (omega arith) (λ c. numbers-wrong c (is-not (numberedFrom 1 (o .lines)) (λ e. h (true-numbered (o .lines) e))))
-    applies-by (missummed h) = any-change 3 (omega arith) (λ c. sum-wrong c (ne-eqb _ _ h))
-    applies-by (present q r h) = let x = has-at rs key r d h in changing-by Insert 4 (omega arith) (At (x .at)) (ap asksOf q) (x .found) (there-by (x .at))
-    applies-by (full q l) = changing-by Insert 5 (omega arith) (findIn rs 0 key) (ap asksOf q) refl (full-by l (findIn rs 0 key))
-    applies-by (absent w h) = record-by w Nothing (none-nothing rs key h) (λ c. record { code = 16; is = refl; soon = omega arith })
-    applies-by (annulled w r h e) =
-        let x = has-at rs key r d h in
-        record-by w (At (x .at)) (x .found) (λ c. annulled-by c (x .at) (ap (λ (y : Record). y .state) (x .same) ∙ e))
-    applies-by (executed w r h n k e) =
-        let x = has-at rs key r d h in
-        record-by w (At (x .at)) (x .found)
-        (λ c. executed-by c (x .at) k (λ z. n (sym (ap (λ (y : Record). y .state) (x .same)) ∙ z)) (ap (λ (y : Record). getD (y .states) k 0) (x .same) ∙ e))
-    applies-by (differs q r h e) =
-        let x = has-at rs key r d h in
-        changing-by Annul 5 (omega arith) (At (x .at)) (ap asksOf q) (x .found)
-        (differs-by (x .at) (ap (sameOrder o) (x .same) ∙ is-not (sameOrder o r) (λ z. same-differs o r z e)))
+    new-row : WithNew (o .operation) → (s : Situation) → stepCode change s ≡ row 0 14 14 14 s
+    new-row w s = go (o .operation) w
+      where
+        go : (p : Operation) → WithNew p → stepCode (changeOf p) s ≡ row 0 14 14 14 s
+        go p inserimento = refl
+        go p sostituzione = refl
 
-    pub accepted-none : {c : Change} {i code : ℕ} → answer ≡ Accepted c i → Applies slots year o rs code → ⊥
-    accepted-none e a = let b = applies-by a in let z : clash = cc (b .is) in no z
+    record-row : OnRecord (o .operation) → (s : Situation) → stepCode change s ≡ row 16 17 0 18 s
+    record-row w s = go (o .operation) w
+      where
+        go : (p : Operation) → OnRecord p → stepCode (changeOf p) s ≡ row 16 17 0 18 s
+        go p variazione = refl
+        go p annullo = refl
 
-    -- ONE REFUSAL AT MOST of each turn
-    abbrev codeAt : ℕ → ℕ
-    codeAt t =
-        cond (eqb t 1) 11 (cond (eqb t 2) 12 (cond (eqb t 3) 13 (cond (eqb t 4) (stepFor (asksOf (o .operation)) (situationOf rs (findIn rs 0 key))) (lastFor (asksOf (o .operation))))))
-
-    step-code : {c : Change} {f : Found} → asksOf (o .operation) ≡ For c → findIn rs 0 key ≡ f → stepFor (asksOf (o .operation)) (situationOf rs (findIn rs 0 key)) ≡ stepCode c (situationOf rs f)
-    step-code q e = λ i. stepFor (q i) (situationOf rs (e i))
-
-    record-code : OnRecord (o .operation) → {f : Found} {s : Situation} → findIn rs 0 key ≡ f → situationOf rs f ≡ s → row 16 17 0 18 s ≡ stepFor (asksOf (o .operation)) (situationOf rs (findIn rs 0 key))
-    record-code w {f} {s} e q = let r = row-of w in sym (step-code (r .asks) e ∙ r .codes (situationOf rs f) ∙ ap (row 16 17 0 18) q)
-
-    there-code : (i : ℕ) → stepCode Insert (situationOf rs (At i)) ≡ 14
+    there-14 : (i : ℕ) → row 0 14 14 14 (situationOf rs (At i)) ≡ 14
     unfolding situationOf situationIn
-    there-code i = go (eqb (nth rs i .state) 2) (anyExecuted (nth rs i .states))
+    there-14 i = go (eqb (nth rs i .state) 2) (anyExecuted (nth rs i .states))
       where
         go : (a b : Bool) → row 0 14 14 14 (cond a Annulled (cond b Executed Waiting)) ≡ 14
         go true b = refl
         go false true = refl
         go false false = refl
 
-    turn-code : {c : ℕ} → Applies slots year o rs c → c ≡ codeAt (turn c)
+    step-present : WithNew (o .operation) → (r : Record) → Has rs key r → step ≡ 14
+    step-present w r h =
+        let x = has-at rs key r d h in
+        new-row w (situationOf rs found) ∙ ap (λ (f : Found). row 0 14 14 14 (situationOf rs f)) (x .found) ∙ there-14 (x .at)
+
+    step-absent : OnRecord (o .operation) → HasNone rs key → step ≡ 16
     unfolding situationOf
-    turn-code (sostituzione q) = refl
+    step-absent w h = record-row w (situationOf rs found) ∙ ap (λ (f : Found). row 16 17 0 18 (situationOf rs f)) (none-nothing rs key h)
+
+    step-at : OnRecord (o .operation) → (r : Record) → Has rs key r → {s : Situation} → situationIn r ≡ s → step ≡ row 16 17 0 18 s
+    unfolding situationOf
+    step-at w r h q =
+        let x = has-at rs key r d h in
+        record-row w (situationOf rs found) ∙ ap (λ (f : Found). row 16 17 0 18 (situationOf rs f)) (x .found) ∙ ap (λ (y : Record). row 16 17 0 18 (situationIn y)) (x .same) ∙ ap (row 16 17 0 18) q
+
+    step-annulled : OnRecord (o .operation) → (r : Record) → Has rs key r → IsAnnulled r → step ≡ 17
+    step-annulled w r h e = step-at w r h (in-annulled r e)
+
+    step-executed : OnRecord (o .operation) → (r : Record) → Has rs key r → (IsAnnulled r → ⊥) → (k : ℕ) → IsExecuted r k ⊎ IsReplaced r k → step ≡ 18
+    step-executed w r h n k e = step-at w r h (in-executed r n (is-executed (r .states) k (is-was (getD (r .states) k 0) e)))
+
+    -- A NAMED LINE, at what is listed: its code lies from 24 to the listed one
+    module _ (j : ℕ) where
+      code-from : (x : ℕ) → To x (namedCode rs (at o j)) → To x (code j)
+      code-from x t = again-to (earlier (o .kind) (o .lines) j (at o j)) x (namedCode rs (at o j)) t
+
+      of-record : (r : Record) → Has rs (namedKey o j) r → {x : ℕ} → To x (lineNamedIn r (namedNumber o j) (lineAt o j .amount)) → To x (namedCode rs (at o j))
+      unfolding namedCode namedAt namingAt
+      of-record r h {x} t =
+          let y = has-at rs (namedKey o j) r d h in
+          subst (To x) (sym (ap (namedAt rs (at o j)) (y .found) ∙ ap (λ (z : Record). lineNamedIn z (namedNumber o j) (lineAt o j .amount)) (y .same))) t
+
+      code-none : HasNone rs (namedKey o j) → To 24 (code j)
+      unfolding namedCode namedAt namingAt
+      code-none h = code-from 24 (subst (To 24) (sym (ap (namedAt rs (at o j)) (none-nothing rs (namedKey o j) h))) (omega arith, omega arith))
+
+      code-zero : namedNumber o j ≡ 0 → To 24 (code j)
+      unfolding namedCode namedAt namingAt
+      code-zero e = code-from 24 (go (findIn rs 0 (namedKey o j)))
+        where
+          go : (f : Found) → To 24 (namedAt rs (at o j) f)
+          go Nothing = (omega arith, omega arith)
+          go (At i) =
+              in-to (nth rs i) (namedNumber o j) (lineAt o j .amount) 24 (λ q. rw (lt-leb 1 (namedNumber o j) (omega arith))) (λ q. absurd (omega arith)) (λ q. absurd (omega arith)) (omega arith, omega arith)
+
+      code-past : (r : Record) → Has rs (namedKey o j) r → r .lines < namedNumber o j → To 24 (code j)
+      code-past r h l =
+          code-from 24 (of-record r h (in-to r (namedNumber o j) (lineAt o j .amount) 24 (λ q. rw (lt-leb (namedNumber o j) (r .lines) l, and-false)) (λ q. absurd (omega arith)) (λ q. absurd (omega arith)) (omega arith, omega arith)))
+
+      code-unexecuted : (r : Record) → Has rs (namedKey o j) r → (IsExecuted r (namedNumber o j - 1) → ⊥) → To 25 (code j)
+      code-unexecuted r h n =
+          code-from 25 (of-record r h (in-to r (namedNumber o j) (lineAt o j .amount) 25 (λ q. absurd (omega arith)) (λ q. ne-eqb _ _ n) (λ q. absurd (omega arith)) (omega arith, omega arith)))
+
+      code-unequal : (r : Record) → Has rs (namedKey o j) r → (getD (r .amounts) (namedNumber o j - 1) 0 ≡ lineAt o j .amount → ⊥) → To 26 (code j)
+      code-unequal r h n =
+          code-from 26 (of-record r h (in-to r (namedNumber o j) (lineAt o j .amount) 26 (λ q. absurd (omega arith)) (λ q. absurd (omega arith)) (λ q. ne-eqb _ _ n) (omega arith, omega arith)))
+
+      code-before : (i : ℕ) → i < j → lineAt o i .named ≡ lineAt o j .named → To 25 (code j)
+      unfolding codeAgain
+      code-before i l e = subst (λ (b : Bool). To 25 (codeAgain b (namedCode rs (at o j)))) (sym (is-before o j j i l e)) (go (eqb (namedCode rs (at o j)) 24))
+        where
+          go : (b : Bool) → To 25 (cond b 24 25)
+          go true = (omega arith, omega arith)
+          go false = (omega arith, omega arith)
+
+    -- WHAT APPLIES once lines and step table let the order pass
+    data Late (t c : ℕ) : Type 0 where
+      of-line : o .operation ≡ Sostituzione → (j : ℕ) → j < length (o .lines) → To c (code j) → t ≡ nameTurn j + (c - 24) → Late t c
+      no-room : WithNew (o .operation) → slots ≤ length rs → t ≡ lastTurn o → Late t c
+      not-meant : o .operation ≡ Annullo → (r : Record) → Has rs key r → Differs o r → t ≡ lastTurn o → Late t c
+
+    module _ (numbered : numberedFrom 1 (o .lines) ≡ true) (summed : sumOf (o .lines) ≡ o .total) where
+      past-lines : {t c : ℕ} → Applies slots year o rs t c → 3 ≤ t
+      past-lines (misnumbered h) = absurd (h (true-numbered (o .lines) numbered))
+      past-lines (missummed h) = absurd (h summed)
+      past-lines (present w r h) = omega arith
+      past-lines (absent w h) = omega arith
+      past-lines (annulled w r h e) = omega arith
+      past-lines (executed w r h n k e) = omega arith
+      past-lines (no-order p j l h) = omega arith
+      past-lines (line-zero p j l h) = omega arith
+      past-lines (line-past p j l r h k) = omega arith
+      past-lines (not-executed p j l r h n) = omega arith
+      past-lines (named-before p j l i k e) = omega arith
+      past-lines (other-amount p j l r h n) = omega arith
+      past-lines (full w l) = omega arith
+      past-lines (differs p r h e) = omega arith
+
+      late : step ≡ 0 → {t c : ℕ} → Applies slots year o rs t c → Late t c
+      late z (misnumbered h) = absurd (h (true-numbered (o .lines) numbered))
+      late z (missummed h) = absurd (h summed)
+      late z (present w r h) = absurd (omega (arith, step-present w r h))
+      late z (absent w h) = absurd (omega (arith, step-absent w h))
+      late z (annulled w r h e) = absurd (omega (arith, step-annulled w r h e))
+      late z (executed w r h n k e) = absurd (omega (arith, step-executed w r h n k e))
+      late z (no-order p j l h) = of-line p j l (code-none j h) (omega arith)
+      late z (line-zero p j l h) = of-line p j l (code-zero j h) (omega arith)
+      late z (line-past p j l r h k) = of-line p j l (code-past j r h k) (omega arith)
+      late z (not-executed p j l r h n) = of-line p j l (code-unexecuted j r h n) (omega arith)
+      late z (named-before p j l i k e) = of-line p j l (code-before j i k e) (omega arith)
+      late z (other-amount p j l r h n) = of-line p j l (code-unequal j r h n) (omega arith)
+      late z (full w l) = no-room w l refl
+      late z (differs p r h e) = not-meant p r h e refl
+
+    -- THE ORDER DECIDED: taken, and nothing applies; or refused by what applies first
+    pub record Stop : Type 0 where
+      pub turn : ℕ
+      pub with : ℕ
+      pub is : answer ≡ Refused with
+      pub applies : Applies slots year o rs turn with
+      pub first : {t c : ℕ} → Applies slots year o rs t c → turn ≤ t
+
+    pub data Decided : Type 0 where
+      taken : (c : Change) (i : ℕ) → answer ≡ Accepted c i → ((t x : ℕ) → Applies slots year o rs t x → ⊥) → Decided
+      stopped : Stop → Decided
+
+    other : {A : Type 0} {p q : Operation} → o .operation ≡ p → o .operation ≡ q → (p ≡ q → ⊥) → A
+    other a b n = absurd (n (sym a ∙ b))
+
+    -- the operations are four
+    differ : {A : Type 0} → clash → A
+    differ z = no z
+
+    module _ (numbered : numberedFrom 1 (o .lines) ≡ true) (summed : sumOf (o .lines) ≡ o .total) (z : step ≡ 0) where
+      -- the answer is what comes after the step table
+      placed-is : answer ≡ placed slots o rs change found
+      unfolding judgeOrder stepped lineCode
+      placed-is = rw (numbered, eq-eqb (sumOf (o .lines)) (o .total) summed, z)
+
+      -- a new order whose named lines all stand, or that names none
+      at-end : WithNew (o .operation) → (c : Change) → answer ≡ firstEmpty c slots rs → (o .operation ≡ Sostituzione → (i : ℕ) → i < length (o .lines) → code i ≡ 0) → Decided
+      at-end w c e names = go (ltb (length rs) slots) refl
+        where
+          no-name : {A : Type 0} → o .operation ≡ Sostituzione → (j : ℕ) → j < length (o .lines) → {x : ℕ} → To x (code j) → A
+          no-name p j l t = absurd (omega (arith, t .0, names p j l))
+
+          not-annul : {A : Type 0} → o .operation ≡ Annullo → A
+          not-annul q = absurd (go (o .operation) w q)
+            where
+              go : (p : Operation) → WithNew p → p ≡ Annullo → ⊥
+              go p inserimento q = let y : clash = cc in no y
+              go p sostituzione q = let y : clash = cc in no y
+
+          go : (b : Bool) → ltb (length rs) slots ≡ b → Decided
+          go true q = taken c (length rs) (e ∙ rw q) none
+            where
+              none : (t x : ℕ) → Applies slots year o rs t x → ⊥
+              none t x a = by (late numbered summed z a)
+                where
+                  by : {t x : ℕ} → Late t x → ⊥
+                  by (of-line p j l t h) = no-name p j l t
+                  by (no-room w l h) = omega (arith, ltb-true (length rs) slots q)
+                  by (not-meant p r h m u) = not-annul p
+          go false q = stopped (record { turn = lastTurn o; with = 15; is = e ∙ rw q; applies = full w (ltb-false (length rs) slots q); first = λ a. by (late numbered summed z a) })
+            where
+              by : {t x : ℕ} → Late t x → lastTurn o ≤ t
+              by (of-line p j l t h) = no-name p j l t
+              by (no-room w l h) = omega arith
+              by (not-meant p r h m u) = omega arith
+
+      inserts : o .operation ≡ Inserimento → Decided
+      unfolding placed
+      inserts p = at-end (subst WithNew (sym p) inserimento) Insert (placed-is ∙ ap (λ (x : Operation). placed slots o rs (changeOf x) found) p) (λ q. other p q (λ (y : Inserimento ≡ Sostituzione). let u : clash = cc in no u))
+
+      -- a replacement
+      replaces : o .operation ≡ Sostituzione → Decided
+      unfolding placed
+      replaces p = go (comes rs (o .kind) (o .lines)) (placed-is ∙ ap (λ (x : Operation). placed slots o rs (changeOf x) found) p)
+        where
+          go : {n : ℕ} → Comes rs (o .kind) (o .lines) n → answer ≡ unless Refused n (firstEmpty Replace slots rs) → Decided
+          go (stands h) e = at-end (subst WithNew (sym p) sostituzione) Replace e (λ q. h)
+          go (stops j n l q h) e = stopped (record { turn = nameTurn j + (suc n - 24); with = suc n; is = e; applies = named-applies p j l n q; first = λ a. by (late numbered summed z a) })
+            where
+              upper : suc n ≤ 26
+              upper = at-most (earlier (o .kind) (o .lines) j (at o j)) (tells rs (at o j)) q
+
+              by : {t x : ℕ} → Late t x → nameTurn j + (suc n - 24) ≤ t
+              by {v} {x} (of-line p i k t u) = split (ltb i j) (ltb j i) refl refl
+                where
+                  split : (a b : Bool) → ltb i j ≡ a → ltb j i ≡ b → nameTurn j + (suc n - 24) ≤ v
+                  split true b f g = absurd (omega (arith, t .0, h i (ltb-true i j f)))
+                  split false true f g = omega (arith, u, ltb-true j i g, upper)
+                  split false false f g = omega (arith, u, t .1, ltb-false i j f, ltb-false j i g)
+              by (no-room w k u) = omega (arith, upper)
+              by (not-meant q r h m u) = omega (arith, upper)
+
+      varies : o .operation ≡ Variazione → Decided
+      unfolding placed
+      varies p = go found refl (placed-is ∙ ap (λ (x : Operation). placed slots o rs (changeOf x) found) p)
+        where
+          none : {t x : ℕ} → Late t x → ⊥
+          none (of-line q j l t u) = other p q (λ (y : Variazione ≡ Sostituzione). let u : clash = cc in no u)
+          none (no-room w l u) = wrong (o .operation) w p
+            where
+              wrong : (x : Operation) → WithNew x → x ≡ Variazione → ⊥
+              wrong x inserimento q = let y : clash = cc in no y
+              wrong x sostituzione q = let y : clash = cc in no y
+          none (not-meant q r h m u) = other p q (λ (y : Variazione ≡ Annullo). let u : clash = cc in no u)
+
+          go : (f : Found) → found ≡ f → answer ≡ placed slots o rs Vary f → Decided
+          go Nothing f e = absurd (omega (arith, step-absent (subst OnRecord (sym p) variazione) (nothing-none rs key f)))
+          go (At i) f e = taken Vary i e (λ t x a. none (late numbered summed z a))
+
+      annuls : o .operation ≡ Annullo → Decided
+      unfolding placed
+      annuls p = go found refl (placed-is ∙ ap (λ (x : Operation). placed slots o rs (changeOf x) found) p)
+        where
+          not-new : {A : Type 0} → WithNew (o .operation) → A
+          not-new w = absurd (wrong (o .operation) w p)
+            where
+              wrong : (x : Operation) → WithNew x → x ≡ Annullo → ⊥
+              wrong x inserimento q = let y : clash = cc in no y
+              wrong x sostituzione q = let y : clash = cc in no y
+
+          not-replaced : {A : Type 0} → o .operation ≡ Sostituzione → A
+          not-replaced q = other p q (λ (y : Annullo ≡ Sostituzione). let u : clash = cc in no u)
+
+          go : (f : Found) → found ≡ f → answer ≡ placed slots o rs Annul f → Decided
+          go Nothing f e = absurd (omega (arith, step-absent (subst OnRecord (sym p) annullo) (nothing-none rs key f)))
+          go (At i) f e = same (sameOrder o (nth rs i)) refl
+            where
+              same : (b : Bool) → sameOrder o (nth rs i) ≡ b → Decided
+              same true q = taken Annul i (e ∙ rw q) (λ t x a. none (late numbered summed z a))
+                where
+                  none : {t x : ℕ} → Late t x → ⊥
+                  none (of-line q j l t u) = not-replaced q
+                  none (no-room w l u) = not-new w
+                  none (not-meant s r h m u) = same-differs o (nth rs i) q (subst (Differs o) (sym (has-found rs key i r d f h)) m)
+              same false q = stopped (record { turn = lastTurn o; with = 19; is = e ∙ rw q; applies = differs p (nth rs i) (found-has rs key i f) (other-differs o (nth rs i) q); first = λ a. by (late numbered summed z a) })
+                where
+                  by : {t x : ℕ} → Late t x → lastTurn o ≤ t
+                  by (of-line q j l t u) = not-replaced q
+                  by (no-room w l u) = omega arith
+                  by (not-meant s r h m u) = omega arith
+
+    -- the step table refuses
+    steps : (numbered : numberedFrom 1 (o .lines) ≡ true) → sumOf (o .lines) ≡ o .total → (n : ℕ) → step ≡ suc n → Decided
+    unfolding judgeOrder stepped lineCode situationOf situationIn
+    steps numbered summed n e =
+        stopped (record { turn = 3; with = suc n; is = rw (numbered, eq-eqb (sumOf (o .lines)) (o .total) summed, e); applies = go (o .operation) refl found refl e; first = past-lines numbered summed })
+      where
+        kept-as : {x : ℕ} → Applies slots year o rs 3 x → x ≡ suc n → Applies slots year o rs 3 (suc n)
+        kept-as a q = subst (Applies slots year o rs 3) q a
+
+        new : WithNew (o .operation) → (f : Found) → found ≡ f → row 0 14 14 14 (situationOf rs f) ≡ suc n → Applies slots year o rs 3 (suc n)
+        new w Nothing f q = absurd (omega arith)
+        new w (At i) f q = kept-as (present w (nth rs i) (found-has rs key i f)) (sym (there-14 i) ∙ q)
+
+        on : OnRecord (o .operation) → (f : Found) → found ≡ f → row 16 17 0 18 (situationOf rs f) ≡ suc n → Applies slots year o rs 3 (suc n)
+        on w Nothing f q = kept-as (absent w (nothing-none rs key f)) q
+        on w (At i) f q = by (eqb (nth rs i .state) 2) (anyExecuted (nth rs i .states)) refl refl q
+          where
+            by : (a b : Bool) → eqb (nth rs i .state) 2 ≡ a → anyExecuted (nth rs i .states) ≡ b → row 16 17 0 18 (cond a Annulled (cond b Executed Waiting)) ≡ suc n → Applies slots year o rs 3 (suc n)
+            by true b u v q = kept-as (annulled w (nth rs i) (found-has rs key i f) (eqb-true _ _ u)) q
+            by false true u v q =
+                let x = some-executed (nth rs i .states) v in
+                kept-as (executed w (nth rs i) (found-has rs key i f) (eqb-false _ _ u) (x .0) (was-is (getD (nth rs i .states) (x .0) 0) (x .1))) q
+            by false false u v q = absurd (omega arith)
+
+        go : (p : Operation) → o .operation ≡ p → (f : Found) → found ≡ f → stepCode (changeOf p) (situationOf rs f) ≡ suc n → Applies slots year o rs 3 (suc n)
+        go Inserimento p f q e = new (subst WithNew (sym p) inserimento) f q e
+        go Sostituzione p f q e = new (subst WithNew (sym p) sostituzione) f q e
+        go Variazione p f q e = on (subst OnRecord (sym p) variazione) f q e
+        go Annullo p f q e = on (subst OnRecord (sym p) annullo) f q e
+
+    pub decide : Decided
+    unfolding judgeOrder lineCode
+    decide = go (numberedFrom 1 (o .lines)) (eqb (sumOf (o .lines)) (o .total)) refl refl
+      where
+        go : (a b : Bool) → numberedFrom 1 (o .lines) ≡ a → eqb (sumOf (o .lines)) (o .total) ≡ b → Decided
+        go false b p q = stopped (record { turn = 1; with = 12; is = rw p; applies = misnumbered (λ n. false-true (sym p ∙ numbered-true (o .lines) n)); first = at-least })
+          where
+            at-least : {t c : ℕ} → Applies slots year o rs t c → 1 ≤ t
+            at-least (misnumbered h) = omega arith
+            at-least (missummed h) = omega arith
+            at-least (present w r h) = omega arith
+            at-least (absent w h) = omega arith
+            at-least (annulled w r h e) = omega arith
+            at-least (executed w r h n k e) = omega arith
+            at-least (no-order p j l h) = omega arith
+            at-least (line-zero p j l h) = omega arith
+            at-least (line-past p j l r h k) = omega arith
+            at-least (not-executed p j l r h n) = omega arith
+            at-least (named-before p j l i k e) = omega arith
+            at-least (other-amount p j l r h n) = omega arith
+            at-least (full w l) = omega arith
+            at-least (differs p r h e) = omega arith
+        go true false p q = stopped (record { turn = 2; with = 13; is = rw (p, q); applies = missummed (eqb-false _ _ q); first = at-least })
+          where
+            at-least : {t c : ℕ} → Applies slots year o rs t c → 2 ≤ t
+            at-least (misnumbered h) = absurd (h (true-numbered (o .lines) p))
+            at-least (missummed h) = omega arith
+            at-least (present w r h) = omega arith
+            at-least (absent w h) = omega arith
+            at-least (annulled w r h e) = omega arith
+            at-least (executed w r h n k e) = omega arith
+            at-least (no-order p j l h) = omega arith
+            at-least (line-zero p j l h) = omega arith
+            at-least (line-past p j l r h k) = omega arith
+            at-least (not-executed p j l r h n) = omega arith
+            at-least (named-before p j l i k e) = omega arith
+            at-least (other-amount p j l r h n) = omega arith
+            at-least (full w l) = omega arith
+            at-least (differs p r h e) = omega arith
+        go true true p q = stepping step refl
+          where
+            stepping : (n : ℕ) → step ≡ n → Decided
+            stepping (suc n) e = steps p (eqb-true _ _ q) n e
+            stepping zero e = by (o .operation) refl
+              where
+                by : (x : Operation) → o .operation ≡ x → Decided
+                by Inserimento u = inserts p (eqb-true _ _ q) e u
+                by Variazione u = varies p (eqb-true _ _ q) e u
+                by Annullo u = annuls p (eqb-true _ _ q) e u
+                by Sostituzione u = replaces p (eqb-true _ _ q) e u
+
+    -- ONE REFUSAL AT MOST of each turn
+    abbrev lastCode : Change → ℕ
+    lastCode Insert = 15
+    lastCode Vary = 0
+    lastCode Annul = 19
+    lastCode Replace = 15
+
+    abbrev codeAt : ℕ → ℕ
+    codeAt t = cond (eqb t 1) 12 (cond (eqb t 2) 13 (cond (eqb t 3) step (cond (eqb t (lastTurn o)) (lastCode change) (24 + third (t - 4)))))
+
+    new-last : WithNew (o .operation) → 15 ≡ lastCode change
+    new-last w = go (o .operation) w
+      where
+        go : (p : Operation) → WithNew p → 15 ≡ lastCode (changeOf p)
+        go p inserimento = refl
+        go p sostituzione = refl
+
+    named-turn : (j k : ℕ) → j < length (o .lines) → k < 3 → 24 + k ≡ codeAt (nameTurn j + k)
+    named-turn j k l h =
+        let a : nameTurn j + k ≡ 1 → ⊥ = λ q. omega arith in
+        let b : nameTurn j + k ≡ 2 → ⊥ = λ q. omega arith in
+        let c : nameTurn j + k ≡ 3 → ⊥ = λ q. omega arith in
+        let e : nameTurn j + k ≡ lastTurn o → ⊥ = λ q. omega arith in
+        let f : nameTurn j + k - 4 ≡ 3 * j + k = omega arith in
+        sym (rw (ne-eqb _ _ a, ne-eqb _ _ b, ne-eqb _ _ c, ne-eqb _ _ e) (ap (λ (n : ℕ). 24 + n) (ap third f ∙ thirds j k h)))
+
+    last-turn : lastCode change ≡ codeAt (lastTurn o)
+    last-turn =
+        let a : lastTurn o ≡ 1 → ⊥ = λ q. omega arith in
+        let b : lastTurn o ≡ 2 → ⊥ = λ q. omega arith in
+        let c : lastTurn o ≡ 3 → ⊥ = λ q. omega arith in
+        sym (rw (ne-eqb _ _ a, ne-eqb _ _ b, ne-eqb _ _ c, eq-eqb (lastTurn o) (lastTurn o) refl))
+
+    -- a name's turn, as it is listed
+    turned : {t c : ℕ} (j k : ℕ) → j < length (o .lines) → k < 3 → t ≡ nameTurn j + k → c ≡ 24 + k → c ≡ codeAt t
+    turned j k l h p q = q ∙ named-turn j k l h ∙ ap codeAt (sym p)
+
+    turn-code : {t c : ℕ} → Applies slots year o rs t c → c ≡ codeAt t
     turn-code (misnumbered h) = refl
     turn-code (missummed h) = refl
-    turn-code (present q r h) = let x = has-at rs key r d h in sym (step-code (ap asksOf q) (x .found) ∙ there-code (x .at))
-    turn-code (full q l) = sym (ap lastFor (ap asksOf q))
-    turn-code (absent w h) = record-code w (none-nothing rs key h) refl
-    turn-code (annulled w r h e) = let x = has-at rs key r d h in record-code w (x .found) (in-annulled (nth rs (x .at)) (ap (λ (y : Record). y .state) (x .same) ∙ e))
-    turn-code (executed w r h n k e) =
-        let x = has-at rs key r d h in
-        record-code w (x .found)
-        (ap situationIn (x .same) ∙ in-executed r n (is-executed (r .states) k e))
-    turn-code (differs q r h e) = sym (ap lastFor (ap asksOf q))
+    turn-code (present w r h) = sym (step-present w r h)
+    turn-code (absent w h) = sym (step-absent w h)
+    turn-code (annulled w r h e) = sym (step-annulled w r h e)
+    turn-code (executed w r h n k e) = sym (step-executed w r h n k e)
+    turn-code (no-order p j l h) = turned {t = nameTurn j} j 0 l (omega arith) (omega arith) refl
+    turn-code (line-zero p j l h) = turned {t = nameTurn j} j 0 l (omega arith) (omega arith) refl
+    turn-code (line-past p j l r h k) = turned {t = nameTurn j} j 0 l (omega arith) (omega arith) refl
+    turn-code (not-executed p j l r h n) = turned {t = nameTurn j + 1} j 1 l (omega arith) refl refl
+    turn-code (named-before p j l i k e) = turned {t = nameTurn j + 1} j 1 l (omega arith) refl refl
+    turn-code (other-amount p j l r h n) = turned {t = nameTurn j + 2} j 2 l (omega arith) refl refl
+    turn-code (full w l) = new-last w ∙ last-turn
+    turn-code (differs p r h e) = sym (ap (λ (x : Operation). lastCode (changeOf x)) p) ∙ last-turn
 
-    pub one-in-turn : {a b : ℕ} → Applies slots year o rs a → Applies slots year o rs b → turn a ≡ turn b → a ≡ b
-    one-in-turn x y e = turn-code x ∙ ap codeAt e ∙ sym (turn-code y)
+    pub one-in-turn : {t a b : ℕ} → Applies slots year o rs t a → Applies slots year o rs t b → a ≡ b
+    one-in-turn x y = turn-code x ∙ sym (turn-code y)
 
 -- A NOTICE
 module _ (executing : Bool) (k : Key) (line : ℕ) (rs : List Record) where
@@ -471,13 +808,19 @@ module _ (executing : Bool) (k : Key) (line : ℕ) (rs : List Record) where
 
     moves-apply : (r : Record) → Has rs k r → (i cents : ℕ) → unless Unmoved (lineMoves executing (getD (r .states) (line - 1) 0)) (Moved i cents) ≡ Unmoved code → NoticeApplies executing k line rs code
     unfolding lineMoves
-    moves-apply r h i cents e = go executing (eqb (getD (r .states) (line - 1) 0) 2) refl refl e
+    moves-apply r h i cents e = go executing refl e
       where
-        go : (x b : Bool) → executing ≡ x → eqb (getD (r .states) (line - 1) 0) 2 ≡ b → unless Unmoved (lineMoves x (getD (r .states) (line - 1) 0)) (Moved i cents) ≡ Unmoved code → NoticeApplies executing k line rs code
-        go true true p q e = give-notice (already p r h (eqb-true _ _ q)) (sym (ap (λ (b : Bool). unless Unmoved (cond b 21 0) (Moved i cents)) q) ∙ e)
-        go true false p q e = let z : Moved i cents ≡ Unmoved code = sym (ap (λ (b : Bool). unless Unmoved (cond b 21 0) (Moved i cents)) q) ∙ e in let y : clash = cc in no y
-        go false true p q e = let z : Moved i cents ≡ Unmoved code = sym (ap (λ (b : Bool). unless Unmoved (cond b 0 22) (Moved i cents)) q) ∙ e in let y : clash = cc in no y
-        go false false p q e = give-notice (notYet p r h (eqb-false _ _ q)) (sym (ap (λ (b : Bool). unless Unmoved (cond b 0 22) (Moved i cents)) q) ∙ e)
+        executes : executing ≡ true → (b : Bool) → wasExecuted (getD (r .states) (line - 1) 0) ≡ b → unless Unmoved (cond b 21 0) (Moved i cents) ≡ Unmoved code → NoticeApplies executing k line rs code
+        executes p true q e = give-notice (already p r h (was-is (getD (r .states) (line - 1) 0) q)) e
+        executes p false q e = let z : Moved i cents ≡ Unmoved code = e in let y : clash = cc in no y
+
+        reverses : executing ≡ false → (b : Bool) → eqb (getD (r .states) (line - 1) 0) 2 ≡ b → unless Unmoved (cond b 0 22) (Moved i cents) ≡ Unmoved code → NoticeApplies executing k line rs code
+        reverses p true q e = let z : Moved i cents ≡ Unmoved code = e in let y : clash = cc in no y
+        reverses p false q e = give-notice (notYet p r h (eqb-false (getD (r .states) (line - 1) 0) 2 q)) e
+
+        go : (x : Bool) → executing ≡ x → unless Unmoved (lineMoves x (getD (r .states) (line - 1) 0)) (Moved i cents) ≡ Unmoved code → NoticeApplies executing k line rs code
+        go true p e = executes p (wasExecuted (getD (r .states) (line - 1) 0)) refl e
+        go false p e = reverses p (eqb (getD (r .states) (line - 1) 0) 2) refl e
 
     notice-apply : (r : Record) → Has rs k r → (i : ℕ) → noticeIn executing line i r ≡ Unmoved code → NoticeApplies executing k line rs code
     unfolding noticeIn
@@ -557,11 +900,11 @@ module _ (executing : Bool) (k : Key) (line : ℕ) (rs : List Record) where
     notice-by (already p r h e) =
         let x = has-at rs k r d h in
         found-by (x .found)
-        (moves-by (x .at) 20 (ap (λ (b : Bool). lineMoves b (state (x .at))) p ∙ moves-executed _ (ap (λ (y : Record). getD (y .states) (line - 1) 0) (x .same) ∙ e) .0) (omega arith))
+        (moves-by (x .at) 20 (ap (λ (b : Bool). lineMoves b (state (x .at))) p ∙ execution-stops (state (x .at)) refl (ap (λ (y : Record). wasExecuted (getD (y .states) (line - 1) 0)) (x .same) ∙ is-was _ e)) (omega arith))
     notice-by (notYet p r h n) =
         let x = has-at rs k r d h in
         found-by (x .found)
-        (moves-by (x .at) 21 (ap (λ (b : Bool). lineMoves b (state (x .at))) p ∙ moves-waiting _ (λ z. n (sym (ap (λ (y : Record). getD (y .states) (line - 1) 0) (x .same)) ∙ z)) .1) (omega arith))
+        (moves-by (x .at) 21 (ap (λ (b : Bool). lineMoves b (state (x .at))) p ∙ reversal-stops _ (λ z. n (sym (ap (λ (y : Record). getD (y .states) (line - 1) 0) (x .same)) ∙ z))) (omega arith))
 
     pub moved-none : {i cents c : ℕ} → judgeNotice executing k line rs ≡ Moved i cents → NoticeApplies executing k line rs c → ⊥
     moved-none e a = let b = notice-by a in let z : clash = cc (b .is) in no z

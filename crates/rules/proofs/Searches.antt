@@ -8,17 +8,15 @@ use Rattle.ranges.specs.declared.Found.{Found}
 use Rattle.ranges.specs.declared.Found.the-variants.{At, Nothing}
 use Rattle.order.specs.Ordinativo.{Ordinativo}
 use Rattle.record.specs.declared.Record.{Record}
-use Rattle.slots.specs.Slots.{findIn}
+use Rattle.slots.specs.Slots.{noRecord, findIn}
 use Rattle.slots.proofs.Search.{found-below}
 use Rattle.lines.specs.Lines.{lineCode}
-use Rattle.rules.specs.declared.Asks.{Asks}
-use Rattle.rules.specs.declared.Asks.the-variants.{For, Unserved}
-use Rattle.rules.specs.Rules.{asksOf, keyFor, noRecord, unless}
-use Rattle.rules.specs.Searches.{lookedAt, stepsAsked, stepsOf}
+use Rattle.rules.specs.Rules.{keyFor, unless}
+use Rattle.rules.specs.Searches.{lookedAt, stepsOf}
 
 pub steps-most : (year : ℕ) (o : Ordinativo) (rs : List Record) → stepsOf year o rs ≤ length rs
 unfolding stepsOf
-steps-most year o rs = asked (asksOf (o .operation))
+steps-most year o rs = lined (lineCode (o .lines) (o .total))
   where
     looked : (f : Found) → findIn rs 0 (keyFor year o) ≡ f → lookedAt rs f ≤ length rs
     looked (At i) e = omega (arith, found-below rs (keyFor year o) i noRecord e)
@@ -27,7 +25,3 @@ steps-most year o rs = asked (asksOf (o .operation))
     lined : (code : ℕ) → unless (λ c. 0) code (lookedAt rs (findIn rs 0 (keyFor year o))) ≤ length rs
     lined zero = looked (findIn rs 0 (keyFor year o)) refl
     lined (suc code) = omega arith
-
-    asked : (a : Asks) → stepsAsked year o rs a ≤ length rs
-    asked (For c) = lined (lineCode (o .lines) (o .total))
-    asked (Unserved code) = omega arith

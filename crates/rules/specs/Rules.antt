@@ -13,32 +13,36 @@ use Rattle.order.specs.declared.Line.{Line}
 use Rattle.order.specs.Ordinativo.{Ordinativo}
 use Rattle.record.specs.declared.Record.{Record}
 use Rattle.record.specs.declared.Key.{Key}
-use Rattle.record.specs.Slot.{acquiredState, annulledState, waitingLine, executedLine, recordAt, keyOf}
-use Rattle.slots.specs.Slots.{findIn}
+use Rattle.record.specs.Slot.{acquiredState, annulledState, waitingLine, executedLine, replacedLine, keyOf, recordWith}
+use Rattle.slots.specs.Slots.{nth, findIn}
 use Rattle.lines.specs.Lines.{lineCode}
+use Rattle.replacing.specs.Replacing.{namings, replaceCode}
 use Rattle.rules.specs.declared.Situation.{Situation}
 use Rattle.rules.specs.declared.Situation.the-variants.{Absent, Annulled, Waiting, Executed}
 use Rattle.rules.specs.declared.Change.{Change}
-use Rattle.rules.specs.declared.Change.the-variants.{Insert, Vary, Annul}
-use Rattle.rules.specs.declared.Asks.{Asks}
-use Rattle.rules.specs.declared.Asks.the-variants.{For, Unserved}
+use Rattle.rules.specs.declared.Change.the-variants.{Insert, Vary, Annul, Replace}
 use Rattle.rules.specs.declared.Ruling.{Ruling}
 use Rattle.rules.specs.declared.Ruling.the-variants.{Accepted, Refused}
 use Rattle.rules.specs.declared.Noticed.{Noticed}
 use Rattle.rules.specs.declared.Noticed.the-variants.{Moved, Unmoved}
 
--- THE OPERATIONS: which change an order asks for. "11 SOSTITUZIONE"
-abbrev pub asksOf : Operation → Asks
-asksOf Inserimento = For Insert
-asksOf Variazione = For Vary
-asksOf Annullo = For Annul
-asksOf Sostituzione = Unserved 11
+-- THE OPERATIONS: which change an order asks for
+abbrev pub changeOf : Operation → Change
+changeOf Inserimento = Insert
+changeOf Variazione = Vary
+changeOf Annullo = Annul
+changeOf Sostituzione = Replace
 
 -- THE STEP TABLE
 
+-- a line that was executed, and may have been replaced since. Document 02, Req 07: "A replaced line .. blocks VARIAZIONE and ANNULLO with 18; executing it
+-- gets 21"
+abbrev pub wasExecuted : ℕ → Bool
+wasExecuted state = eqb state executedLine || eqb state replacedLine
+
 unfoldable pub anyExecuted : List ℕ → Bool
 anyExecuted [] = false
-anyExecuted (s ∷ states) = eqb s executedLine || anyExecuted states
+anyExecuted (s ∷ states) = wasExecuted s || anyExecuted states
 
 -- the situation of an order that is there
 unfoldable pub situationIn : Record → Situation
@@ -51,25 +55,18 @@ row absent annulled waiting executed Annulled = annulled
 row absent annulled waiting executed Waiting = waiting
 row absent annulled waiting executed Executed = executed
 
--- "The step table is held as three rows of four codes"
+-- "The step table is held as three rows of four codes". SOSTITUZIONE "carries a new order; .. 12, 13 and 14 apply" (document 02, Req 07): INSERIMENTO's row
 abbrev pub stepCode : Change → Situation → ℕ
 stepCode Insert s = row 0 14 14 14 s
 stepCode Vary s = row 16 17 0 18 s
 stepCode Annul s = row 16 17 0 18 s
+stepCode Replace s = row 0 14 14 14 s
 
 -- WHAT AN ORDER COMES TO
 
 -- "by the body's record of the order's kind and number and the flow's esercizio"
 abbrev pub keyFor : ℕ → Ordinativo → Key
 keyFor year o = record { kind = o .kind; esercizio = year; number = o .number }
-
--- no record, an empty slot's: nothing ever looks past the last one
-abbrev pub noRecord : Record
-noRecord = recordAt [] 0
-
--- the record at an index of a body's records
-abbrev pub nth : List Record → ℕ → Record
-nth rs i = getD rs i noRecord
 
 unfoldable pub situationOf : List Record → Found → Situation
 situationOf rs Nothing = Absent
@@ -94,23 +91,25 @@ unfoldable pub sameOrder : Ordinativo → Record → Bool
 sameOrder o r = eqb (o .total) (r .total) && (eqb (length (o .lines)) (r .lines) && sameList (eightPlaces (amountsOf (o .lines))) (r .amounts))
 
 -- after a step of 0: the slot that the order's record takes. "15 (INSERIMENTO: the body has no empty slot)"
-abbrev pub firstEmpty : ℕ → List Record → Ruling
-firstEmpty slots rs = cond (ltb (length rs) slots) (Accepted Insert (length rs)) (Refused 15)
+abbrev pub firstEmpty : Change → ℕ → List Record → Ruling
+firstEmpty c slots rs = cond (ltb (length rs) slots) (Accepted c (length rs)) (Refused 15)
 
 abbrev pub ifSame : Ordinativo → List Record → ℕ → Ruling
 ifSame o rs i = cond (sameOrder o (nth rs i)) (Accepted Annul i) (Refused 19)
-
-unfoldable pub placed : ℕ → Ordinativo → List Record → Change → Found → Ruling
-placed slots o rs Insert f = firstEmpty slots rs
-placed slots o rs Vary (At i) = Accepted Vary i
-placed slots o rs Vary Nothing = Refused 16
-placed slots o rs Annul (At i) = ifSame o rs i
-placed slots o rs Annul Nothing = Refused 16
 
 -- refused with a code, or what comes after where it is 0
 abbrev pub unless : {A : Type 0} → (ℕ → A) → ℕ → A → A
 unless refuse zero next = next
 unless refuse (suc c) next = refuse (suc c)
+
+-- document 02, Req 07: "then 24 named line absent, 25 .., 26 .., line by line, then 15"
+unfoldable pub placed : ℕ → Ordinativo → List Record → Change → Found → Ruling
+placed slots o rs Insert f = firstEmpty Insert slots rs
+placed slots o rs Replace f = unless Refused (replaceCode rs (namings o)) (firstEmpty Replace slots rs)
+placed slots o rs Vary (At i) = Accepted Vary i
+placed slots o rs Vary Nothing = Refused 16
+placed slots o rs Annul (At i) = ifSame o rs i
+placed slots o rs Annul Nothing = Refused 16
 
 unfoldable pub stepped : ℕ → Ordinativo → List Record → Change → Found → Ruling
 stepped slots o rs c f = unless Refused (stepCode c (situationOf rs f)) (placed slots o rs c f)
@@ -119,12 +118,8 @@ stepped slots o rs c f = unless Refused (stepCode c (situationOf rs f)) (placed 
 abbrev pub judgeChange : ℕ → ℕ → Ordinativo → List Record → Change → Ruling
 judgeChange slots year o rs c = unless Refused (lineCode (o .lines) (o .total)) (stepped slots o rs c (findIn rs 0 (keyFor year o)))
 
-abbrev pub judgeAsked : ℕ → ℕ → Ordinativo → List Record → Asks → Ruling
-judgeAsked slots year o rs (For c) = judgeChange slots year o rs c
-judgeAsked slots year o rs (Unserved code) = Refused code
-
 unfoldable pub judgeOrder : ℕ → ℕ → Ordinativo → List Record → Ruling
-judgeOrder slots year o rs = judgeAsked slots year o rs (asksOf (o .operation))
+judgeOrder slots year o rs = judgeChange slots year o rs (changeOf (o .operation))
 
 -- document 01's code
 abbrev pub orderCode : Ruling → ℕ
@@ -133,37 +128,25 @@ orderCode (Refused code) = code
 
 -- WHAT IS WRITTEN
 
--- a record of this key and state: so many lines, date, total, line states and amounts
-abbrev pub recordWith : Key → ℕ → ℕ → Date → ℕ → List ℕ → List ℕ → Record
-recordWith k state lines date total states amounts = record {
-  kind = k .kind;
-  state = state;
-  lines = lines;
-  esercizio = k .esercizio;
-  number = k .number;
-  date = date;
-  total = total;
-  states = states;
-  amounts = amounts;
-}
-
--- with the order's date, total and lines, all of them waiting
-abbrev pub recordOf : Key → ℕ → Ordinativo → Record
-recordOf k state o =
-    recordWith k state (length (o .lines)) (o .date) (o .total) (eightPlaces (replicate (length (o .lines)) waitingLine)) (eightPlaces (amountsOf (o .lines)))
+-- a record of this key and state with the order's date, total and lines, all of them in one line state
+abbrev pub recordOf : Key → ℕ → ℕ → Ordinativo → Record
+recordOf k state lineState o =
+    recordWith k state (length (o .lines)) (o .date) (o .total) (eightPlaces (replicate (length (o .lines)) lineState)) (eightPlaces (amountsOf (o .lines)))
 
 -- the record that an accepted change leaves in its slot, which held r: "INSERIMENTO fills the body's first empty slot with all lines waiting;
--- VARIAZIONE replaces date, total and lines; ANNULLO sets the state only"
+-- VARIAZIONE replaces date, total and lines; ANNULLO sets the state only". Document 02, Req 07: "the new line is executed at once"
 unfoldable pub written : ℕ → Ordinativo → Record → Change → Record
-written year o r Insert = recordOf (keyFor year o) acquiredState o
-written year o r Vary = recordOf (keyOf r) (r .state) o
+written year o r Insert = recordOf (keyFor year o) acquiredState waitingLine o
+written year o r Replace = recordOf (keyFor year o) acquiredState executedLine o
+written year o r Vary = recordOf (keyOf r) (r .state) waitingLine o
 written year o r Annul = recordWith (keyOf r) annulledState (r .lines) (r .date) (r .total) (r .states) (r .amounts)
 
 -- A NOTICE: "Execution sets the line executed; reversal sets it waiting again"
 
--- 0 where a line of this state moves, else "for execution 21 (already executed), for reversal 22 (not executed)"
+-- 0 where a line of this state moves, else "for execution 21 (already executed), for reversal 22 (not executed)"; a replaced line: "executing it gets 21,
+-- reversing it 22"
 unfoldable pub lineMoves : Bool → ℕ → ℕ
-lineMoves true state = cond (eqb state executedLine) 21 0
+lineMoves true state = cond (wasExecuted state) 21 0
 lineMoves false state = cond (eqb state executedLine) 0 22
 
 abbrev pub movedTo : Bool → ℕ

@@ -8,24 +8,13 @@ use Rattle.order.specs.Ordinativo.{Ordinativo}
 use Rattle.record.specs.declared.Record.{Record}
 use Rattle.slots.specs.Slots.{findIn}
 use Rattle.lines.specs.Lines.{lineCode}
-use Rattle.rules.specs.declared.Asks.{Asks}
-use Rattle.rules.specs.declared.Asks.the-variants.{For, Unserved}
-use Rattle.rules.specs.Rules.{asksOf, keyFor, unless}
+use Rattle.rules.specs.Rules.{keyFor, unless}
 
 -- "Each order's search counts the slots it looked at: up to and including the one found, or all the body's used slots when there is none"
 abbrev pub lookedAt : List Record → Found → ℕ
 lookedAt rs (At i) = suc i
 lookedAt rs Nothing = length rs
 
--- "Orders answered 12 or 13 .. count 0"
-abbrev pub stepsSearched : ℕ → Ordinativo → List Record → ℕ
-stepsSearched year o rs = unless (λ code. 0) (lineCode (o .lines) (o .total)) (lookedAt rs (findIn rs 0 (keyFor year o)))
-
--- an order that is not served (11) is not looked for
-abbrev pub stepsAsked : ℕ → Ordinativo → List Record → Asks → ℕ
-stepsAsked year o rs (For c) = stepsSearched year o rs
-stepsAsked year o rs (Unserved code) = 0
-
--- what an order's search counts
+-- what an order's search counts: "Orders answered 12 or 13 .. count 0; a replacement counts only the search for its own key"
 unfoldable pub stepsOf : ℕ → Ordinativo → List Record → ℕ
-stepsOf year o rs = stepsAsked year o rs (asksOf (o .operation))
+stepsOf year o rs = unless (λ code. 0) (lineCode (o .lines) (o .total)) (lookedAt rs (findIn rs 0 (keyFor year o)))

@@ -1,5 +1,4 @@
 // The rules for one order or one notice, over values: the step table, what is written. Nothing here touches a table.
-use codes::Operation;
 use order::Lines;
 use order::Order;
 use record::Record;
@@ -9,9 +8,9 @@ ghost use Prim.Native.Nat.{_≤_};
 ghost use lib.ListN.{replicate};
 ghost use lib.Dec.{ltb};
 ghost use Rattle.order.specs.Ordinativo.{linesThere, ordinativo};
-ghost use Rattle.record.specs.Slot.{acquiredState, annulledState, waitingLine, keyOf};
-ghost use Rattle.rules.specs.Rules.{asksOf, anyExecuted, situationIn, stepCode, eightPlaces, amountsOf, sameList, sameOrder, keyFor, recordWith, recordOf, written, lineMoves, noticeIn};
-ghost use Rattle.rules.specs.Inner.{rowOf, columnOf, meantCode, recordCode, absentCode};
+ghost use Rattle.record.specs.Slot.{acquiredState, annulledState, waitingLine, keyOf, recordWith};
+ghost use Rattle.rules.specs.Rules.{wasExecuted, anyExecuted, situationIn, stepCode, eightPlaces, amountsOf, sameList, sameOrder, keyFor, recordOf, written, lineMoves, noticeIn};
+ghost use Rattle.rules.specs.Inner.{rowOf, columnOf, meantCode, recordCode, absentCode, newState};
 
 // Where the step table's columns stand.
 pub enum Situation {
@@ -21,17 +20,12 @@ pub enum Situation {
     Executed,
 }
 
-// What an order may change: the step table's rows.
+// What an order may change.
 pub enum Change {
     Insert,
     Vary,
     Annul,
-}
-
-// What an operation asks for: a change, or the code of one that is not served.
-pub enum Asks {
-    For(Change),
-    Unserved(u8),
+    Replace,
 }
 
 // What an order comes to: the change, and the slot that its record takes, or a code.
@@ -48,17 +42,6 @@ pub enum Noticed {
 
 // Document 01's step table, by operation and situation.
 const STEPS: [[u8; 4]; 3] = [[0, 14, 14, 14], [16, 17, 0, 18], [16, 17, 0, 18]];
-
-pub fn asks_of(o: Operation) -> Asks
-    ensures { λ r. ⌜ r ≡ asksOf o ⌝ }
-{
-    match o {
-        Operation::Inserimento => Asks::For(Change::Insert),
-        Operation::Variazione => Asks::For(Change::Vary),
-        Operation::Annullo => Asks::For(Change::Annul),
-        Operation::Sostituzione => Asks::Unserved(11),
-    }
-}
 
 // The amount at place k of n lines: nothing past them.
 fn amount_for(n: usize, k: usize, amount: u64) -> u64
@@ -85,26 +68,35 @@ fn amounts_of(ls: Lines) -> [u64; 8]
     ]
 }
 
-// The state at place k of n lines: waiting, or no line.
-fn waiting_for(n: usize, k: usize) -> u8
-    ensures { λ r. ⌜ r ≡ cond (ltb k n) waitingLine 0 ⌝ }
+// The state at place k of n lines that all have one: that, or no line.
+fn state_for(n: usize, k: usize, state: u8) -> u8
+    ensures { λ r. ⌜ r ≡ cond (ltb k n) state 0 ⌝ }
 {
-    if k < n { record::WAITING } else { 0 }
+    if k < n { state } else { 0 }
 }
 
-fn waiting_lines(n: usize) -> [u8; 8]
-    ensures { λ r. ⌜ r ≡ eightPlaces (replicate n waitingLine) ⌝ }
+fn all_lines(n: usize, state: u8) -> [u8; 8]
+    ensures { λ r. ⌜ r ≡ eightPlaces (replicate n state) ⌝ }
 {
     [
-        waiting_for(n, 0),
-        waiting_for(n, 1),
-        waiting_for(n, 2),
-        waiting_for(n, 3),
-        waiting_for(n, 4),
-        waiting_for(n, 5),
-        waiting_for(n, 6),
-        waiting_for(n, 7),
+        state_for(n, 0, state),
+        state_for(n, 1, state),
+        state_for(n, 2, state),
+        state_for(n, 3, state),
+        state_for(n, 4, state),
+        state_for(n, 5, state),
+        state_for(n, 6, state),
+        state_for(n, 7, state),
     ]
+}
+
+fn was_executed(state: u8) -> bool
+    ensures { λ r. ⌜ r ≡ wasExecuted state ⌝ }
+{
+    if state == record::EXECUTED {
+        return true;
+    }
+    state == record::REPLACED
 }
 
 fn any_executed(states: &[u8]) -> bool
@@ -112,7 +104,7 @@ fn any_executed(states: &[u8]) -> bool
 {
     let mut i = 0;
     while i < states.len() {
-        if states[i] == record::EXECUTED {
+        if was_executed(states[i]) {
             return true;
         }
         i += 1;
@@ -153,6 +145,7 @@ fn row_of(c: Change) -> usize
         Change::Insert => 0,
         Change::Vary => 1,
         Change::Annul => 2,
+        Change::Replace => 0,
     }
 }
 
@@ -197,14 +190,26 @@ pub fn same_order(o: Order, r: Record) -> bool
     same_list(&a, &b)
 }
 
+// The lines' state of a new record: a replacement's are executed at once.
+fn new_state(c: Change) -> u8
+    ensures { λ r. ⌜ r ≡ newState c ⌝ }
+{
+    match c {
+        Change::Insert => record::WAITING,
+        Change::Vary => record::WAITING,
+        Change::Annul => record::WAITING,
+        Change::Replace => record::EXECUTED,
+    }
+}
+
 // The record of an order that fills an empty slot.
-pub fn inserted_by(year: u64, o: Order) -> Record
-    ensures { λ w. ⌜ w ≡ recordOf (keyFor year (ordinativo o)) acquiredState (ordinativo o) ⌝ }
+pub fn new_record(year: u64, o: Order, c: Change) -> Record
+    ensures { λ w. ⌜ w ≡ recordOf (keyFor year (ordinativo o)) acquiredState (newState c) (ordinativo o) ⌝ }
 {
     let ls = o.lines;
     let date = o.date;
     let n = order::count_of(ls);
-    let states = waiting_lines(n);
+    let states = all_lines(n, new_state(c));
     let amounts = amounts_of(ls);
     Record {
         kind: o.kind,
@@ -227,6 +232,7 @@ fn meant_code(c: Change, o: Order, r: Record) -> u8
         Change::Insert => 0,
         Change::Vary => 0,
         Change::Annul => { if same_order(o, r) { 0 } else { 19 } }
+        Change::Replace => 0,
     }
 }
 
@@ -241,25 +247,28 @@ pub fn record_code(c: Change, o: Order, r: Record) -> u8
     meant_code(c, o, r)
 }
 
-// An order's code where none of a body's n records is its own.
-pub fn absent_code(c: Change, n: usize, slots: usize) -> u8
-    ensures { λ b. ⌜ b ≡ absentCode c n slots ⌝ }
+// An order's code where none of a body's n records is its own and the lines that it names come to `named`.
+pub fn absent_code(c: Change, named: u8, n: usize, slots: usize) -> u8
+    ensures { λ b. ⌜ b ≡ absentCode c named n slots ⌝ }
 {
     let code = step_of(c, Situation::Absent);
     if code != 0 {
         return code;
+    }
+    if named != 0 {
+        return named;
     }
     if n < slots { 0 } else { 15 }
 }
 
 // Date, total and lines are replaced: nothing is left of the lines it had.
 fn varied_by(o: Order, r: Record) -> Record
-    ensures { λ w. ⌜ w ≡ recordOf (keyOf r) (r .state) (ordinativo o) ⌝ }
+    ensures { λ w. ⌜ w ≡ recordOf (keyOf r) (r .state) waitingLine (ordinativo o) ⌝ }
 {
     let ls = o.lines;
     let date = o.date;
     let n = order::count_of(ls);
-    let states = waiting_lines(n);
+    let states = all_lines(n, record::WAITING);
     let amounts = amounts_of(ls);
     let mut w = r;
     w.date = date;
@@ -284,9 +293,10 @@ pub fn written_by(year: u64, o: Order, r: Record, c: Change) -> Record
     ensures { λ w. ⌜ w ≡ written year (ordinativo o) r c ⌝ }
 {
     match c {
-        Change::Insert => inserted_by(year, o),
+        Change::Insert => new_record(year, o, c),
         Change::Vary => varied_by(o, r),
         Change::Annul => annulled_of(r),
+        Change::Replace => new_record(year, o, c),
     }
 }
 
@@ -294,7 +304,7 @@ fn line_moves(executing: bool, state: u8) -> u8
     ensures { λ r. ⌜ r ≡ lineMoves executing state ⌝ }
 {
     if executing {
-        if state == record::EXECUTED { 21 } else { 0 }
+        if was_executed(state) { 21 } else { 0 }
     } else {
         if state == record::EXECUTED { 0 } else { 22 }
     }

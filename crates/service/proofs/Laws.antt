@@ -16,48 +16,33 @@ use Rattle.record.specs.declared.Key.{Key}
 use Rattle.record.specs.Slot.{slotSize, acquiredState, recordAt, recordBytes}
 use Rattle.slots.specs.declared.Sought.{Sought}
 use Rattle.slots.specs.declared.Sought.the-variants as sought
-use Rattle.slots.specs.Slots.{usedAt, recordsAt, findIn}
+use Rattle.slots.specs.Slots.{recordsAt, findIn, nth, noRecord}
 use Rattle.slots.specs.Inner.{seekIn}
 use Rattle.body.specs.Body.{bodyOk}
 use Rattle.slots.proofs.Laws.{used-le}
 use Rattle.slots.proofs.Search.{found-below, seek-at, seek-absent}
-use Rattle.slots.proofs.Index.{length-records, get-record}
+use Rattle.slots.proofs.Index.{length-records}
+use Rattle.slots.proofs.Held.{Held, held, search-held}
 use Rattle.body.proofs.Slots.{valid-at}
 use Rattle.valid.proofs.Valid.{ok-bounds}
+use Rattle.replacing.specs.Replacing.{namings, firstCode, replaceCode}
+use Rattle.replacing.proofs.Kept.{lines-long}
+use Rattle.rules.specs.declared.Situation.{Situation}
+use Rattle.rules.specs.declared.Situation.the-variants.{Absent, Annulled, Waiting, Executed}
 use Rattle.rules.specs.declared.Change.{Change}
-use Rattle.rules.specs.declared.Asks.{Asks}
-use Rattle.rules.specs.declared.Asks.the-variants.{For, Unserved}
+use Rattle.rules.specs.declared.Change.the-variants.{Insert, Vary, Annul, Replace}
 use Rattle.rules.specs.declared.Ruling.{Ruling}
 use Rattle.rules.specs.declared.Ruling.the-variants.{Accepted, Refused}
 use Rattle.rules.specs.declared.Noticed.the-variants.{Moved, Unmoved}
 use Rattle.lines.specs.Lines.{lineCode}
-use Rattle.rules.specs.Rules.{asksOf, keyFor, nth, noRecord, unless, stepped, judgeChange, judgeAsked, judgeOrder, recordOf, written, noticeIn, noticeAt, judgeNotice}
-use Rattle.rules.specs.Inner.{absentCode}
-use Rattle.rules.specs.Searches.{stepsSearched, stepsAsked, stepsOf}
-use Rattle.rules.proofs.Judging.{accepted-slot, moved}
-use Rattle.rules.proofs.Codes.{stepped-at, stepped-none, absent-zero}
+use Rattle.rules.specs.Rules.{changeOf, situationIn, stepCode, keyFor, unless, stepped, judgeChange, judgeOrder, recordOf, written, noticeIn, noticeAt, judgeNotice}
+use Rattle.rules.specs.Inner.{recordCode, namesCode, absentCode, newState}
+use Rattle.rules.specs.Searches.{stepsOf}
+use Rattle.rules.proofs.Judging.{there-is, accepted-slot, moved}
+use Rattle.rules.proofs.Codes.{stepped-at, stepped-none, New, absent-zero}
 use Rattle.service.specs.declared.Counted.{Counted}
-use Rattle.service.specs.Inner.{onRecord, onNone, Ruled}
-use Rattle.service.specs.Service.{orderComes, orderSteps, orderStored, OrderServed, outcomeBytes, noticeComes, noticeStored, noticeLeaves}
-
--- A RECORD OF A BODY stands in its slot
-pub record Held (t : List ℕ) (base n i : ℕ) : Type 0 where
-  pub low : i < n
-  pub used : i < usedAt t base n
-  pub same : nth (recordsAt t base n) i ≡ recordAt t (base + slotSize * i)
-
-module _ (t : List ℕ) (base n : ℕ) where
-  abbrev records : List Record
-  records = recordsAt t base n
-
-  pub held : (i : ℕ) → i < length records → Held t base n i
-  held i h =
-      let l = length-records t base n in
-      let u : i < usedAt t base n = omega arith in
-      record { low = omega (arith, used-le t base n); used = u; same = get-record t base n i noRecord u }
-
-  pub search-held : {f : Found} {i : ℕ} (k : Key) → f ≡ findIn records 0 k → f ≡ At i → Held t base n i
-  search-held {f} {i} k e g = held i (found-below records k i noRecord (sym e ∙ g))
+use Rattle.service.specs.Inner.{onRecord, onNone, recordStored, Ruled}
+use Rattle.service.specs.Service.{orderComes, besidesPut, orderStored, OrderServed, outcomeBytes, noticeComes, noticeStored, noticeLeaves}
 
 -- AN ORDER
 
@@ -71,32 +56,92 @@ unless-none : (code steps : ℕ) → (code ≡ 0 → ⊥) → unless (λ c. 0) c
 unless-none zero steps h = absurd (h refl)
 unless-none (suc code) steps h = refl
 
--- refused, or not, by a code: where its record is, and where it has none
-module _ (t : List ℕ) (base year : ℕ) (o : Ordinativo) (next : Ruling) {code′ code : ℕ} (e : code ≡ code′) where
-  pub ruled-refused : (code ≡ 0 → ⊥) → Ruled t base year o (unless Refused code′ next) (Refused code) t
-  unfolding orderStored
-  ruled-refused h = rw (← e) (sym (unless-stop code next h), refl)
+-- refused by a code
+module _ (leaves : Ruling → List ℕ) (next : Ruling) {code′ code : ℕ} (e : code ≡ code′) where
+  pub ruled-refused : (code ≡ 0 → ⊥) → {t : List ℕ} → t ≡ leaves (Refused code) → Ruled leaves (unless Refused code′ next) (Refused code) t
+  ruled-refused h q = rw (← e) (sym (unless-stop code next h), q)
 
-  pub ruled-stored : {c : Change} {i : ℕ} {w : Record} {t′ : List ℕ} → next ≡ Accepted c i → code ≡ 0 → w ≡ written year o (recordAt t (base + slotSize * i)) c
-      → t′ ≡ put t (base + slotSize * i) (recordBytes w) → Ruled t base year o (unless Refused code′ next) (Accepted c i) t′
-  unfolding orderStored
-  ruled-stored n h q s = rw (← e, h) (sym n, rw (← q) s)
+  pub ruled-stored : {j : Ruling} {t′ : List ℕ} → next ≡ j → code ≡ 0 → t′ ≡ leaves j → Ruled leaves (unless Refused code′ next) j t′
+  ruled-stored n h s = rw (← e, h) (sym n, s)
 
--- an order inserted where no record is its own
-module _ (year : ℕ) (o : Ordinativo) (r : Record) (c : Change) (n slots : ℕ) {code : ℕ} (e : code ≡ absentCode c n slots) (h : code ≡ 0) where
+-- where its record is
+pub record-put : (t : List ℕ) (base year : ℕ) (o : Ordinativo) (c : Change) (i : ℕ) {w : Record} {t′ : List ℕ} → w ≡ written year o (recordAt t (base + slotSize * i)) c
+    → t′ ≡ put t (base + slotSize * i) (recordBytes w) → t′ ≡ recordStored t base year o (Accepted c i)
+record-put t base year o c i q s = rw (← q) s
+
+-- and where it has none: a new one, in a slot that there is, once the lines that it names are marked
+module _ (t : List ℕ) (base year : ℕ) (o : Ordinativo) (c : Change) (named n slots : ℕ) {code : ℕ} (e : code ≡ absentCode c named n slots) (h : code ≡ 0) where
+  abbrev new : New c named n slots
+  new = absent-zero c named n slots (sym e ∙ h)
+
   pub absent-low : n < slots
-  absent-low = absent-zero c n slots (sym e ∙ h) .1
+  absent-low = new .low
 
-  pub absent-written : {w : Record} → w ≡ recordOf (keyFor year o) acquiredState o → w ≡ written year o r c
-  unfolding written
-  absent-written q = q ∙ sym (ap (written year o r) (absent-zero c n slots (sym e ∙ h) .0))
+  pub absent-names : named ≡ 0
+  absent-names = new .names
+
+  pub absent-put : {t₁ t′ : List ℕ} {w : Record} → t₁ ≡ besidesPut t base slots o c → w ≡ recordOf (keyFor year o) acquiredState (newState c) o
+      → t′ ≡ put t₁ (base + slotSize * n) (recordBytes w) → t′ ≡ orderStored t base slots year o (Accepted c n)
+  unfolding orderStored
+  absent-put p q s = s ∙ (λ i. put (p i) (base + slotSize * n) (recordBytes ((q ∙ sym (new .state o year (recordAt t (base + slotSize * n)))) i)))
+
+-- a refused order leaves the table as it was
+pub refused-is : (t : List ℕ) (base n year : ℕ) (o : Ordinativo) (code : ℕ) → t ≡ orderStored t base n year o (Refused code)
+unfolding orderStored
+refused-is t base n year o code = refl
+
+-- where a change of a record that is there is accepted nothing is replaced beside it
+at-stored : (t : List ℕ) (base n year : ℕ) (o : Ordinativo) (i : ℕ) (c : Change) → recordStored t base year o (onRecord t base i o c) ≡ orderStored t base n year o (onRecord t base i o c)
+unfolding orderStored
+at-stored t base n year o i c = go (recordCode c o (recordAt t (base + slotSize * i))) refl
+  where
+    there : (s : Situation) → (s ≡ Absent → ⊥) → firstCode (stepCode Replace s) 0 ≡ 0 → ⊥
+    there Absent h e = h refl
+    there Annulled h e = omega arith
+    there Waiting h e = omega arith
+    there Executed h e = omega arith
+
+    beside : (c : Change) → recordCode c o (recordAt t (base + slotSize * i)) ≡ 0 → t ≡ besidesPut t base n o c
+    beside Insert e = refl
+    beside Vary e = refl
+    beside Annul e = refl
+    beside Replace e = absurd (there (situationIn (recordAt t (base + slotSize * i))) (there-is (recordAt t (base + slotSize * i))) e)
+
+    go : (k : ℕ) → recordCode c o (recordAt t (base + slotSize * i)) ≡ k
+        → recordStored t base year o (unless Refused k (Accepted c i)) ≡ orderStored t base n year o (unless Refused k (Accepted c i))
+    go zero e = ap (λ (x : List ℕ). put x (base + slotSize * i) (recordBytes (written year o (recordAt t (base + slotSize * i)) c))) (beside c e)
+    go (suc k) e = refl
+
+-- the lines that an order names
+module _ (t : List ℕ) (base n : ℕ) (o : Ordinativo) (c : Change) where
+  pub names-replace : c ≡ Replace → {code : ℕ} → code ≡ replaceCode (recordsAt t base n) (namings o) → code ≡ namesCode c o (recordsAt t base n)
+  names-replace q e = e ∙ sym (ap (λ (x : Change). namesCode x o (recordsAt t base n)) q)
+
+  pub names-asked : c ≡ Replace → namesCode c o (recordsAt t base n) ≡ 0 → replaceCode (recordsAt t base n) (namings o) ≡ 0
+  names-asked q e = sym (ap (λ (x : Change). namesCode x o (recordsAt t base n)) q) ∙ e
+
+  pub besides-is : {d : Change} → c ≡ d → {t′ : List ℕ} → t′ ≡ besidesPut t base n o d → t′ ≡ besidesPut t base n o c
+  besides-is q e = e ∙ sym (ap (besidesPut t base n o) q)
+
+  -- nothing gets longer
+  pub besides-long : base + slotSize * n ≤ length t → namesCode c o (recordsAt t base n) ≡ 0 → length (besidesPut t base n o c) ≡ length t
+  besides-long fits e = go c e
+    where
+      go : (c : Change) → namesCode c o (recordsAt t base n) ≡ 0 → length (besidesPut t base n o c) ≡ length t
+      go Insert e = refl
+      go Vary e = refl
+      go Annul e = refl
+      go Replace e = lines-long t base n (namings o) e fits
 
 -- what a change comes to: by its lines, and by the search for its key
 module _ (t : List ℕ) (base n year : ℕ) (o : Ordinativo) (c : Change) {code : ℕ} (e : code ≡ lineCode (o .lines) (o .total)) where
-  pub change-lines : (code ≡ 0 → ⊥) → Ruled t base year o (judgeChange n year o (recordsAt t base n) c) (Refused code) t
-  change-lines h = ruled-refused t base year o (stepped n o (recordsAt t base n) c (findIn (recordsAt t base n) 0 (keyFor year o))) e h
+  abbrev leaves : Ruling → List ℕ
+  leaves = orderStored t base n year o
 
-  pub steps-lines : (code ≡ 0 → ⊥) → 0 ≡ stepsSearched year o (recordsAt t base n)
+  pub change-lines : (code ≡ 0 → ⊥) → Ruled leaves (judgeChange n year o (recordsAt t base n) c) (Refused code) t
+  change-lines h = ruled-refused leaves (stepped n o (recordsAt t base n) c (findIn (recordsAt t base n) 0 (keyFor year o))) e h (refused-is t base n year o code)
+
+  pub steps-lines : (code ≡ 0 → ⊥) → 0 ≡ stepsOf year o (recordsAt t base n)
   steps-lines h = rw (← e) (sym (unless-none code _ h))
 
   module _ {f : Sought} (h : code ≡ 0) (g : f ≡ seekIn (recordsAt t base n) 0 (keyFor year o)) where
@@ -106,16 +151,16 @@ module _ (t : List ℕ) (base n year : ℕ) (o : Ordinativo) (c : Change) {code 
     pub change-held : {i : ℕ} → f ≡ sought.At i → Held t base n i
     change-held {i} z = held t base n i (found-below (recordsAt t base n) (keyFor year o) i noRecord (seek-at (recordsAt t base n) 0 (keyFor year o) i (seek-here z)))
 
-    pub change-at : {i : ℕ} {j : Ruling} {t′ : List ℕ} → f ≡ sought.At i → Ruled t base year o (onRecord t base i o c) j t′
-        → Ruled t base year o (judgeChange n year o (recordsAt t base n) c) j t′
-    change-at {i} z r =
+    pub change-at : {i : ℕ} {j : Ruling} {t′ : List ℕ} → f ≡ sought.At i → Ruled (recordStored t base year o) (onRecord t base i o c) j t′
+        → Ruled leaves (judgeChange n year o (recordsAt t base n) c) j t′
+    change-at {i} {j} z r =
         let a = seek-at (recordsAt t base n) 0 (keyFor year o) i (seek-here z) in
         let b = stepped-at n o (recordsAt t base n) i c in
         let d = change-held z .same in
-        (r .0 ∙ rw (← e, h, a, b, d), r .1)
+        (r .0 ∙ rw (← e, h, a, b, d), r .1 ∙ ap (recordStored t base year o) (r .0) ∙ at-stored t base n year o i c ∙ ap leaves (sym (r .0)))
 
-    pub change-none : {m : ℕ} {j : Ruling} {t′ : List ℕ} → f ≡ sought.Absent m → Ruled t base year o (onNone c m n) j t′
-        → Ruled t base year o (judgeChange n year o (recordsAt t base n) c) j t′
+    pub change-none : {m : ℕ} {j : Ruling} {t′ : List ℕ} → f ≡ sought.Absent m → Ruled leaves (onNone c (namesCode c o (recordsAt t base n)) m n) j t′
+        → Ruled leaves (judgeChange n year o (recordsAt t base n) c) j t′
     change-none {m} z r =
         let a = seek-absent (recordsAt t base n) 0 (keyFor year o) m (seek-here z) in
         let b = stepped-none n o (recordsAt t base n) c in
@@ -123,34 +168,24 @@ module _ (t : List ℕ) (base n year : ℕ) (o : Ordinativo) (c : Change) {code 
         (r .0 ∙ rw (← e, h, a .0, b, d), r .1)
 
     -- the one walk tells the steps: up to and including the slot found, or all that are used
-    pub steps-at : {i : ℕ} → f ≡ sought.At i → i + 1 ≡ stepsSearched year o (recordsAt t base n)
+    pub steps-at : {i : ℕ} → f ≡ sought.At i → i + 1 ≡ stepsOf year o (recordsAt t base n)
     steps-at {i} z =
         let a = seek-at (recordsAt t base n) 0 (keyFor year o) i (seek-here z) in
         rw (← e, h, a) (omega arith)
 
-    pub steps-none : {m : ℕ} → f ≡ sought.Absent m → m ≡ stepsSearched year o (recordsAt t base n)
+    pub steps-none : {m : ℕ} → f ≡ sought.Absent m → m ≡ stepsOf year o (recordsAt t base n)
     steps-none {m} z =
         let a = seek-absent (recordsAt t base n) 0 (keyFor year o) m (seek-here z) in
         rw (← e, h, a .0) (omega (arith, a .1))
 
 -- its operation decides
-module _ (t : List ℕ) (base n year : ℕ) (o : Ordinativo) {a : Asks} (e : a ≡ asksOf (o .operation)) where
-  comes-by : {b : Asks} → a ≡ b → orderComes t base n year o ≡ judgeAsked n year o (recordsAt t base n) b
-  unfolding orderComes judgeOrder
-  comes-by q = ap (judgeAsked n year o (recordsAt t base n)) (sym e ∙ q)
-
-  steps-by : {b : Asks} → a ≡ b → orderSteps t base n year o ≡ stepsAsked year o (recordsAt t base n) b
-  unfolding stepsOf
-  steps-by q = ap (stepsAsked year o (recordsAt t base n)) (sym e ∙ q)
-
-  pub served-change : {c : Change} (r : Counted) {t′ : List ℕ} → a ≡ For c
-      → Ruled t base year o (judgeChange n year o (recordsAt t base n) c) (r .ruling) t′ × (r .steps ≡ stepsSearched year o (recordsAt t base n))
-      → OrderServed t base n year o r t′
-  served-change r q s = let x = s .0 .0 ∙ sym (comes-by q) in (x, s .1 ∙ sym (steps-by q), s .0 .1 ∙ ap (orderStored t base year o) x)
-
-  pub served-refused : {code : ℕ} → a ≡ Unserved code → OrderServed t base n year o (record { ruling = Refused code; steps = 0 }) t
-  unfolding orderStored
-  served-refused q = let x = sym (comes-by q) in (x, sym (steps-by q), ap (orderStored t base year o) x)
+pub served-change : (t : List ℕ) (base n year : ℕ) (o : Ordinativo) {c : Change} → c ≡ changeOf (o .operation) → (r : Counted) {t′ : List ℕ}
+    → Ruled (orderStored t base n year o) (judgeChange n year o (recordsAt t base n) c) (r .ruling) t′ × (r .steps ≡ stepsOf year o (recordsAt t base n))
+    → OrderServed t base n year o r t′
+unfolding orderComes judgeOrder
+served-change t base n year o q r s =
+    let x = s .0 .0 ∙ ap (judgeChange n year o (recordsAt t base n)) q in
+    (x, s .1, s .0 .1 ∙ ap (orderStored t base n year o) x)
 
 -- its slot is one of the body's
 pub order-low : (t : List ℕ) (base n year : ℕ) (o : Ordinativo) (c : Change) (i : ℕ) → orderComes t base n year o ≡ Accepted c i → i < n

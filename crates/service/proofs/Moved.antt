@@ -1,165 +1,41 @@
 -- What a moved line leaves: one byte of its record's states, so that record with one state changed, the body valid, and its entry's totals those of
 -- its records.
-use Prim.Native.Nat.{ℕ, zero, suc, _+_, _-_, _*_, _≤_, _<_}
-use mathlib.Core.Bool.{Bool, true, false, _&&_}
+use Prim.Native.Nat.{ℕ, _+_, _-_, _*_, _≤_, _<_}
+use mathlib.Core.Bool.{Bool, true, false}
 use mathlib.Core.List.{List, [], _∷_}
 use mathlib.Core.Path.{_≡_, refl, sym, ap, _∙_}
 use native.Mathlib.Omega.{arith}
-use lib.ListN.{length, getD, set, length-set}
-use lib.Seq.{ext-getD, getD-set-same, getD-set-other}
-use lib.Dec.{eqb, ltb}
-use borrow.Author.Tests.{eqb-true, eqb-false, ltb-true, ltb-false}
+use lib.ListN.{length}
 use Rattle.words.specs.Numbers.{put}
-use Rattle.words.proofs.Laws.{Agree, on, at-it, same2, same4, same8, get-before, get-in, get-after, length-put}
+use Rattle.words.proofs.Laws.{Agree, on, length-put}
 use Rattle.record.specs.declared.Record.{Record}
 use Rattle.record.specs.declared.Key.{Key}
-use Rattle.record.specs.Slot.{statesOffset, slotSize, eightAt, be8s, dateAt, recordAt, restZero, keyOf}
-use Rattle.record.proofs.Back.{eight-at, same-be8s, same-record, agree-before, agree-after}
-use Rattle.valid.specs.Valid.{recordOk}
-use Rattle.slots.specs.Slots.{usedAt, slotsAt, recordsAt, findIn, distinct}
+use Rattle.record.specs.Slot.{slotSize, recordAt, withState}
+use Rattle.record.proofs.Back.{agree-before, agree-after}
+use Rattle.slots.specs.Slots.{recordsAt, findIn, nth, statePlace}
+use Rattle.slots.proofs.Held.{Held, search-held}
 use Rattle.entries.specs.Entry.{entrySize, entryFixed, entryRest, kept, keptBytes}
 use Rattle.ranges.specs.declared.Found.the-variants.{At}
-use Rattle.body.specs.Body.{slotOk, bodyOk, centsOf}
-use Rattle.slots.proofs.Laws.{used-le}
-use Rattle.body.proofs.Laws.{slot-rest, cents-most}
-use Rattle.body.proofs.Same.{slot-ok-agree, records-agree, body-agree}
-use Rattle.slots.proofs.Search.{distinct-set}
-use Rattle.slots.proofs.Index.{length-slots, get-slot, used-is, used-kind, used-empty}
-use Rattle.body.proofs.Slots.{slots-each, each-slots, parts, together, valid-at}
-use Rattle.valid.proofs.Valid.{Valid, ok-used, ok-bounds}
-use Rattle.ranges.proofs.Laws.{zeros-get, get-zeros}
-use Rattle.scan.proofs.Laws.{both}
+use Rattle.body.specs.Body.{bodyOk, centsOf}
+use Rattle.body.proofs.Laws.{cents-most}
+use Rattle.body.proofs.Same.{records-agree, body-agree}
+use Rattle.body.proofs.Slots.{valid-at}
+use Rattle.body.proofs.State.{state-records, state-within}
+use Rattle.valid.proofs.Valid.{Valid, ok-bounds}
+use Rattle.valid.proofs.Moved.{moved-valid}
 use Rattle.rules.specs.declared.Noticed.{Noticed}
 use Rattle.rules.specs.declared.Noticed.the-variants.{Moved, Unmoved}
-use Rattle.rules.specs.Rules.{nth, judgeNotice, movedTo}
-use Rattle.rules.specs.Effects.{withState, recordsMoved}
+use Rattle.rules.specs.Rules.{judgeNotice, movedTo}
+use Rattle.rules.specs.Effects.{recordsMoved}
 use Rattle.rules.proofs.Judging.{Moves, moved}
-use Rattle.rules.proofs.Kept.{moved-valid}
-use Rattle.service.specs.Service.{noticeComes, lineMoved, settled, noticeStored, noticeLeaves, statePlace}
+use Rattle.service.specs.Service.{noticeComes, lineMoved, settled, noticeStored, noticeLeaves}
 use Rattle.service.specs.Inner.{sumMoved, Movable, its, keptMoved, Served}
-use Rattle.service.proofs.Laws.{Held, search-held}
 use Rattle.service.proofs.Kept.{unchanged}
 use Rattle.service.proofs.Totals.{agrees-is, is-agrees, kept-same, put-paid, put-collected, cash-moves, Settled, kept-settled}
 
--- THE BYTE OF A STATE
-
-module _ (t : List ℕ) (at k s : ℕ) (small : k < 8) (fits : at + slotSize ≤ length t) where
-  abbrev after : List ℕ
-  after = put t (at + statesOffset + k) (s ∷ [])
-
-  byte : (j : ℕ) → j < 8 → (x : Bool) → eqb j k ≡ x → getD after (at + statesOffset + j) 0 ≡ getD (set (eightAt t (at + statesOffset)) k s) j 0
-  byte j h true q =
-      let e : j ≡ k = eqb-true j k q in
-      let z : at + statesOffset + j ≡ at + statesOffset + k + 0 = omega arith in
-      ap (λ (x : ℕ). getD after x 0) z ∙ get-in t (at + statesOffset + k) (s ∷ []) 0 (omega arith) (omega arith)
-      ∙ sym (ap (λ (x : ℕ). getD (set (eightAt t (at + statesOffset)) k s) x 0) e ∙ getD-set-same (eightAt t (at + statesOffset)) k s 0 small)
-  byte j h false q = other j (eqb-false j k q) ∙ sym (getD-set-other (eightAt t (at + statesOffset)) k j s 0 (eqb-false j k q) ∙ eight-at t (at + statesOffset) j h)
-    where
-      other : (x : ℕ) → (x ≡ k → ⊥) → getD after (at + statesOffset + x) 0 ≡ getD t (at + statesOffset + x) 0
-      other x ne = go (ltb x k) refl
-        where
-          go : (b : Bool) → ltb x k ≡ b → getD after (at + statesOffset + x) 0 ≡ getD t (at + statesOffset + x) 0
-          go true e = get-before t (at + statesOffset + k) (s ∷ []) (at + statesOffset + x) (omega (arith, ltb-true x k e)) (omega arith)
-          go false e = get-after t (at + statesOffset + k) (s ∷ []) (at + statesOffset + x) (omega (arith, ltb-false x k e)) (omega arith)
-
-  states-after : eightAt after (at + statesOffset) ≡ set (eightAt t (at + statesOffset)) k s
-  states-after =
-      ext-getD 0 (eightAt after (at + statesOffset)) (set (eightAt t (at + statesOffset)) k s) (sym (length-set (eightAt t (at + statesOffset)) k s))
-      (λ j h. eight-at after (at + statesOffset) j h ∙ byte j h (eqb j k) refl)
-
-  head-same : Agree after at t at 24
-  head-same = agree-before t (at + statesOffset + k) (s ∷ []) at (omega arith) 24 (omega arith)
-
-  tail-same : Agree after (at + 32) t (at + 32) 64
-  tail-same = agree-after t (at + statesOffset + k) (s ∷ []) (at + 32) (omega arith) 64 (omega arith)
-
-  date-same : dateAt after (at + 12) ≡ dateAt t (at + 12)
-  date-same = let g = on head-same 12 4 (omega arith) in cc (same2 g (omega arith), g .same 2 (omega arith), g .same 3 (omega arith))
-
-  amounts-same : be8s after (at + 32) ≡ be8s t (at + 32)
-  amounts-same = same-be8s tail-same
-
-  pub state-record : recordAt after at ≡ withState (recordAt t at) k s
-  unfolding recordAt
-  state-record =
-      let g = head-same in
-      cc (
-        at-it g (omega arith),
-        g .same 1 (omega arith),
-        g .same 2 (omega arith),
-        same2 (on g 4 2 (omega arith)) (omega arith),
-        same4 (on g 8 4 (omega arith)) (omega arith),
-        date-same,
-        same8 (on g 16 8 (omega arith)) (omega arith),
-        states-after,
-        amounts-same,
-      )
-
-  pub state-rest : restZero after at ≡ restZero t at
-  unfolding restZero
-  state-rest = let g = head-same in cc (g .same 3 (omega arith), same2 (on g 6 2 (omega arith)) (omega arith))
-
--- A USED SLOT WITH ANOTHER RECORD OF THE SAME KEY: the body stays valid
-module _ (t t′ : List ℕ) (base n i : ℕ) (r : Record) (v : Valid r) (there : recordAt t′ (base + slotSize * i) ≡ r) (rest : restZero t′ (base + slotSize * i) ≡ true)
-    (other : (j : ℕ) → (j ≡ i → ⊥) → Agree t′ (base + slotSize * j) t (base + slotSize * j) slotSize) (h : i < usedAt t base n) (ok : bodyOk t base n ≡ true) where
-  abbrev u : ℕ
-  u = usedAt t base n
-
-  -- what holds of slot i and of every other one
-  each : (P : ℕ → Type 0) → P i → ((j : ℕ) → (j ≡ i → ⊥) → P j) → (j : ℕ) → P j
-  each P a b j = go (eqb j i) refl
-    where
-      go : (x : Bool) → eqb j i ≡ x → P j
-      go true e = rw (eqb-true j i e) a
-      go false e = b j (eqb-false j i e)
-
-  kind-there : getD t′ (base + slotSize * i) 0 ≡ 0 → ⊥
-  unfolding recordAt
-  kind-there z = ok-used r (v .ok) (sym (ap (λ (x : Record). x .kind) there) ∙ z)
-
-  used-same : usedAt t′ base n ≡ u
-  used-same =
-      used-is t′ base n u (used-le t base n)
-      (each (λ j. j < u → getD t′ (base + slotSize * j) 0 ≡ 0 → ⊥) (λ b. kind-there)
-      (λ j ne b z. used-kind t base n j b (sym (at-it (other j ne) (omega arith)) ∙ z)))
-      (λ b. at-it (other u (λ (q : u ≡ i). omega arith)) (omega arith) ∙ used-empty t base n u refl b)
-
-  slots-set : slotsAt t′ base u ≡ set (slotsAt t base u) i r
-  slots-set =
-      let l = length-slots t base u in
-      ext-getD r (slotsAt t′ base u) (set (slotsAt t base u) i r) (length-slots t′ base u ∙ sym (length-set (slotsAt t base u) i r ∙ l))
-      (λ j b.
-      let k : j < u = omega (arith, length-slots t′ base u) in
-      get-slot t′ base u j r k
-      ∙ each (λ x. x < u → recordAt t′ (base + slotSize * x) ≡ getD (set (slotsAt t base u) i r) x r)
-      (λ c. there ∙ sym (getD-set-same (slotsAt t base u) i r r (omega arith)))
-      (λ x ne c. same-record (other x ne) ∙ sym (getD-set-other (slotsAt t base u) i x r r ne ∙ get-slot t base u x r c))
-      j k)
-
-  slot-there : slotOk t′ (base + slotSize * i) ≡ true
-  slot-there = slot-rest t′ (base + slotSize * i) ∙ (λ k. rest k && (ap recordOk there ∙ v .ok) k)
-
-  pub changed-records : recordsAt t′ base n ≡ set (recordsAt t base n) i r
-  changed-records = ap (slotsAt t′ base) used-same ∙ slots-set
-
-  pub changed-ok : keyOf r ≡ keyOf (recordAt t (base + slotSize * i)) → ((x : ℕ) → base + slotSize * u ≤ x → getD t′ x 0 ≡ getD t x 0) → bodyOk t′ base n ≡ true
-  changed-ok k past =
-      let p = parts t base n ok in
-      together t′ base n u used-same
-      (each-slots t′ base u
-      (each (λ j. j < u → slotOk t′ (base + slotSize * j) ≡ true) (λ b. slot-there)
-      (λ j ne b. slot-ok-agree (other j ne) ∙ slots-each t base u (p .slots) j b)))
-      (get-zeros t′ (base + slotSize * u) (base + slotSize * n) (λ x b c. past x b ∙ zeros-get t (base + slotSize * u) (base + slotSize * n) (p .empty) x b c))
-      (ap distinct slots-set ∙ distinct-set (slotsAt t base u) i r r (k ∙ ap keyOf (sym (get-slot t base u i r h))) ∙ p .keys)
-
--- the bytes of a used slot that hold nothing
-rest-of : (t : List ℕ) (base n i : ℕ) → bodyOk t base n ≡ true → i < usedAt t base n → restZero t (base + slotSize * i) ≡ true
-rest-of t base n i ok h =
-    both (restZero t (base + slotSize * i)) _ (sym (slot-rest t (base + slotSize * i)) ∙ slots-each t base (usedAt t base n) (parts t base n ok .slots) i h) .0
-
 -- A NOTICE
 
-moved-state : (executing : Bool) → (1 ≤ movedTo executing) × (movedTo executing ≤ 2)
+moved-state : (executing : Bool) → (1 ≤ movedTo executing) × (movedTo executing ≤ 3)
 moved-state true = (omega arith, omega arith)
 moved-state false = (omega arith, omega arith)
 
@@ -209,29 +85,11 @@ module _ (t : List ℕ) (e base n : ℕ) (executing : Bool) (k : Key) (line : �
     slot-fits : base + slotSize * i + slotSize ≤ length t
     slot-fits = omega (arith, here .low, fits)
 
-    others : (j : ℕ) → (j ≡ i → ⊥) → Agree left (base + slotSize * j) t (base + slotSize * j) slotSize
-    others j ne = go (ltb j i) refl
-      where
-        go : (b : Bool) → ltb j i ≡ b → Agree left (base + slotSize * j) t (base + slotSize * j) slotSize
-        go true z = agree-before t (statePlace base i line) (s ∷ []) (base + slotSize * j) (omega (arith, below, slot-fits)) slotSize (omega (arith, ltb-true j i z))
-        go false z =
-            agree-after t (statePlace base i line) (s ∷ []) (base + slotSize * j) (omega (arith, below, slot-fits)) slotSize (omega (arith, ltb-false j i z, below))
-
-    new-there : recordAt left (base + slotSize * i) ≡ new
-    new-there = state-record t (base + slotSize * i) (line - 1) s below slot-fits
-
-    new-rest : restZero left (base + slotSize * i) ≡ true
-    new-rest = state-rest t (base + slotSize * i) (line - 1) s below slot-fits ∙ rest-of t base n i ok (here .used)
-
     left-ok : bodyOk left base n ≡ true
-    left-ok =
-        changed-ok t left base n i new new-valid new-there new-rest others (here .used) ok refl
-        (λ x b. get-after t (statePlace base i line) (s ∷ []) x (omega (arith, below, here .used)) (omega (arith, below, slot-fits)))
+    left-ok = state-within t base n i (line - 1) s below fits (here .used) ok new-valid .ok
 
     left-records : recordsAt left base n ≡ recordsMoved executing line (recordsAt t base n) (Moved i cents)
-    left-records =
-        changed-records t left base n i new new-valid new-there new-rest others (here .used) ok
-        ∙ ap (λ (x : Record). set (recordsAt t base n) i (withState x (line - 1) s)) (sym (here .same))
+    left-records = state-records t base n i (line - 1) s below fits (here .used)
 
     -- THE TOTALS, of the records afterwards
     abbrev new-records : List Record

@@ -11,23 +11,33 @@ use Rattle.words.specs.Numbers.{put, bytes8}
 use Rattle.words.proofs.Laws.{Agree, on, get-before, get-in, get-after, length-put}
 use Rattle.order.specs.Ordinativo.{Ordinativo}
 use Rattle.record.specs.declared.Key.{Key}
+use Rattle.record.specs.declared.Record.{Record}
 use Rattle.record.specs.Slot.{statesOffset, slotSize, recordAt, recordBytes}
 use Rattle.record.proofs.Back.{same-record, agree-before, agree-after}
-use Rattle.slots.specs.Slots.{recordsAt}
+use Rattle.slots.specs.Slots.{recordsAt, statePlace, findIn}
 use Rattle.entries.specs.Entry.{entrySize, entryFixed, keptBytes}
 use Rattle.body.specs.Body.{bodyOk, centsOf}
 use Rattle.body.proofs.Same.{records-agree}
+use Rattle.replacing.specs.declared.Naming.{Naming}
+use Rattle.replacing.specs.Replacing.{namings, namedCode, replaceCode, linePut, linesPut}
+use Rattle.replacing.proofs.Marks.{or-zero}
+use Rattle.replacing.proofs.Bytes.{tk, named-held, named-small, line-put, line-long, line-records}
+use Rattle.replacing.proofs.Kept.{lines-long}
 use Rattle.rules.specs.declared.Change.{Change}
+use Rattle.rules.specs.declared.Change.the-variants.{Insert, Vary, Annul, Replace}
 use Rattle.rules.specs.declared.Ruling.{Ruling}
 use Rattle.rules.specs.declared.Ruling.the-variants.{Accepted, Refused}
 use Rattle.rules.specs.declared.Noticed.{Noticed}
 use Rattle.rules.specs.declared.Noticed.the-variants.{Moved, Unmoved}
+use Rattle.rules.specs.Inner.{namesCode}
+use Rattle.rules.proofs.Judging.{names-zero}
 use Rattle.rules.specs.Rules.{judgeOrder, orderCode, written, judgeNotice, movedTo}
 use Rattle.rules.specs.Searches.{stepsOf}
-use Rattle.rules.proofs.Kept.{split}
+use Rattle.valid.proofs.Moved.{split}
 use Rattle.service.proofs.Laws.{order-low, notice-line}
-use Rattle.service.proofs.Kept.{Writables, none, more, order-kept}
-use Rattle.service.specs.Service.{orderComes, orderStored, orderLeaves, outcomeBytes, allLeave, allOutcomes, allAccepted, allSteps, noticeComes, statePlace, lineMoved, settled, noticeStored, noticeLeaves}
+use Rattle.rules.proofs.Kept.{Writables, none, more}
+use Rattle.service.proofs.Kept.{order-kept}
+use Rattle.service.specs.Service.{orderComes, besidesPut, orderStored, orderLeaves, outcomeBytes, allLeave, allOutcomes, allAccepted, allSteps, noticeComes, lineMoved, settled, noticeStored, noticeLeaves}
 use Rattle.service.specs.Inner.{Served}
 
 -- the same bytes put at the same place
@@ -44,6 +54,33 @@ put-agree {s} {t} {p} {q} a k v hs ht = record {
       (λ b. get-after s (p + k) v (p + i) (omega arith) hs ∙ a .same i h ∙ sym (get-after t (q + k) v (q + i) (omega arith) ht)));
 }
 
+-- THE LINES THAT AN ORDER NAMES
+
+line-same : {s t : List ℕ} {p q : ℕ} (n : ℕ) (m : Naming) → Agree s p t q (slotSize * n) → p + slotSize * n ≤ length s → q + slotSize * n ≤ length t
+    → namedCode (recordsAt t q n) m ≡ 0 → Agree (linePut s p n m) p (linePut t q n m) q (slotSize * n)
+line-same {s} {t} {p} {q} n m a hs ht e =
+    let r = records-agree n a in
+    let f = ap (λ (rs : List Record). namedCode rs m) r ∙ e in
+    let w = tk t q n m e in
+    let h = named-held t q n m e in
+    let k = named-small t q n m e in
+    let x : statePlace p (w .at) (m .line) ≡ p + (slotSize * w .at + statesOffset + (m .line - 1)) = omega arith in
+    let y : statePlace q (w .at) (m .line) ≡ q + (slotSize * w .at + statesOffset + (m .line - 1)) = omega arith in
+    let u : linePut s p n m ≡ put s (p + (slotSize * w .at + statesOffset + (m .line - 1))) (3 ∷ []) =
+    line-put s p n m f refl (ap (λ (rs : List Record). findIn rs 0 (m .key)) r ∙ w .found) ∙ ap (λ (z : ℕ). put s z (3 ∷ [])) x in
+    let v : linePut t q n m ≡ put t (q + (slotSize * w .at + statesOffset + (m .line - 1))) (3 ∷ []) = line-put t q n m e refl (w .found) ∙ ap (λ (z : ℕ). put t z (3 ∷ [])) y in
+    rw (u, v) (put-agree a (slotSize * w .at + statesOffset + (m .line - 1)) (3 ∷ []) (omega (arith, h .low)) (omega (arith, h .low)))
+
+lines-same : {s t : List ℕ} {p q : ℕ} (n : ℕ) (ms : List Naming) → Agree s p t q (slotSize * n) → p + slotSize * n ≤ length s → q + slotSize * n ≤ length t
+    → replaceCode (recordsAt t q n) ms ≡ 0 → Agree (linesPut s p n ms) p (linesPut t q n ms) q (slotSize * n)
+unfolding linesPut replaceCode
+lines-same n [] a hs ht e = a
+lines-same {s} {t} {p} {q} n (m ∷ ms) a hs ht e =
+    let z = or-zero (namedCode (recordsAt t q n) m) _ e in
+    let f = ap (λ (rs : List Record). namedCode rs m) (records-agree n a) ∙ z .0 in
+    lines-same n ms (line-same n m a hs ht (z .0)) (omega (arith, line-long s p n m f hs)) (omega (arith, line-long t q n m (z .0) ht))
+    (ap (λ (rs : List Record). replaceCode rs ms) (line-records t q n m (z .0) ht) ∙ z .1)
+
 -- AN ORDER
 
 module _ {s t : List ℕ} {p q : ℕ} (n : ℕ) (a : Agree s p t q (slotSize * n)) where
@@ -55,17 +92,32 @@ module _ {s t : List ℕ} {p q : ℕ} (n : ℕ) (a : Agree s p t q (slotSize * n
   slot-same i h = same-record (on a (slotSize * i) slotSize (omega arith))
 
   module _ (hs : p + slotSize * n ≤ length s) (ht : q + slotSize * n ≤ length t) where
-    stored-same : (year : ℕ) (o : Ordinativo) (j : Ruling) → ((c : Change) (i : ℕ) → j ≡ Accepted c i → i < n) → Agree (orderStored s p year o j) p (orderStored t q year o j) q (slotSize * n)
+    besides-same : (year : ℕ) (o : Ordinativo) (c : Change) (i : ℕ) → orderComes t q n year o ≡ Accepted c i
+        → (length (besidesPut s p n o c) ≡ length s) × (length (besidesPut t q n o c) ≡ length t) × Agree (besidesPut s p n o c) p (besidesPut t q n o c) q (slotSize * n)
+    unfolding orderComes
+    besides-same year o c i e = go c (names-zero n year o (recordsAt t q n) c i e)
+      where
+        go : (c : Change) → namesCode c o (recordsAt t q n) ≡ 0
+            → (length (besidesPut s p n o c) ≡ length s) × (length (besidesPut t q n o c) ≡ length t) × Agree (besidesPut s p n o c) p (besidesPut t q n o c) q (slotSize * n)
+        go Insert z = (refl, refl, a)
+        go Vary z = (refl, refl, a)
+        go Annul z = (refl, refl, a)
+        go Replace z =
+            let y = ap (λ (rs : List Record). replaceCode rs (namings o)) (records-agree n a) ∙ z in
+            (lines-long s p n (namings o) y hs, lines-long t q n (namings o) z ht, lines-same n (namings o) a hs ht z)
+
+    stored-same : (year : ℕ) (o : Ordinativo) (j : Ruling) → orderComes t q n year o ≡ j → Agree (orderStored s p n year o j) p (orderStored t q n year o j) q (slotSize * n)
     unfolding orderStored
-    stored-same year o (Accepted c i) low =
-        let l = low c i refl in
+    stored-same year o (Accepted c i) z =
+        let l = order-low t q n year o c i z in
+        let m = besides-same year o c i z in
         let e : recordBytes (written year o (recordAt t (q + slotSize * i)) c) ≡ recordBytes (written year o (recordAt s (p + slotSize * i)) c) =
         ap (λ r. recordBytes (written year o r c)) (sym (slot-same i l)) in
-        rw e (put-agree a (slotSize * i) (recordBytes (written year o (recordAt s (p + slotSize * i)) c)) (omega arith) (omega arith))
-    stored-same year o (Refused code) low = a
+        rw e (put-agree (m .2) (slotSize * i) (recordBytes (written year o (recordAt s (p + slotSize * i)) c)) (omega (arith, m .0)) (omega (arith, m .1)))
+    stored-same year o (Refused code) z = a
 
     pub order-own : (year : ℕ) (o : Ordinativo) → Agree (orderLeaves s p n year o) p (orderLeaves t q n year o) q (slotSize * n)
-    order-own year o = rw (order-same year o) (stored-same year o (orderComes t q n year o) (order-low t q n year o))
+    order-own year o = rw (order-same year o) (stored-same year o (orderComes t q n year o) refl)
 
     -- A NOTICE
 

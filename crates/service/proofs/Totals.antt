@@ -14,13 +14,13 @@ use Rattle.record.specs.declared.Key.{Key}
 use Rattle.record.specs.declared.Record.{Record}
 use Rattle.record.specs.Slot.{slotSize}
 use Rattle.record.proofs.Back.{agree-before, agree-after}
-use Rattle.slots.specs.Slots.{recordsAt}
+use Rattle.slots.specs.Slots.{recordsAt, nth}
 use Rattle.body.specs.Body.{bodyOk, centsOf}
 use Rattle.entries.specs.Entry.{entrySize, entryFixed, entryRest, kept, keptBytes}
 use Rattle.table.specs.Table.{agrees}
 use Rattle.valid.proofs.Valid.{Valid}
 use Rattle.rules.specs.declared.Noticed.the-variants.{Moved}
-use Rattle.rules.specs.Rules.{nth, judgeNotice}
+use Rattle.rules.specs.Rules.{judgeNotice}
 use Rattle.rules.specs.Effects.{recordsMoved}
 use Rattle.service.specs.Service.{settled}
 use Rattle.service.specs.Inner.{sumMoved, Movable, its, keptMoved}

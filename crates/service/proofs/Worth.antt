@@ -5,30 +5,36 @@ use mathlib.Core.Path.{_≡_, refl, sym, ap, _∙_}
 use mathlib.Core.Bool.{Bool, true, false, cond, _||_}
 use mathlib.Core.List.{List, [], _∷_, _++_}
 use native.Mathlib.Omega.{arith}
-use lib.ListN.{length, getD, set, replicate, drop-of-length-le}
+use lib.ListN.{length, getD, set, take, replicate, drop-of-length-le}
 use lib.Seq.{set-split, take-all}
 use lib.Dec.{eqb}
-use borrow.Author.Tests.{eqb-true, ne-eqb}
+use borrow.Author.Tests.{eqb-true, eq-eqb, ne-eqb}
 use Rattle.scan.proofs.Laws.{both}
 use Rattle.ranges.specs.Ranges.{isNothing}
 use Rattle.record.specs.declared.Key.{Key}
 use Rattle.record.specs.declared.Record.{Record}
-use Rattle.record.specs.Slot.{keyOf, keyIs}
-use Rattle.slots.specs.Slots.{findIn, distinct}
+use Rattle.record.specs.Slot.{keyOf, keyIs, withState}
+use Rattle.slots.specs.Slots.{findIn, distinct, nth, noRecord}
 use Rattle.slots.proofs.Search.{found-below, found-key}
 use Rattle.valid.specs.Valid.{executedIn}
 use Rattle.body.specs.Body.{centsOf}
 use Rattle.valid.proofs.Valid.{Valid, ok-bounds}
 use Rattle.order.specs.Ordinativo.{Ordinativo}
+use Rattle.order.specs.declared.Line.{Line}
+use Rattle.lines.specs.Lines.{sumOf}
+use Rattle.replacing.specs.declared.Naming.{Naming}
+use Rattle.replacing.specs.Replacing.{namingOf, namingsOf, namings, namedCode, withReplaced, replaceCode, replacedBy}
+use Rattle.replacing.proofs.Marks.{Takes, takes, marked-is, replaced-length, or-zero}
 use Rattle.rules.specs.declared.Change.{Change}
+use Rattle.rules.specs.declared.Change.the-variants.{Insert, Vary, Annul, Replace}
 use Rattle.rules.specs.declared.Ruling.{Ruling}
 use Rattle.rules.specs.declared.Ruling.the-variants.{Accepted, Refused}
 use Rattle.ranges.specs.declared.Found.the-variants.{At}
 use Rattle.rules.specs.declared.Noticed.the-variants.{Moved}
-use Rattle.rules.specs.Rules.{anyExecuted, keyFor, nth, noRecord, eightPlaces, judgeOrder, written, lineMoves, movedTo, judgeNotice}
-use Rattle.rules.specs.Effects.{storedAt, recordsBy, allRecords, withState, recordsMoved}
-use Rattle.rules.proofs.Judging.{Stands, inserting, varying, annulling, accepted, Moves, moved}
-use Rattle.rules.proofs.Kept.{waiting-all}
+use Rattle.rules.specs.Rules.{anyExecuted, keyFor, eightPlaces, amountsOf, judgeOrder, written, lineMoves, movedTo, judgeNotice}
+use Rattle.rules.specs.Effects.{storedAt, besides, recordsBy, allRecords, recordsMoved}
+use Rattle.rules.proofs.Judging.{Stands, inserting, replacing, varying, annulling, accepted, Moves, moved}
+use Rattle.rules.proofs.Kept.{waiting-all, Writables, none, more}
 use Rattle.rules.specs.Worth.{Which, Value, worthIn, worth, ofKind, itsCents, withKey, onLine}
 
 -- WHERE AN ORDER'S RECORD STANDS: in place of the one at i, or after the last
@@ -46,11 +52,12 @@ none-paid : (v : Value) (n : ℕ) (states amounts : List ℕ) → anyExecuted st
 unfolding anyExecuted worthIn
 none-paid v n [] amounts e = refl
 none-paid v n (s ∷ states) [] e = refl
-none-paid v n (s ∷ states) (a ∷ amounts) e = go (eqb s 2) e (none-paid v (suc n) states amounts)
+none-paid v n (s ∷ states) (a ∷ amounts) e = go (eqb s 2) (eqb s 3) e (none-paid v (suc n) states amounts)
   where
-    go : (b : Bool) → (b || anyExecuted states) ≡ false → (anyExecuted states ≡ false → worthIn v (suc n) states amounts ≡ 0) → cond b (v n a) 0 + worthIn v (suc n) states amounts ≡ 0
-    go true f next = absurd (let z : _≡_ {A = ℕ} 0 1 = cc in omega arith)
-    go false f next = omega (arith, next f)
+    go : (b c : Bool) → ((b || c) || anyExecuted states) ≡ false → (anyExecuted states ≡ false → worthIn v (suc n) states amounts ≡ 0) → cond b (v n a) 0 + worthIn v (suc n) states amounts ≡ 0
+    go true c f next = absurd (let z : _≡_ {A = ℕ} 0 1 = cc in omega arith)
+    go false true f next = absurd (let z : _≡_ {A = ℕ} 0 1 = cc in omega arith)
+    go false false f next = omega (arith, next f)
 
 -- ONE LINE, ONE RECORD SET
 -- what a line in state s with the amount a counts for
@@ -64,11 +71,11 @@ cond-none false e = refl
 -- the tests that an accepted notice passed
 not-executed : (s n : ℕ) → lineMoves true s ≡ 0 → paidBy s n ≡ 0
 unfolding lineMoves
-not-executed s n e = go (eqb s 2) e
+not-executed s n e = go (eqb s 2) (eqb s 3) e
   where
-    go : (u : Bool) → _≡_ {A = ℕ} (cond u 21 0) 0 → cond u n 0 ≡ 0
-    go true e = absurd (omega arith)
-    go false e = refl
+    go : (u w : Bool) → _≡_ {A = ℕ} (cond (u || w) 21 0) 0 → cond u n 0 ≡ 0
+    go true w e = absurd (omega arith)
+    go false w e = refl
 
 was-executed : (s n : ℕ) → lineMoves false s ≡ 0 → paidBy s n ≡ n
 unfolding lineMoves
@@ -119,34 +126,27 @@ module _ (p : Which) (v : Value) where
   none-in : (r : Record) → lines r ≡ 0 → worthOf r ≡ 0
   none-in r e = cond-none (p (keyOf r)) e
 
-  -- AN ORDER
+  -- AN ORDER that replaces nothing
   module _ (slots year : ℕ) (o : Ordinativo) (rs : List Record) where
-    by-stand : (c : Change) (i : ℕ) → Stands slots year o rs c i → worth p v (recordsBy year o rs (Accepted c i)) ≡ worth p v rs
+    by-stand : (c : Change) (i : ℕ) → Stands slots year o rs c i → (c ≡ Replace → ⊥) → worth p v (recordsBy year o rs (Accepted c i)) ≡ worth p v rs
     unfolding written
-    by-stand c i (inserting y f q l) =
+    by-stand c i (inserting y f q l) n =
         let new : Record = written year o (nth rs i) c in
         let z : lines new ≡ 0 = rw y (none-paid v 1 (eightPlaces (replicate (length (o .lines)) 1)) _ (waiting-all (length (o .lines)))) in
-        ap (worth p v) (stored-end rs i new q) ∙ omega (arith, add-worth rs new, none-in new z)
-    by-stand c i (varying y f w) =
+        rw (ap (λ (x : Change). besides x o rs) y) (ap (worth p v) (stored-end rs i new q) ∙ omega (arith, add-worth rs new, none-in new z))
+    by-stand c i (replacing y f q l e) n = absurd (n y)
+    by-stand c i (varying y f w) n =
         let h = found-below rs (keyFor year o) i noRecord f in
         let new : Record = written year o (nth rs i) c in
         let z : lines new ≡ 0 = rw y (none-paid v 1 (eightPlaces (replicate (length (o .lines)) 1)) _ (waiting-all (length (o .lines)))) in
-        ap (worth p v) (stored-set rs i new h) ∙ omega (arith, set-worth rs i new h, none-in new z, none-in (nth rs i) (none-paid v 1 (nth rs i .states) _ (w .waits)))
-    by-stand c i (annulling y f w s) =
+        rw (ap (λ (x : Change). besides x o rs) y)
+        (ap (worth p v) (stored-set rs i new h) ∙ omega (arith, set-worth rs i new h, none-in new z, none-in (nth rs i) (none-paid v 1 (nth rs i .states) _ (w .waits))))
+    by-stand c i (annulling y f w s) n =
         let h = found-below rs (keyFor year o) i noRecord f in
         let new : Record = written year o (nth rs i) c in
         let z : lines new ≡ 0 = rw y (none-paid v 1 (nth rs i .states) _ (w .waits)) in
-        ap (worth p v) (stored-set rs i new h) ∙ omega (arith, set-worth rs i new h, none-in new z, none-in (nth rs i) (none-paid v 1 (nth rs i .states) _ (w .waits)))
-
-    pub order-worth : (j : Ruling) → judgeOrder slots year o rs ≡ j → worth p v (recordsBy year o rs j) ≡ worth p v rs
-    order-worth (Accepted c i) e = by-stand c i (accepted slots year o rs c i e)
-    order-worth (Refused code) e = refl
-
-  pub orders-worth : (slots year : ℕ) (os : List Ordinativo) (rs : List Record) → worth p v (allRecords slots year os rs) ≡ worth p v rs
-  unfolding allRecords
-  orders-worth slots year [] rs = refl
-  orders-worth slots year (o ∷ os) rs =
-      orders-worth slots year os (recordsBy year o rs (judgeOrder slots year o rs)) ∙ order-worth slots year o rs (judgeOrder slots year o rs) refl
+        rw (ap (λ (x : Change). besides x o rs) y)
+        (ap (worth p v) (stored-set rs i new h) ∙ omega (arith, set-worth rs i new h, none-in new z, none-in (nth rs i) (none-paid v 1 (nth rs i .states) _ (w .waits))))
 
   -- A NOTICE
   module _ (executing : Bool) (key : Key) (line : ℕ) (rs : List Record) (i cents : ℕ) (e : judgeNotice executing key line rs ≡ Moved i cents) (ok : Valid (nth rs i)) where
@@ -221,11 +221,123 @@ cents-worth kind (r ∷ rs) =
     let y = cents-worth kind rs in
     λ i. cond (eqb (r .kind) kind) (x i) 0 + y i
 
--- no order moves cash; an accepted notice moves that of its order's kind by exactly its cents
-pub order-cash : (slots year : ℕ) (o : Ordinativo) (rs : List Record) (j : Ruling) → judgeOrder slots year o rs ≡ j → (kind : ℕ)
-    → centsOf kind (recordsBy year o rs j) ≡ centsOf kind rs
-order-cash slots year o rs j e kind =
-    cents-worth kind (recordsBy year o rs j) ∙ order-worth (ofKind kind) itsCents slots year o rs j e ∙ sym (cents-worth kind rs)
+-- A REPLACEMENT: its named lines lose exactly what its own lines hold
+
+-- an executed line's state becomes another
+executed-set : (s a : List ℕ) (i x : ℕ) → getD s i 0 ≡ 2 → (x ≡ 2 → ⊥) → executedIn (set s i x) a + getD a i 0 ≡ executedIn s a
+unfolding executedIn
+executed-set [] a i x e n = absurd (omega arith)
+executed-set (y ∷ s) [] zero x e n = refl
+executed-set (y ∷ s) [] (suc i) x e n = refl
+executed-set (y ∷ s) (b ∷ a) zero x e n = rw (ne-eqb x 2 n, eq-eqb y 2 e) (omega arith)
+executed-set (y ∷ s) (b ∷ a) (suc i) x e n = omega (arith, executed-set s a i x e n)
+
+-- what a record counts for, of its kind
+abbrev share : ℕ → Record → ℕ
+share kind r = cond (eqb (r .kind) kind) (executedIn (r .states) (r .amounts)) 0
+
+cents-set : (kind : ℕ) (rs : List Record) (j : ℕ) (r : Record) → j < length rs → centsOf kind (set rs j r) + share kind (nth rs j) ≡ centsOf kind rs + share kind r
+unfolding centsOf
+cents-set kind [] j r h = absurd (omega arith)
+cents-set kind (x ∷ rs) zero r h = omega arith
+cents-set kind (x ∷ rs) (suc j) r h = omega (arith, cents-set kind rs j r (omega arith))
+
+cents-add : (kind : ℕ) (rs : List Record) (r : Record) → centsOf kind (rs ++ r ∷ []) ≡ centsOf kind rs + share kind r
+unfolding centsOf
+cents-add kind [] r = omega arith
+cents-add kind (x ∷ rs) r = omega (arith, cents-add kind rs r)
+
+mark-cents : (kind : ℕ) (rs : List Record) (m : Naming) → namedCode rs m ≡ 0 → centsOf kind (withReplaced rs m) + cond (eqb (m .key .kind) kind) (m .amount) 0 ≡ centsOf kind rs
+mark-cents kind rs m e = go (eqb (m .key .kind) kind) refl
+  where
+    tk : Takes rs m
+    tk = takes rs m e
+
+    old : Record
+    old = nth rs (tk .at)
+
+    new : Record
+    new = withState old (m .line - 1) 3
+
+    same : old .kind ≡ m .key .kind
+    same = ap (λ (x : Key). x .kind) (found-key rs (m .key) (tk .at) noRecord (tk .found))
+
+    sets : centsOf kind (withReplaced rs m) + share kind old ≡ centsOf kind rs + share kind new
+    sets = ap (λ (l : List Record). centsOf kind l + share kind old) (marked-is rs m m e refl) ∙ cents-set kind rs (tk .at) new (found-below rs (m .key) (tk .at) noRecord (tk .found))
+
+    less : executedIn (new .states) (new .amounts) + m .amount ≡ executedIn (old .states) (old .amounts)
+    less =
+        ap (λ (x : ℕ). executedIn (new .states) (new .amounts) + x) (sym (tk .stands .same))
+        ∙ executed-set (old .states) (old .amounts) (m .line - 1) 3 (tk .stands .state) (λ (z : _≡_ {A = ℕ} 3 2). omega arith)
+
+    go : (b : Bool) → eqb (m .key .kind) kind ≡ b → centsOf kind (withReplaced rs m) + cond b (m .amount) 0 ≡ centsOf kind rs
+    go true q =
+        let w : eqb (old .kind) kind ≡ true = ap (λ (x : ℕ). eqb x kind) same ∙ q in
+        let s : centsOf kind (withReplaced rs m) + executedIn (old .states) (old .amounts) ≡ centsOf kind rs + executedIn (new .states) (new .amounts) =
+        sym (ap (λ (b : Bool). centsOf kind (withReplaced rs m) + cond b (executedIn (old .states) (old .amounts)) 0) w) ∙ sets
+        ∙ ap (λ (b : Bool). centsOf kind rs + cond b (executedIn (new .states) (new .amounts)) 0) w in
+        omega (arith, less)
+    go false q =
+        let w : eqb (old .kind) kind ≡ false = ap (λ (x : ℕ). eqb x kind) same ∙ q in
+        let s : centsOf kind (withReplaced rs m) + 0 ≡ centsOf kind rs + 0 =
+        sym (ap (λ (b : Bool). centsOf kind (withReplaced rs m) + cond b (executedIn (old .states) (old .amounts)) 0) w) ∙ sets
+        ∙ ap (λ (b : Bool). centsOf kind rs + cond b (executedIn (new .states) (new .amounts)) 0) w in
+        omega arith
+
+marks-cents : (kind k : ℕ) (rs : List Record) (ls : List Line) → replaceCode rs (namingsOf k ls) ≡ 0
+    → centsOf kind (replacedBy rs (namingsOf k ls)) + cond (eqb k kind) (sumOf ls) 0 ≡ centsOf kind rs
+unfolding replaceCode replacedBy namingsOf sumOf
+marks-cents kind k rs [] e = let z = cond-none (eqb k kind) {n = 0} refl in omega arith
+marks-cents kind k rs (l ∷ ls) e =
+    let z = or-zero (namedCode rs (namingOf k l)) _ e in
+    apart (eqb k kind) _ _ _ (mark-cents kind rs (namingOf k l) (z .0)) (marks-cents kind k (withReplaced rs (namingOf k l)) ls (z .1))
+  where
+    apart : (b : Bool) (x y w : ℕ) → x + cond b (l .amount) 0 ≡ w → y + cond b (sumOf ls) 0 ≡ x → y + cond b (l .amount + sumOf ls) 0 ≡ w
+    apart true x y w p q = omega arith
+    apart false x y w p q = omega arith
+
+-- the new record counts for all its lines
+all-paid : (m k : ℕ) (ls : List Line) → length ls ≤ m → executedIn (take m (replicate (length ls) 2 ++ replicate k 0)) (take m (amountsOf ls ++ replicate k 0)) ≡ sumOf ls
+unfolding executedIn amountsOf sumOf
+all-paid m k [] h = nothing m k
+  where
+    nothing : (m k : ℕ) → executedIn (take m (replicate k 0)) (take m (replicate k 0)) ≡ 0
+    nothing zero k = refl
+    nothing (suc m) zero = refl
+    nothing (suc m) (suc k) = omega (arith, nothing m k)
+all-paid zero k (l ∷ ls) h = absurd (omega arith)
+all-paid (suc m) k (l ∷ ls) h = ap (λ (x : ℕ). l .amount + x) (all-paid m k ls (omega arith))
+
+-- NO ORDER MOVES CASH; an accepted notice moves that of its order's kind by exactly its cents
+module _ (slots year : ℕ) (o : Ordinativo) (rs : List Record) (few : length (o .lines) ≤ 8) (kind : ℕ) where
+  replace-cash : (c : Change) (i : ℕ) → c ≡ Replace → i ≡ length rs → replaceCode rs (namings o) ≡ 0 → centsOf kind (recordsBy year o rs (Accepted c i)) ≡ centsOf kind rs
+  unfolding written
+  replace-cash c i y q e =
+      let left : List Record = replacedBy rs (namings o) in
+      let new : Record = written year o (nth rs i) Replace in
+      let z = stored-end left i new (q ∙ sym (replaced-length rs (namings o))) in
+      let a : centsOf kind (left ++ new ∷ []) ≡ centsOf kind left + cond (eqb (o .kind) kind) (sumOf (o .lines)) 0 =
+      cents-add kind left new ∙ ap (λ (x : ℕ). centsOf kind left + cond (eqb (o .kind) kind) x 0) (all-paid 8 8 (o .lines) few) in
+      ap (λ (x : Change). centsOf kind (recordsBy year o rs (Accepted x i))) y ∙ ap (centsOf kind) z ∙ a ∙ marks-cents kind (o .kind) rs (o .lines) e
+
+  others : (c : Change) (i : ℕ) → Stands slots year o rs c i → (c ≡ Replace → ⊥) → centsOf kind (recordsBy year o rs (Accepted c i)) ≡ centsOf kind rs
+  others c i s n = cents-worth kind (recordsBy year o rs (Accepted c i)) ∙ by-stand (ofKind kind) itsCents slots year o rs c i s n ∙ sym (cents-worth kind rs)
+
+  by-cash : (c : Change) (i : ℕ) → Stands slots year o rs c i → centsOf kind (recordsBy year o rs (Accepted c i)) ≡ centsOf kind rs
+  by-cash c i (replacing y f q l e) = replace-cash c i y q e
+  by-cash c i (inserting y f q l) = others c i (inserting y f q l) (λ z. let w : Insert ≡ Replace = sym y ∙ z in let u : _≡_ {A = ℕ} 0 1 = cc in omega arith)
+  by-cash c i (varying y f w) = others c i (varying y f w) (λ z. let x : Vary ≡ Replace = sym y ∙ z in let u : _≡_ {A = ℕ} 0 1 = cc in omega arith)
+  by-cash c i (annulling y f w s) = others c i (annulling y f w s) (λ z. let x : Annul ≡ Replace = sym y ∙ z in let u : _≡_ {A = ℕ} 0 1 = cc in omega arith)
+
+  pub order-cash : (j : Ruling) → judgeOrder slots year o rs ≡ j → centsOf kind (recordsBy year o rs j) ≡ centsOf kind rs
+  order-cash (Accepted c i) e = by-cash c i (accepted slots year o rs c i e)
+  order-cash (Refused code) e = refl
+
+pub orders-cash : (slots year : ℕ) (os : List Ordinativo) (rs : List Record) → Writables os → (kind : ℕ) → centsOf kind (allRecords slots year os rs) ≡ centsOf kind rs
+unfolding allRecords
+orders-cash slots year [] rs none kind = refl
+orders-cash slots year (o ∷ os) rs (more w ws) kind =
+    orders-cash slots year os (recordsBy year o rs (judgeOrder slots year o rs)) ws kind ∙ order-cash slots year o rs (w .count .1) kind (judgeOrder slots year o rs) refl
 
 module _ (key : Key) (line : ℕ) (rs : List Record) (i cents kind : ℕ) where
   pub execute-cash : judgeNotice true key line rs ≡ Moved i cents → Valid (nth rs i)

@@ -6,8 +6,9 @@ use mathlib.Core.List.{List}
 use lib.ListN.{length}
 use lib.Dec.{eqb}
 use Rattle.bounds.specs.Bounds.{maxSlots}
+use Rattle.words.specs.Numbers.{put}
 use Rattle.order.specs.Ordinativo.{Ordinativo}
-use Rattle.record.specs.Slot.{slotSize, mandatoKind, reversaleKind, recordAt}
+use Rattle.record.specs.Slot.{slotSize, mandatoKind, reversaleKind, recordAt, recordBytes}
 use Rattle.slots.specs.Slots.{recordsAt}
 use Rattle.body.specs.Body.{bodyOk}
 use Rattle.entries.specs.Entry.{entrySize, kept, keptBytes}
@@ -15,9 +16,8 @@ use Rattle.table.specs.Table.{agrees}
 use Rattle.rules.specs.declared.Change.{Change}
 use Rattle.rules.specs.declared.Ruling.{Ruling}
 use Rattle.rules.specs.declared.Ruling.the-variants.{Accepted, Refused}
-use Rattle.rules.specs.Rules.{unless}
+use Rattle.rules.specs.Rules.{unless, written}
 use Rattle.rules.specs.Inner.{recordCode, absentCode}
-use Rattle.service.specs.Service.{orderStored}
 
 -- AN ORDER
 
@@ -25,13 +25,18 @@ use Rattle.service.specs.Service.{orderStored}
 abbrev pub onRecord : List ℕ → ℕ → ℕ → Ordinativo → Change → Ruling
 onRecord t base i o c = unless Refused (recordCode c o (recordAt t (base + slotSize * i))) (Accepted c i)
 
--- none of the body's n records is its own
-abbrev pub onNone : Change → ℕ → ℕ → Ruling
-onNone c n slots = unless Refused (absentCode c n slots) (Accepted c n)
+-- none of the body's n records is its own, and the lines that it names come to `named`
+abbrev pub onNone : Change → ℕ → ℕ → ℕ → Ruling
+onNone c named n slots = unless Refused (absentCode c named n slots) (Accepted c n)
+
+-- the record of an accepted order alone
+abbrev pub recordStored : List ℕ → ℕ → ℕ → Ordinativo → Ruling → List ℕ
+recordStored t base year o (Accepted c i) = put t (base + slotSize * i) (recordBytes (written year o (recordAt t (base + slotSize * i)) c))
+recordStored t base year o (Refused code) = t
 
 -- the ruling j is the one that the rules give, and the table t′ is what it leaves
-abbrev pub Ruled : List ℕ → ℕ → ℕ → Ordinativo → Ruling → Ruling → List ℕ → Type 0
-Ruled t base year o rules j t′ = (j ≡ rules) × (t′ ≡ orderStored t base year o j)
+abbrev pub Ruled : (Ruling → List ℕ) → Ruling → Ruling → List ℕ → Type 0
+Ruled leaves rules j t′ = (j ≡ rules) × (t′ ≡ leaves j)
 
 -- A NOTICE
 

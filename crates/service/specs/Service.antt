@@ -1,5 +1,5 @@
 -- Orders and notices served on one body of a table's bytes (document 01, "Answers"): the rules over its records, and the bytes they leave.
-use Prim.Native.Nat.{ℕ, _+_, _*_, _-_}
+use Prim.Native.Nat.{ℕ, _+_, _*_}
 use mathlib.Core.Path.{_≡_}
 use mathlib.Core.Bool.{Bool, cond}
 use mathlib.Core.List.{List, [], _∷_, _++_}
@@ -10,10 +10,13 @@ use Rattle.codes.specs.Codes.{operationNumber}
 use Rattle.order.specs.Ordinativo.{Ordinativo}
 use Rattle.record.specs.declared.Key.{Key}
 use Rattle.record.specs.declared.Record.{Record}
-use Rattle.record.specs.Slot.{statesOffset, slotSize, mandatoKind, reversaleKind, recordAt, recordBytes}
-use Rattle.slots.specs.Slots.{recordsAt}
+use Rattle.record.specs.Slot.{slotSize, mandatoKind, reversaleKind, recordAt, recordBytes}
+use Rattle.slots.specs.Slots.{recordsAt, statePlace}
 use Rattle.body.specs.Body.{centsOf}
 use Rattle.entries.specs.Entry.{entryFixed, keptBytes}
+use Rattle.replacing.specs.Replacing.{namings, linesPut}
+use Rattle.rules.specs.declared.Change.{Change}
+use Rattle.rules.specs.declared.Change.the-variants.{Insert, Vary, Annul, Replace}
 use Rattle.rules.specs.declared.Ruling.{Ruling}
 use Rattle.rules.specs.declared.Ruling.the-variants.{Accepted, Refused}
 use Rattle.rules.specs.declared.Noticed.{Noticed}
@@ -28,13 +31,21 @@ use Rattle.service.specs.declared.Counted.{Counted}
 unfoldable pub orderComes : List ℕ → ℕ → ℕ → ℕ → Ordinativo → Ruling
 orderComes t base n year o = judgeOrder n year o (recordsAt t base n)
 
--- the table after it: the accepted order's record in its slot, every other byte as it was
-unfoldable pub orderStored : List ℕ → ℕ → ℕ → Ordinativo → Ruling → List ℕ
-orderStored t base year o (Accepted c i) = put t (base + slotSize * i) (recordBytes (written year o (recordAt t (base + slotSize * i)) c))
-orderStored t base year o (Refused code) = t
+-- the table beside the order's own record: a SOSTITUZIONE's named lines are replaced (document 02, Req 07)
+abbrev pub besidesPut : List ℕ → ℕ → ℕ → Ordinativo → Change → List ℕ
+besidesPut t base n o Insert = t
+besidesPut t base n o Vary = t
+besidesPut t base n o Annul = t
+besidesPut t base n o Replace = linesPut t base n (namings o)
+
+-- the table after it: the accepted order's record in its slot, a SOSTITUZIONE's named lines replaced, every other byte as it was
+unfoldable pub orderStored : List ℕ → ℕ → ℕ → ℕ → Ordinativo → Ruling → List ℕ
+orderStored t base n year o (Accepted c i) =
+    put (besidesPut t base n o c) (base + slotSize * i) (recordBytes (written year o (recordAt t (base + slotSize * i)) c))
+orderStored t base n year o (Refused code) = t
 
 abbrev pub orderLeaves : List ℕ → ℕ → ℕ → ℕ → Ordinativo → List ℕ
-orderLeaves t base n year o = orderStored t base year o (orderComes t base n year o)
+orderLeaves t base n year o = orderStored t base n year o (orderComes t base n year o)
 
 -- the slots that its search looked at (document 02, Req 09)
 abbrev pub orderSteps : List ℕ → ℕ → ℕ → ℕ → Ordinativo → ℕ
@@ -80,10 +91,6 @@ allSteps t base n year (o ∷ os) = orderSteps t base n year o + allSteps (order
 
 unfoldable pub noticeComes : List ℕ → ℕ → ℕ → Bool → Key → ℕ → Noticed
 noticeComes t base n executing k line = judgeNotice executing k line (recordsAt t base n)
-
--- the byte of a line's state, counted from 1: "24-31 eight line states"
-abbrev pub statePlace : ℕ → ℕ → ℕ → ℕ
-statePlace base i line = base + slotSize * i + statesOffset + (line - 1)
 
 -- the line's state is set
 unfoldable pub lineMoved : List ℕ → ℕ → Bool → ℕ → ℕ → List ℕ

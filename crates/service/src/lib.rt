@@ -18,9 +18,10 @@ ghost use Rattle.slots.specs.Slots.{recordsAt};
 ghost use Rattle.body.specs.Body.{bodyOk};
 ghost use Rattle.entries.specs.Entry.{entryFixed, entryRest, kept};
 ghost use Rattle.rules.specs.Rules.{judgeChange, movedTo};
-ghost use Rattle.rules.specs.Searches.{stepsSearched};
-ghost use Rattle.service.specs.Service.{outcomeSize, OrderServed, outcomeBytes, noticeComes, NoticeServed};
-ghost use Rattle.service.specs.Inner.{onRecord, onNone, Ruled, sumMoved, Movable, its, keptMoved, Served};
+ghost use Rattle.rules.specs.Searches.{stepsOf};
+ghost use Rattle.rules.specs.Inner.{namesCode};
+ghost use Rattle.service.specs.Service.{besidesPut, orderStored, outcomeSize, OrderServed, outcomeBytes, noticeComes, NoticeServed};
+ghost use Rattle.service.specs.Inner.{onRecord, onNone, recordStored, Ruled, sumMoved, Movable, its, keptMoved, Served};
 
 // What an order comes to, and how many slots its search looked at.
 pub struct Counted {
@@ -34,7 +35,7 @@ pub const OUTCOME: usize = 16;
 // Serves a change where the search found the order's record, at index i of its body: the only record that is looked at.
 fn serve_record(t: &mut [u8], base: usize, i: usize, year: u64, o: Order, c: Change) -> Ruling
     requires { ⌜ base + slotSize * i + slotSize ≤ length (now t) ⌝ }
-    ensures { λ j. ⌜ Ruled (now (t .entry)) base year (ordinativo o) (onRecord (now (t .entry)) base i (ordinativo o) c) j (now (t .exit)) ⌝ }
+    ensures { λ j. ⌜ Ruled (recordStored (now (t .entry)) base year (ordinativo o)) (onRecord (now (t .entry)) base i (ordinativo o) c) j (now (t .exit)) ⌝ }
 {
     let at = base + record::SLOT * i;
     let r = record::record_at(t, at);
@@ -46,7 +47,33 @@ fn serve_record(t: &mut [u8], base: usize, i: usize, year: u64, o: Order, c: Cha
     Ruling::Accepted(c, i)
 }
 
-// Serves a change where none of the body's `used` records is the order's: no record is looked at.
+// What the lines that an order names come to: only a replacement names any.
+fn names_code(t: &[u8], base: usize, n: usize, o: Order, c: Change) -> u8
+    requires { ⌜ base + slotSize * n ≤ length (now t) ⌝ }
+    ensures { λ r. ⌜ r ≡ namesCode c (ordinativo o) (recordsAt (now (t .entry)) base n) ⌝ }
+{
+    match c {
+        Change::Insert => 0,
+        Change::Vary => 0,
+        Change::Annul => 0,
+        Change::Replace => replacing::replace_code(t, base, n, o),
+    }
+}
+
+// The lines that an order names become replaced, all of them judged before.
+fn mark_names(t: &mut [u8], base: usize, n: usize, o: Order, c: Change)
+    requires { ⌜ (base + slotSize * n ≤ length (now t)) × (namesCode c (ordinativo o) (recordsAt (now t) base n) ≡ 0) ⌝ }
+    ensures { λ _. ⌜ now (t .exit) ≡ besidesPut (now (t .entry)) base n (ordinativo o) c ⌝ }
+{
+    match c {
+        Change::Insert => {}
+        Change::Vary => {}
+        Change::Annul => {}
+        Change::Replace => replacing::mark_lines(t, base, n, o),
+    }
+}
+
+// Serves a change where none of the body's `used` records is the order's: no record is looked at but those that a replacement names.
 fn serve_absent(
     t: &mut [u8],
     base: usize,
@@ -57,21 +84,25 @@ fn serve_absent(
     c: Change,
 ) -> Ruling
     requires { ⌜ base + slotSize * n ≤ length (now t) ⌝ }
-    ensures { λ j. ⌜ Ruled (now (t .entry)) base year (ordinativo o) (onNone c used n) j (now (t .exit)) ⌝ }
+    ensures { λ j. ⌜ Ruled (orderStored (now (t .entry)) base n year (ordinativo o))
+        (onNone c (namesCode c (ordinativo o) (recordsAt (now (t .entry)) base n)) used n) j (now (t .exit)) ⌝ }
 {
-    let code = rules::absent_code(c, used, n);
+    let named = names_code(t, base, n, o, c);
+    let code = rules::absent_code(c, named, used, n);
     if code != 0 {
         return Ruling::Refused(code);
     }
-    record::put_record(t, base + record::SLOT * used, rules::inserted_by(year, o));
+    mark_names(t, base, n, o, c);
+    record::put_record(t, base + record::SLOT * used, rules::new_record(year, o, c));
     Ruling::Accepted(c, used)
 }
 
 // Serves an order that asks for a change: its lines, then one search for its key, which tells the steps too.
 fn serve_change(t: &mut [u8], base: usize, n: usize, year: u64, o: Order, c: Change) -> Counted
     requires { ⌜ base + slotSize * n ≤ length (now t) ⌝ }
-    ensures { λ j. ⌜ Ruled (now (t .entry)) base year (ordinativo o) (judgeChange n year (ordinativo o) (recordsAt (now (t .entry)) base n) c) (j .ruling) (now (t .exit))
-        × (j .steps ≡ stepsSearched year (ordinativo o) (recordsAt (now (t .entry)) base n)) ⌝ }
+    ensures { λ j. ⌜ Ruled (orderStored (now (t .entry)) base n year (ordinativo o))
+        (judgeChange n year (ordinativo o) (recordsAt (now (t .entry)) base n) c) (j .ruling) (now (t .exit))
+        × (j .steps ≡ stepsOf year (ordinativo o) (recordsAt (now (t .entry)) base n)) ⌝ }
 {
     let ls = o.lines;
     let code = lines::check_lines(ls, o.total);
@@ -109,10 +140,7 @@ pub fn serve_order(t: &mut [u8], base: usize, n: usize, year: u64, o: Order) -> 
         Operation::Inserimento => serve_change(t, base, n, year, o, Change::Insert),
         Operation::Variazione => serve_change(t, base, n, year, o, Change::Vary),
         Operation::Annullo => serve_change(t, base, n, year, o, Change::Annul),
-        Operation::Sostituzione => Counted {
-            ruling: Ruling::Refused(11),
-            steps: 0,
-        },
+        Operation::Sostituzione => serve_change(t, base, n, year, o, Change::Replace),
     }
 }
 

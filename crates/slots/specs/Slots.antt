@@ -1,10 +1,10 @@
 -- The records of a body's slots (document 01, "The table").
-use Prim.Native.Nat.{ℕ, zero, suc, _+_}
+use Prim.Native.Nat.{ℕ, zero, suc, _+_, _-_, _*_}
 use mathlib.Core.Bool.{Bool, true, _&&_, cond}
 use mathlib.Core.List.{List, [], _∷_}
 use lib.ListN.{getD}
 use lib.Dec.{eqb}
-use Rattle.record.specs.Slot.{slotSize, recordAt, keyIs, keyOf}
+use Rattle.record.specs.Slot.{slotSize, statesOffset, recordAt, keyIs, keyOf}
 use Rattle.record.specs.declared.Record.{Record}
 use Rattle.record.specs.declared.Key.{Key}
 use Rattle.ranges.specs.Ranges.{isNothing}
@@ -26,6 +26,18 @@ slotsAt t at (suc n) = recordAt t at ∷ slotsAt t (at + slotSize) n
 -- the records of a body that has n slots from `at` on
 abbrev pub recordsAt : List ℕ → ℕ → ℕ → List Record
 recordsAt t at n = slotsAt t at (usedAt t at n)
+
+-- no record, an empty slot's: nothing ever looks past the last one
+abbrev pub noRecord : Record
+noRecord = recordAt [] 0
+
+-- the record at an index of a body's records
+abbrev pub nth : List Record → ℕ → Record
+nth rs i = getD rs i noRecord
+
+-- where the state of line `line`, counted from 1, of the record at index i stands, of a body whose slots begin at base: "24-31 eight line states"
+abbrev pub statePlace : ℕ → ℕ → ℕ → ℕ
+statePlace base i line = base + slotSize * i + statesOffset + (line - 1)
 
 -- THE SEARCH
 

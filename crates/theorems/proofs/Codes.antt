@@ -19,17 +19,19 @@ use Rattle.days.specs.Days.{served}
 use Rattle.target_days.specs.Target.{closing, targetCode}
 use Rattle.record.specs.declared.Key.{Key}
 use Rattle.record.specs.declared.Record.{Record}
-use Rattle.slots.specs.Slots.{findIn, recordsAt}
+use Rattle.slots.specs.Slots.{findIn, recordsAt, nth}
 use Rattle.lines.specs.Lines.{numberedFrom, sumOf, lineCode}
+use Rattle.replacing.specs.declared.Naming.{Naming}
+use Rattle.replacing.specs.Replacing.{namings, lineNamedIn, namedAt, namedCode, withReplaced, firstCode, replaceCode}
 use Rattle.rules.specs.declared.Situation.{Situation}
 use Rattle.rules.specs.declared.Situation.the-variants.{Absent, Annulled, Waiting, Executed}
 use Rattle.rules.specs.declared.Change.{Change}
-use Rattle.rules.specs.declared.Change.the-variants.{Insert, Vary, Annul}
+use Rattle.rules.specs.declared.Change.the-variants.{Insert, Vary, Annul, Replace}
 use Rattle.rules.specs.declared.Ruling.{Ruling}
 use Rattle.rules.specs.declared.Ruling.the-variants.{Accepted, Refused}
 use Rattle.rules.specs.declared.Noticed.{Noticed}
 use Rattle.rules.specs.declared.Noticed.the-variants.{Moved, Unmoved}
-use Rattle.rules.specs.Rules.{asksOf, situationOf, stepCode, nth, sameOrder, placed, unless, stepped, judgeChange, judgeAsked, keyFor, judgeOrder, orderCode, lineMoves, noticeIn, noticeAt, judgeNotice, noticeCode}
+use Rattle.rules.specs.Rules.{changeOf, situationOf, stepCode, sameOrder, placed, unless, stepped, judgeChange, keyFor, judgeOrder, orderCode, lineMoves, noticeIn, noticeAt, judgeNotice, noticeCode}
 use Rattle.service.specs.Service.{noticeComes}
 use Rattle.address.specs.declared.Addressed.{Addressed}
 use Rattle.address.specs.declared.Addressed.the-variants.{Invalid, Unknown, Body}
@@ -89,6 +91,34 @@ step-coded Annul Absent = inr refl
 step-coded Annul Annulled = inr refl
 step-coded Annul Waiting = inl refl
 step-coded Annul Executed = inr refl
+step-coded Replace Absent = inl refl
+step-coded Replace Annulled = inr refl
+step-coded Replace Waiting = inr refl
+step-coded Replace Executed = inr refl
+
+-- the lines that a replacement names
+named-coded : (rs : List Record) (m : Naming) → Or orderRefusals (namedCode rs m)
+unfolding namedCode namedAt lineNamedIn
+named-coded rs m = at (findIn rs 0 (m .key))
+  where
+    in-record : (a b c : Bool) → Or orderRefusals (cond a (cond b (cond c 0 26) 25) 24)
+    in-record false b c = inr refl
+    in-record true false c = inr refl
+    in-record true true false = inr refl
+    in-record true true true = inl refl
+
+    at : (f : Found) → Or orderRefusals (namedAt rs m f)
+    at Nothing = inr refl
+    at (At i) = in-record (leb 1 (m .line) && leb (m .line) (nth rs i .lines)) (eqb (getD (nth rs i .states) (m .line - 1) 0) 2) (eqb (getD (nth rs i .amounts) (m .line - 1) 0) (m .amount))
+
+first-coded : (c n : ℕ) → Or orderRefusals c → Or orderRefusals n → Or orderRefusals (firstCode c n)
+first-coded zero n h k = k
+first-coded (suc c) n h k = h
+
+names-coded : (rs : List Record) (ms : List Naming) → Or orderRefusals (replaceCode rs ms)
+unfolding replaceCode
+names-coded rs [] = inl refl
+names-coded rs (m ∷ ms) = first-coded (namedCode rs m) _ (named-coded rs m) (names-coded (withReplaced rs m) ms)
 
 or-else : (b : Bool) (c : Change) (i code : ℕ) → oneOf orderRefusals code ≡ true → Coded (cond b (Accepted c i) (Refused code))
 or-else true c i code e = tt
@@ -97,6 +127,8 @@ or-else false c i code e = e
 placed-coded : (slots : ℕ) (o : Ordinativo) (rs : List Record) (c : Change) (f : Found) → Coded (placed slots o rs c f)
 unfolding placed
 placed-coded slots o rs Insert f = or-else (ltb (length rs) slots) Insert (length rs) 15 refl
+placed-coded slots o rs Replace f =
+    unless-coded (replaceCode rs (namings o)) _ (names-coded rs (namings o)) (or-else (ltb (length rs) slots) Replace (length rs) 15 refl)
 placed-coded slots o rs Vary (At i) = tt
 placed-coded slots o rs Vary Nothing = refl
 placed-coded slots o rs Annul (At i) = or-else (sameOrder o (nth rs i)) Annul i 19 refl
@@ -111,13 +143,7 @@ change-coded slots year o rs c =
 
 pub order-coded : (slots year : ℕ) (o : Ordinativo) (rs : List Record) → Coded (judgeOrder slots year o rs)
 unfolding judgeOrder
-order-coded slots year o rs = go (o .operation)
-  where
-    go : (p : Operation) → Coded (judgeAsked slots year o rs (asksOf p))
-    go Inserimento = change-coded slots year o rs Insert
-    go Variazione = change-coded slots year o rs Vary
-    go Annullo = change-coded slots year o rs Annul
-    go Sostituzione = refl
+order-coded slots year o rs = change-coded slots year o rs (changeOf (o .operation))
 
 -- so an outcome's code is 0 where the order is accepted, and there alone
 pub never-zero : (j : Ruling) → Coded j → (orderCode j ≡ 0 → (c : Change) × (i : ℕ) × (j ≡ Accepted c i))

@@ -32,10 +32,10 @@ use Rattle.theorems.proofs.Steps.{answer, after, steps}
 use Rattle.theorems.proofs.Codes.{open-codes, call-codes, flow-causes}
 use Rattle.theorems.proofs.Accepted.{outcomes-coded}
 
-stored : (t : List ℕ) (base year : ℕ) (o : Ordinativo) (j : Ruling) → (orderCode j ≡ 0 → ⊥) → orderStored t base year o j ≡ t
+stored : (t : List ℕ) (base n year : ℕ) (o : Ordinativo) (j : Ruling) → (orderCode j ≡ 0 → ⊥) → orderStored t base n year o j ≡ t
 unfolding orderStored
-stored t base year o (Accepted c i) f = absurd (f refl)
-stored t base year o (Refused c) f = refl
+stored t base n year o (Accepted c i) f = absurd (f refl)
+stored t base n year o (Refused c) f = refl
 
 moved : (t : List ℕ) (e base n : ℕ) (executing : Bool) (line : ℕ) (m : Noticed) → (noticeCodeOf (noticed m) ≡ 0 → ⊥) → noticeStored t e base n executing line m ≡ t
 unfolding noticeStored
@@ -106,7 +106,7 @@ condition1 = record {
   cause-numbered = λ t ed f out a t′ out′ p. flow-causes a;
   answered = λ c t. (answer c t, after c t, steps c t);
   refused-flow = λ t ed f out a t′ out′ p h. code-keeps t ed f out h p;
-  refused-order = λ t base n year o. stored t base year o (orderComes t base n year o);
+  refused-order = λ t base n year o. stored t base n year o (orderComes t base n year o);
   refused-notice = λ t executing code k line d a t′ p f.
       p .1 ∙ dated-keeps t executing k line (addressed t code) (targetCode d) (λ e. f (ap noticeCodeOf (p .0) ∙ e));
   refused-opening = λ q t a t′ p f. p .1 ∙ opening-keeps q t a f;

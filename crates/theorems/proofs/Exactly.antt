@@ -13,7 +13,7 @@ use Rattle.ranges.specs.declared.Found.{Found}
 use Rattle.ranges.specs.declared.Found.the-variants.{At, Nothing}
 use Rattle.record.specs.declared.Key.{Key}
 use Rattle.record.specs.declared.Record.{Record}
-use Rattle.slots.specs.Slots.{recordsAt, findIn, distinct}
+use Rattle.slots.specs.Slots.{recordsAt, findIn, distinct, nth, noRecord}
 use Rattle.slots.proofs.Search.{found-key}
 use Rattle.body.specs.Body.{bodyOk}
 use Rattle.body.proofs.Slots.{parts, valid-at}
@@ -23,10 +23,10 @@ use Rattle.rules.specs.declared.Ruling.{Ruling}
 use Rattle.rules.specs.declared.Ruling.the-variants.{Accepted, Refused}
 use Rattle.rules.specs.declared.Noticed.{Noticed}
 use Rattle.rules.specs.declared.Noticed.the-variants.{Moved, Unmoved}
-use Rattle.rules.specs.Rules.{nth, noRecord, judgeOrder, orderCode, noticeAt, judgeNotice, noticeCode}
-use Rattle.rules.specs.Listed.{Applies, turn, NoticeApplies, unknown, closed, zeroth, past, already, notYet, noticeTurn}
-use Rattle.rules.proofs.Listed.{refused-applies, applies-by, accepted-none, one-in-turn, unmoved-applies, notice-by, moved-none, one-notice-in-turn}
-use Rattle.service.proofs.Laws.{search-held}
+use Rattle.rules.specs.Rules.{judgeOrder, orderCode, noticeAt, judgeNotice, noticeCode}
+use Rattle.rules.specs.Listed.{Applies, NoticeApplies, unknown, closed, zeroth, past, already, notYet, noticeTurn}
+use Rattle.rules.proofs.Listed.{Stop, Decided, taken, stopped, decide, one-in-turn, unmoved-applies, notice-by, moved-none, one-notice-in-turn}
+use Rattle.slots.proofs.Held.{search-held}
 use Rattle.service.specs.Service.{orderComes, noticeComes, noticeStored}
 use Rattle.address.specs.declared.Addressed.the-variants.{Body}
 use Rattle.address.specs.Address.{addressed}
@@ -38,7 +38,7 @@ use Rattle.target_days.specs.Target.{targetCode}
 use Rattle.notices.specs.Notices.{noticed, noticeBy, noticeTableBy, NoticePromise, noticeCodeOf}
 use Rattle.notices.proofs.Laws.{only-target}
 use Rattle.theorems.proofs.Codes.{order-coded, never-zero, noticed-code}
-use Rattle.theorems.specs.Condition2.{Exactly, None, InTurn, Strange, kind, number}
+use Rattle.theorems.specs.Condition2.{Exactly, None, NoneListed, FirstListed, InTurn, Strange, kind, number}
 
 -- a record that a search found is valid
 pub found-valid : (t : List ℕ) (at n : ℕ) → bodyOk t at n ≡ true → (k : Key) (i : ℕ) → findIn (recordsAt t at n) 0 k ≡ At i → Valid (nth (recordsAt t at n) i)
@@ -55,35 +55,34 @@ module _ (t : List ℕ) (base n : ℕ) (ok : bodyOk t base n ≡ true) where
 
   -- AN ORDER
   module _ (year : ℕ) (o : Ordinativo) where
-    pub order-exactly : Exactly (orderCode (orderComes t base n year o) ≡ 0) (None (Applies n year o records))
+    pub order-exactly : Exactly (orderCode (orderComes t base n year o) ≡ 0) (NoneListed (Applies n year o records))
     unfolding orderComes
-    order-exactly = (taken, λ h. go h (judgeOrder n year o records) refl)
+    order-exactly = (λ z. clear (decide n year o records apart) z, λ h. free h (decide n year o records apart))
       where
-        taken : orderCode (judgeOrder n year o records) ≡ 0 → None (Applies n year o records)
-        taken z c a = let w = never-zero (judgeOrder n year o records) (order-coded n year o records) z in accepted-none n year o records apart (w .2) a
+        clear : Decided n year o records apart → orderCode (judgeOrder n year o records) ≡ 0 → NoneListed (Applies n year o records)
+        clear (taken c i e none) z = none
+        clear (stopped s) z =
+            let w = never-zero (judgeOrder n year o records) (order-coded n year o records) z in
+            let y : _≡_ {A = ℕ} 0 1 = cc (w .2, s .is) in
+            absurd (omega arith)
 
-        go : None (Applies n year o records) → (j : Ruling) → judgeOrder n year o records ≡ j → orderCode j ≡ 0
-        go h (Accepted c i) e = refl
-        go h (Refused code) e = absurd (h code (refused-applies n year o records code e))
+        free : NoneListed (Applies n year o records) → Decided n year o records apart → orderCode (judgeOrder n year o records) ≡ 0
+        free h (taken c i e none) = ap orderCode e
+        free h (stopped s) = absurd (h (s .turn) (s .with) (s .applies))
 
-    order-refused : (orderCode (orderComes t base n year o) ≡ 0 → ⊥) → InTurn turn (Applies n year o records) (orderCode (orderComes t base n year o))
+    pub order-answer : (c : ℕ) → (c ≡ 0 → ⊥) → Exactly (orderCode (orderComes t base n year o) ≡ c) (FirstListed (Applies n year o records) c)
     unfolding orderComes
-    order-refused h = go (judgeOrder n year o records) refl h
+    order-answer c h = (λ e. gives (decide n year o records apart) e, λ x. given x (decide n year o records apart))
       where
-        go : (j : Ruling) → judgeOrder n year o records ≡ j → (orderCode j ≡ 0 → ⊥) → InTurn turn (Applies n year o records) (orderCode j)
-        go (Accepted c i) e h = absurd (h refl)
-        go (Refused code) e h = (
-          refused-applies n year o records code e,
-          λ c a. let b = applies-by n year o records apart a in let q : b .code ≡ code = cc (b .is) in omega (arith, b .soon, ap turn q),
-        )
+        gives : Decided n year o records apart → orderCode (judgeOrder n year o records) ≡ c → FirstListed (Applies n year o records) c
+        gives (taken d i e none) q = absurd (h (sym q ∙ ap orderCode e))
+        gives (stopped s) q = (s .turn, subst (Applies n year o records (s .turn)) (sym (ap orderCode (s .is)) ∙ q) (s .applies), λ u x a. s .first a)
 
-    pub order-answer : (c : ℕ) → (c ≡ 0 → ⊥) → Exactly (orderCode (orderComes t base n year o) ≡ c) (InTurn turn (Applies n year o records) c)
-    order-answer c h = (λ e. subst (InTurn turn (Applies n year o records)) e (order-refused (λ z. h (sym e ∙ z))), given)
-      where
-        given : InTurn turn (Applies n year o records) c → orderCode (orderComes t base n year o) ≡ c
-        given x =
-            let y = order-refused (λ z. order-exactly .0 z c (x .0)) in
-            one-in-turn n year o records apart (y .0) (x .0) (omega (arith, y .1 c (x .0), x .1 (orderCode (orderComes t base n year o)) (y .0)))
+        given : FirstListed (Applies n year o records) c → Decided n year o records apart → orderCode (judgeOrder n year o records) ≡ c
+        given x (taken d i e none) = absurd (none (x .0) c (x .1))
+        given x (stopped s) =
+            let q : s .turn ≡ x .0 = omega (arith, s .first (x .1), x .2 (s .turn) (s .with) (s .applies)) in
+            ap orderCode (s .is) ∙ one-in-turn n year o records apart (subst (λ (u : ℕ). Applies n year o records u (s .with)) q (s .applies)) (x .1)
 
   -- A NOTICE on the body
   module _ (executing : Bool) (k : Key) (line : ℕ) where

@@ -23,7 +23,7 @@ use Rattle.table.proofs.Laws.{entry, lay-split, head, table}
 use Rattle.table.proofs.Bodies.{body-at, apart}
 use Rattle.table.proofs.Kept.{Contents, Own, first, later, same-bodies, same-abi, same-find, same-slots, same-place, same-table}
 use Rattle.contents.proofs.Laws.{length-part}
-use Rattle.rules.proofs.Kept.{split}
+use Rattle.valid.proofs.Moved.{split}
 use Rattle.service.specs.Inner.{Served}
 use Rattle.service.proofs.Kept.{Kept}
 use Rattle.service.proofs.Totals.{agrees-is, is-agrees, kept-same, Settled, kept-settled}

@@ -23,8 +23,7 @@ use Rattle.flow.specs.declared.Verdict.the-variants.{MarkupBreaks, StructureBre
 use Rattle.flow.specs.Flow.{verdictOf, headerOf, flowOrders}
 use Rattle.flow.proofs.Laws.{flow-stood}
 use Rattle.flow.proofs.Values.{OrderOk, Each, orders-ok, header-ok}
-use Rattle.rules.proofs.Kept.{Writable}
-use Rattle.service.proofs.Kept.{Writables, none, more}
+use Rattle.rules.proofs.Kept.{Writable, Writables, none, more}
 use Rattle.address.specs.declared.Addressed.the-variants.{Unknown, Body}
 use Rattle.address.specs.Address.{bodyAt, bodyNamed, addressed}
 use Rattle.desk.specs.declared.FlowAnswer.{FlowAnswer}

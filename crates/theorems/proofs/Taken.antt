@@ -31,13 +31,14 @@ use Rattle.rules.specs.Listed.{Applies}
 use Rattle.rules.specs.Searches.{stepsOf}
 use Rattle.service.specs.Service.{orderComes, orderLeaves, outcomeSize, allLeave, allSteps}
 use Rattle.service.proofs.Searches.{all-most}
-use Rattle.service.proofs.Kept.{Writables, none, more, order-kept, order-records, all-kept, all-records}
+use Rattle.rules.proofs.Kept.{Writables, none, more}
+use Rattle.service.proofs.Kept.{order-kept, order-records, all-kept, all-records}
 use Rattle.desk.specs.declared.FlowAnswer.{FlowAnswer}
 use Rattle.desk.specs.declared.FlowAnswer.the-variants.{InvalidTable, UnknownEdition, TooLong, BrokenMarkup, BrokenStructure, BrokenField, OtherBank, UnknownBody, NoRoom}
 use Rattle.desk.specs.Desk.{Reading, refused, served, maxFlow, flowReads, flowAnswer, FlowPromise, flowCode, flowReply}
 use Rattle.theorems.specs.Engine.{bodyRecords}
 use Rattle.theorems.specs.Codes.{outcomeCodes}
-use Rattle.theorems.specs.Condition2.{codesInTurn, stepsInTurn, Exactly, None, Taken}
+use Rattle.theorems.specs.Condition2.{codesInTurn, stepsInTurn, Exactly, NoneListed, Taken}
 use Rattle.theorems.proofs.Accepted.{codesOn, orders-in-turn}
 use Rattle.theorems.proofs.Exactly.{order-exactly}
 use Rattle.theorems.proofs.Named.{writables}
@@ -66,7 +67,7 @@ module _ (base n year : ℕ) (y : (2000 ≤ year) × (year ≤ 2099)) where
       (steps-over (orderLeaves t base n year o) os (omega (arith, k .long)) (k .ok) ws ∙ ap (stepsInTurn n year os) (order-records t base n year o fits ok w y))
 
   exactly-then : (t : List ℕ) (before : List Ordinativo) (o : Ordinativo) → base + slotSize * n ≤ length t → bodyOk t base n ≡ true → Writables before
-      → Exactly (orderCode (judgeOrder n year o (allRecords n year before (recordsAt t base n))) ≡ 0) (None (Applies n year o (allRecords n year before (recordsAt t base n))))
+      → Exactly (orderCode (judgeOrder n year o (allRecords n year before (recordsAt t base n))) ≡ 0) (NoneListed (Applies n year o (allRecords n year before (recordsAt t base n))))
   unfolding orderComes
   exactly-then t before o fits ok ws =
       let k = all-kept t base n year before fits ok ws y in

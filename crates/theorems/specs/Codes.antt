@@ -59,9 +59,10 @@ callCodes c = 1 ∷ (strayCodes c ++ bodyCodes c)
 abbrev pub causesWith : ℕ → List ℕ
 causesWith code = cond (eqb code 5) (1 ∷ 2 ∷ 3 ∷ 4 ∷ []) (0 ∷ [])
 
--- AN ORDER: "11 SOSTITUZIONE; 12 ..; 13 ..; then the step table ..; then 19 .. or 15 ..; else 0"
+-- AN ORDER: "12 ..; 13 ..; then the step table ..; then 19 .. or 15 ..; else 0", and (document 02, Req 07) "11 is given no more; .. 24 named line absent,
+-- 25 not executed or already replaced, .. 26 other amount"
 abbrev pub orderRefusals : List ℕ
-orderRefusals = 11 ∷ 12 ∷ 13 ∷ 14 ∷ 15 ∷ 16 ∷ 17 ∷ 18 ∷ 19 ∷ []
+orderRefusals = 12 ∷ 13 ∷ 14 ∷ 15 ∷ 16 ∷ 17 ∷ 18 ∷ 19 ∷ 24 ∷ 25 ∷ 26 ∷ []
 
 abbrev pub orderCodes : List ℕ
 orderCodes = 0 ∷ orderRefusals

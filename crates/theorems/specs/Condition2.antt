@@ -28,7 +28,7 @@ use Rattle.rules.specs.Rules.{orderCode, judgeOrder, judgeNotice}
 use Rattle.rules.specs.declared.Ruling.{Ruling}
 use Rattle.rules.specs.Effects.{recordsBy, allRecords, recordsMoved}
 use Rattle.rules.specs.Searches.{stepsOf}
-use Rattle.rules.specs.Listed.{Applies, turn, NoticeApplies, noticeTurn}
+use Rattle.rules.specs.Listed.{Applies, NoticeApplies, noticeTurn}
 use Rattle.service.specs.Service.{orderComes}
 use Rattle.notices.specs.declared.NoticeAnswer.{NoticeAnswer}
 use Rattle.notices.specs.declared.NoticeAnswer.the-variants.{InvalidTable, WrongDay, UnknownBody, Declined}
@@ -69,6 +69,13 @@ Exactly a b = (a → b) × (b → a)
 abbrev pub None : (ℕ → Type 0) → Type 0
 None applies = (c : ℕ) → applies c → ⊥
 
+-- the same of refusals that have a turn and a code: none applies; this code's applies, none that applies having an earlier turn
+abbrev pub NoneListed : (ℕ → ℕ → Type 0) → Type 0
+NoneListed applies = (t c : ℕ) → applies t c → ⊥
+
+abbrev pub FirstListed : (ℕ → ℕ → Type 0) → ℕ → Type 0
+FirstListed applies code = (t : ℕ) × applies t code × ((u c : ℕ) → applies u c → t ≤ u)
+
 -- a refusal that applies, none that applies having an earlier turn
 abbrev pub InTurn : (ℕ → ℕ) → (ℕ → Type 0) → ℕ → Type 0
 InTurn turn applies code = applies code × ((c : ℕ) → applies c → turn code ≤ turn c)
@@ -107,7 +114,7 @@ pub record Taken (t : List ℕ) (ed : ℕ) (f : List ℕ) (a : FlowAnswer) (t′
   -- "An order is accepted exactly when no listed refusal applies", on what the orders before it left
   pub exactly : (before : List Ordinativo) (o : Ordinativo) (after : List Ordinativo) → flowOrders edition f at ≡ before ++ (o ∷ after)
       → let rs = allRecords (slotsOf t (entryOf body)) (headerOf edition f at .esercizio) before (bodyRecords body t) in
-      Exactly (orderCode (judgeOrder (slotsOf t (entryOf body)) (headerOf edition f at .esercizio) o rs) ≡ 0) (None (Applies (slotsOf t (entryOf body)) (headerOf edition f at .esercizio) o rs))
+      Exactly (orderCode (judgeOrder (slotsOf t (entryOf body)) (headerOf edition f at .esercizio) o rs) ≡ 0) (NoneListed (Applies (slotsOf t (entryOf body)) (headerOf edition f at .esercizio) o rs))
 
 pub record Condition2 : Type 0 where
   -- "A flow is read as the profile in document 01 says": of any bytes and either edition, by grammar, tree, schema and fields alone (crates/tree/specs/Flow)
@@ -129,9 +136,9 @@ pub record Condition2 : Type 0 where
       recordsAt t′ (placeOf t (entryOf b)) (slotsOf t (entryOf b)) ≡ recordsMoved executing line (bodyRecords b t) (judgeNotice executing k line (bodyRecords b t)))
   -- "An order is accepted exactly when no listed refusal applies." (What each says: rules/specs/Listed.) Its code is another exactly when that refusal
   -- is the first that does
-  pub exactly : EachOrder (λ t b year o. Exactly (orderCode (comesTo t b year o) ≡ 0) (None (Applies (slotsOf t (entryOf b)) year o (bodyRecords b t))))
+  pub exactly : EachOrder (λ t b year o. Exactly (orderCode (comesTo t b year o) ≡ 0) (NoneListed (Applies (slotsOf t (entryOf b)) year o (bodyRecords b t))))
   pub answer : EachOrder (λ t b year o. (c : ℕ) → (c ≡ 0 → ⊥)
-      → Exactly (orderCode (comesTo t b year o) ≡ c) (InTurn turn (Applies (slotsOf t (entryOf b)) year o (bodyRecords b t)) c))
+      → Exactly (orderCode (comesTo t b year o) ≡ c) (FirstListed (Applies (slotsOf t (entryOf b)) year o (bodyRecords b t)) c))
   -- and so is a notice
   pub notice-exactly : EachNotice (λ t b executing k line a t′. Exactly (noticeCodeOf a ≡ 0) (None (NoticeApplies executing k line (bodyRecords b t))))
   pub notice-answer : EachNotice (λ t b executing k line a t′. (c : ℕ) → (c ≡ 0 → ⊥)

@@ -40,7 +40,7 @@ each-one u (each-next {t = t} {a = a} x xs) (each-next {a = b} y ys) = let e = u
 
 module _ (w : Words) where
   line-one : (t : Tree) (l m : Line) → LineIn w t l → LineIn w t m → l ≡ m
-  line-one t l m a b = λ i. record { progressivo = number-one (a .progressivo) (b .progressivo) i; amount = number-one (a .amount) (b .amount) i }
+  line-one t l m a b = λ i. record { progressivo = number-one (a .progressivo) (b .progressivo) i; amount = number-one (a .amount) (b .amount) i; named = (a .named ∙ sym (b .named)) i }
 
   order-one : (t : Tree) (o q : Ordinativo) → OrderIn w t o → OrderIn w t q → o ≡ q
   order-one t o q a b =

@@ -34,14 +34,14 @@ use Rattle.rows.specs.declared.Holds.the-variants.{Text, Rows}
 use Rattle.rows.specs.declared.Spot.the-variants.{At, Passed}
 use Rattle.rows.specs.Table.{_is_, Row, once, many, table}
 use Rattle.structure.specs.Structure.{Range, ranges, takes, isRow, inOrder}
-use Rattle.orders.specs.Orders.{valueOf, dateOf, operationOf, noLine, eight}
+use Rattle.orders.specs.Orders.{valueOf, dateOf, operationOf, eight}
 use Rattle.editions.specs.declared.Edition.{Edition}
 use Rattle.editions.specs.declared.Edition.the-variants.{Oil, Opi}
 use Rattle.header.specs.Header.{rootOf}
 use Rattle.flow.proofs.Values.{ordersRow}
 use Rattle.tree.specs.Tree.{Tree, tree, says, holds, Trees, none, more, nameOf, heldOf, kidsIn}
 use Rattle.tree.specs.Orders.{childrenNamed, firstText, textNamed, OneText, OneHolds, OneValue, Each, each-none, each-next, HeaderIn, Words, mandatoWords, reversaleWords, joined, LineIn, OrderIn, AnOrder, OrdersIn}
-use Rattle.order.specs.Ordinativo.{Ordinativo, ordinativo}
+use Rattle.order.specs.Ordinativo.{Ordinativo, ordinativo, noLine}
 use Rattle.tree.proofs.Levels.{KeptTree, keepTree, keptTrees, rowsOfTrees, allTrees, keptFits, fitsTree, fieldsHeld, fieldsOfTrees, fieldsTree, firstKids, headerTree, lineTree, linesTree, orderTree, ordersTree, inPlaces, allInPlaces}
 use Rattle.tree.proofs.Names.{text-same, HasRow, has-names, inRowTrees, pick, asKept, row-picked}
 use Rattle.tree.proofs.Orders.{one-name, all-row, Spelled, spelled-mandato, spelled-reversale, orderNames, order-names}
@@ -275,6 +275,7 @@ module _ (p q : Parent) (w : Words) (sp : Spelled p q w) where
   line-in d t r = record {
     progressivo = progressivo-of (joined "progressivo_" (w .party)) (kidsIn (heldOf t)) (text-of d q (kidsIn (heldOf t)) r 0 (joined "progressivo_" (w .party)) _ (sp .progressivo));
     amount = importo-of (joined "importo_" (w .party)) (kidsIn (heldOf t)) (text-of d q (kidsIn (heldOf t)) r 1 (joined "importo_" (w .party)) _ (sp .amount));
+    named = refl;
   }
 
   lines-in : (d n : ℕ) (l : List Tree) → allTrees (right (suc d)) (asKept n (Rows q) l) ≡ true → Each (LineIn w) l (linesTree w l)

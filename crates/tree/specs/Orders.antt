@@ -16,7 +16,7 @@ use Rattle.dates.specs.declared.Day.the-variants.{On}
 use Rattle.dates.specs.Dates.{dataOf}
 use Rattle.record.specs.Slot.{mandatoKind, reversaleKind}
 use Rattle.order.specs.declared.Line.{Line}
-use Rattle.order.specs.Ordinativo.{Ordinativo}
+use Rattle.order.specs.Ordinativo.{noName, Ordinativo}
 use Rattle.editions.specs.declared.Edition.{Edition}
 use Rattle.editions.specs.declared.Edition.the-variants.{Oil, Opi}
 use Rattle.header.specs.Header.{Header}
@@ -100,6 +100,7 @@ joined (String._∷_ c x) y = String._∷_ c (joined x y)
 pub record LineIn (w : Words) (t : Tree) (l : Line) : Type 0 where
   pub progressivo : OneValue (joined "progressivo_" (w .party)) progressivo (kidsIn (heldOf t)) (Value (l .progressivo))
   pub amount : OneValue (joined "importo_" (w .party)) importo (kidsIn (heldOf t)) (Value (l .amount))
+  pub named : l .named ≡ noName
 
 pub record OrderIn (w : Words) (t : Tree) (o : Ordinativo) : Type 0 where
   pub name : nameOf t ≡ bytes (w .name)

@@ -1,3 +1,4 @@
 pub mod Laws
 pub mod Valid
 pub mod Lines
+pub mod Moved

@@ -8,11 +8,11 @@ use Rattle.scan.specs.Bytes.{between}
 use Rattle.bounds.specs.Bounds.{isYear, isNumero, maxCents}
 use Rattle.calendar.specs.Calendar.{isDate}
 use Rattle.record.specs.declared.Record.{Record}
-use Rattle.record.specs.Slot.{mandatoKind, reversaleKind, acquiredState, annulledState, waitingLine, executedLine}
+use Rattle.record.specs.Slot.{mandatoKind, reversaleKind, acquiredState, annulledState, waitingLine, executedLine, replacedLine}
 
--- a line that is there is waiting or executed; "an annulled order has every line waiting"
+-- a line that is there is waiting, executed or (document 02, Req 07) replaced; "an annulled order has every line waiting"
 unfoldable pub lineThere : Bool → ℕ → ℕ → Bool
-lineThere annulled state amount = between waitingLine (cond annulled waitingLine executedLine) state && leb amount maxCents
+lineThere annulled state amount = between waitingLine (cond annulled waitingLine replacedLine) state && leb amount maxCents
 
 -- "lines that aren't there have state and amount zero"
 unfoldable pub lineAbsent : ℕ → ℕ → Bool

@@ -10,7 +10,7 @@ ghost use lib.ListN.{length, getD, drop};
 ghost use lib.Dec.{eqb};
 ghost use Rattle.words.specs.Numbers.{be8};
 ghost use Rattle.calendar.specs.Calendar.{isDate};
-ghost use Rattle.record.specs.Slot.{slotSize, statesOffset, amountsOffset, dateAt, recordAt};
+ghost use Rattle.record.specs.Slot.{slotSize, waitingLine, replacedLine, statesOffset, amountsOffset, dateAt, recordAt};
 ghost use Rattle.valid.specs.Valid.{lineThere, lineAbsent, lineOk, allFrom, sum, rangesOk, executed};
 ghost use Rattle.valid.specs.Inner.{told, judged};
 
@@ -21,12 +21,12 @@ pub enum Judged {
 }
 
 fn top_state(annulled: bool) -> u8
-    ensures { λ r. ⌜ r ≡ cond annulled 1 2 ⌝ }
+    ensures { λ r. ⌜ r ≡ cond annulled waitingLine replacedLine ⌝ }
 {
     if annulled {
         record::WAITING
     } else {
-        record::EXECUTED
+        record::REPLACED
     }
 }
 

@@ -12,7 +12,7 @@ use Rattle.scan.specs.Bytes.{bytes}
 use Rattle.scan.proofs.Laws.{both}
 use Rattle.valid.specs.Valid.{lineAbsent, lineOk}
 use Rattle.valid.proofs.Valid.{Valid, ok-line}
-use Rattle.slots.specs.Slots.{recordsAt}
+use Rattle.slots.specs.Slots.{recordsAt, nth}
 use Rattle.body.proofs.Slots.{valid-at}
 use Rattle.entries.specs.Entry.{slotsOf, placeOf}
 use Rattle.table.specs.Table.{tableOk, bodyOf, entryOf}
@@ -38,11 +38,11 @@ use Rattle.flow.specs.declared.Verdict.{Verdict}
 use Rattle.fields.specs.declared.Cause.{Cause}
 use Rattle.flow.specs.declared.Verdict.the-variants.{FieldBreaks, Stands}
 use Rattle.flow.specs.Flow.{headerOf, flowOrders}
-use Rattle.rules.specs.Listed.{Has, Applies, sostituzione, misnumbered, missummed, present, full, absent, annulled, executed, differs}
-use Rattle.rules.specs.Rules.{keyFor, nth, judgeOrder, orderCode}
+use Rattle.rules.specs.Listed.{Has, Applies, no-order, line-zero, line-past, not-executed, named-before, other-amount, misnumbered, missummed, present, full, absent, annulled, executed, differs}
+use Rattle.rules.specs.Rules.{keyFor, judgeOrder, orderCode}
 use Rattle.rules.specs.Effects.{recordsBy, allRecords}
 use Rattle.service.specs.Service.{outcomeSize, orderComes}
-use Rattle.service.proofs.Laws.{held}
+use Rattle.slots.proofs.Held.{held}
 use Rattle.theorems.specs.Engine.{flow as aFlow, bodyRecords, owned}
 use Rattle.theorems.specs.Codes.{outcomeCodes}
 use Rattle.theorems.specs.Condition2.{codesInTurn}
@@ -75,9 +75,14 @@ breaks-stands : {v : Verdict} {p i : ℕ} {c : Cause} → v ≡ FieldBreaks p c 
 breaks-stands e d = let z : _≡_ {A = ℕ} 0 1 = cc in omega arith
 
 -- "15 (INSERIMENTO: the body has no empty slot)"
-full-body : {slots year c : ℕ} {o : Ordinativo} {rs : List Record} → Applies slots year o rs c → c ≡ 15 → slots ≤ length rs
+full-body : {slots year t c : ℕ} {o : Ordinativo} {rs : List Record} → Applies slots year o rs t c → c ≡ 15 → slots ≤ length rs
 full-body (full p l) e = l
-full-body (sostituzione p) e = absurd (omega arith)
+full-body (no-order p j l h) e = absurd (omega arith)
+full-body (line-zero p j l h) e = absurd (omega arith)
+full-body (line-past p j l r h k) e = absurd (omega arith)
+full-body (not-executed p j l r h n) e = absurd (omega arith)
+full-body (named-before p j l i k q) e = absurd (omega arith)
+full-body (other-amount p j l r h n) e = absurd (omega arith)
 full-body (misnumbered p) e = absurd (omega arith)
 full-body (missummed p) e = absurd (omega arith)
 full-body (present p r h) e = absurd (omega arith)

@@ -5,7 +5,7 @@ use mathlib.Core.List.{List, [], _∷_, _++_}
 use Rattle.scan.specs.Bytes.{bytes}
 use Rattle.codes.specs.declared.Operation.the-variants.{Inserimento}
 use Rattle.opening.specs.Opening.{opened}
-use Rattle.order.specs.Ordinativo.{Ordinativo}
+use Rattle.order.specs.Ordinativo.{noName, Ordinativo}
 use Rattle.header.specs.Header.{Header}
 use Rattle.service.specs.Service.{orderLeaves}
 use Rattle.marked.specs.Flows.{requestOf, sampleTable, mandato, flowOf}
@@ -26,7 +26,7 @@ order n = record {
   number = n;
   date = record { year = 2021; month = 3; day = 1 };
   total = 100;
-  lines = record { progressivo = 1; amount = 100 } ∷ [];
+  lines = record { progressivo = 1; amount = 100; named = noName } ∷ [];
 }
 
 -- TABLES: document 01's after mandato 1 for 000471, and after mandato 1 for 471

@@ -27,7 +27,8 @@ use Rattle.editions.specs.declared.Edited.the-variants.{By}
 use Rattle.editions.specs.Editions.{editionOf}
 use Rattle.flow.specs.declared.Verdict.the-variants.{FieldBreaks, Stands}
 use Rattle.flow.specs.Flow.{verdictOf, headerOf, flowOrders}
-use Rattle.rules.specs.Rules.{keyFor, nth}
+use Rattle.slots.specs.Slots.{nth}
+use Rattle.rules.specs.Rules.{keyFor}
 use Rattle.rules.specs.Effects.{allRecords}
 use Rattle.rules.specs.Listed.{Has, Differs}
 use Rattle.service.specs.Service.{outcomeSize, orderLeaves}

@@ -84,7 +84,7 @@ abbrev stayed : Stays (check-first.ended .signature .params) (check-first.ended 
 stayed = (stay-none (λ _. B) yes, (stay-none (λ _. usize) yes, (stay-none (λ _. u64) yes, tt)))
 
 -- eight lines at most have room
-roomy : (m n : ℕ) → m ≡ n → n ≤ 8 → (m < 2 ^ 64) × (m * 16 < 2 ^ 63)
+roomy : (m n : ℕ) → m ≡ n → n ≤ 8 → (m < 2 ^ 64) × (m * 40 < 2 ^ 63)
 roomy m n e h = (omega arith, omega arith)
 
 module _ {M : Type 1} (𝓤 : URA M) (H : Heap 𝓤) (A : Atoms 𝓤) (mem : Memory → SProp 𝓤) (run : Routine → Fun 𝓤) where
@@ -137,7 +137,7 @@ module _ {M : Type 1} (𝓤 : URA M) (H : Heap 𝓤) (A : Atoms 𝓤) (W : Given
         owned ! B (Is B) (array-makes 𝓤 H A W L.the-row (LL.makes L.the-type L′.the-plain 𝓤 H A) 8) xs _ p $ move ! (5 ∷ 0 ∷ []) $
         use2 W (‵ (partAt B fullShare xs l₄ 0)) (part-in-at 𝓤 H A W B refl fullShare xs l₄ 0 array refl (mach xs)) $
         use1 W (‵ (arr-parts (shares L.the-row) 8 .part fullShare xs l₄ 0)) (array-apart 𝓤 H A W L.the-row fullShare tt 8 xs l₄ 0) $ fsplit ! $ feqL ! (λ len.
-        use1 W (‵ (row L.the-row fullShare (take n xs) l₄ 0) ⊛ ‵ (row L.the-row fullShare (drop n xs) l₄ (place 16 0 n))) (cut 𝓤 H A W L.the-row fullShare l₄ n xs 0) $ split ! $
+        use1 W (‵ (row L.the-row fullShare (take n xs) l₄ 0) ⊛ ‵ (row L.the-row fullShare (drop n xs) l₄ (place 40 0 n))) (cut 𝓤 H A W L.the-row fullShare l₄ n xs 0) $ split ! $
         feqI ! ℕ (length (take n xs)) (length (take n xs)) refl $ fjoin ! $
         rewrite ! 2 (λ (m : ℕ). ‵ (fat fullShare slice l₆ 0 (sliceVal (l₄, 0) m))) (sym (counts len)) refl $
         lft-new ! tt (λ α. move ! (1 ∷ []) $

@@ -51,7 +51,8 @@ use Rattle.lines.specs.Lines.{lineCode}
 use Rattle.lines.specs.Walk.{startOf, stepOf, answerOf}
 use Rattle.order.specs.declared.Line.{Line}
 use Rattle.lines.specs.declared.Tally.{Tally}
-use Rattle.lines.proofs.Laws.{noLine, codeFrom, starts, steps, ends}
+use Rattle.order.specs.Ordinativo.{noLine}
+use Rattle.lines.proofs.Laws.{codeFrom, starts, steps, ends}
 use Rattle.order.proofs.Line as L
 use Rattle.order.proofs.Line.Laws as L′
 use Rattle.lines.proofs.Tally as Y
@@ -95,14 +96,14 @@ slice = sliceTy (tyRef (named 0) imm (pointee (L.the-row .written)))
 
 -- the turn past its test
 abbrev more : Body
-more = seq (assign (place 5 []) (op2 (mul unsigned) (copy (place 4 [])) (int w64 16)))
+more = seq (assign (place 5 []) (op2 (mul unsigned) (copy (place 4 [])) (int w64 40)))
     (seq (assign (place 7 []) (op2 offset (copy (place 1 (field 0 ∷ []))) (copy (place 5 []))))
     (seq (assign (place 8 []) (rvOpd (copy (place 7 (deref line ∷ [])))))
     (seq (call #lines·step (copy (place 3 []) ∷ copy (place 4 []) ∷ copy (place 8 []) ∷ []) (place 3 []))
     (assign (place 4 []) (op2 (add unsigned) (copy (place 4 [])) (int w64 1))))))
 
 -- line i's place fits a machine word: the slice's bytes do
-place-fits : (n i : ℕ) → n * 16 < 2 ^ 63 → i < n → i * 16 < 2 ^ 64
+place-fits : (n i : ℕ) → n * 40 < 2 ^ 63 → i < n → i * 40 < 2 ^ 64
 place-fits n i g l = omega arith
 
 record Stand (ys : List Line) (total : ℕ) : Type 0 where
@@ -201,7 +202,7 @@ module _ {M : Type 1} (𝓤 : URA M) (H : Heap 𝓤) (A : Atoms 𝓤) (W : Given
   goes-answer : (t : Tally) (u : Val) → Is Y.the-row t (u ∷ []) → ent 𝓤 (emp 𝓤) (Answer 𝓤 H A mem run .pre (to-answer t u))
   goes-answer t u ist = qed W [] ∵ nothing ! $ owned ! Y.the-row (Is Y.the-row) (LL.makes Y.the-type Y′.the-plain 𝓤 H A) t _ ist $ fjoin ! $ nothing ! $ join ! $ frame ! $ done !
 
-  module _ (𝓣 : Tables 𝓤 H) (gn : (length ys < 2 ^ 64) × (length ys * 16 < 2 ^ 63)) (known-start : Triple 𝓤 (𝓣 .C #lines·start) (Start 𝓤 H A mem run))
+  module _ (𝓣 : Tables 𝓤 H) (gn : (length ys < 2 ^ 64) × (length ys * 40 < 2 ^ 63)) (known-start : Triple 𝓤 (𝓣 .C #lines·start) (Start 𝓤 H A mem run))
       (known-step : Triple 𝓤 (𝓣 .C #lines·step) (Step 𝓤 H A mem run)) (known-answer : Triple 𝓤 (𝓣 .C #lines·answer) (Answer 𝓤 H A mem run)) where
     abbrev C : Calls 𝓤 H
     C = 𝓣 .C
@@ -238,7 +239,7 @@ module _ {M : Type 1} (𝓤 : URA M) (H : Heap 𝓤) (A : Atoms 𝓤) (W : Given
           -- the line's place
           assigns ! (bin ! (load ! (from ! (stop !)) (look ! 8 refl)) (lit ! tt) (record { fits = place-fits (length ys) (x .at) (gn .1) h })) (from ! (stop !)) (store ! 6 refl (tt, record { fits = place-fits (length ys) (x .at) (gn .1) h })) $
           assigns ! (bin ! (load ! (from ! (fld ! refl (stop !))) (look-in ! 14 (sub ! 0 refl (whole !)))) (load ! (from ! (stop !)) (look ! 6 refl)) tt) (from ! (stop !)) (init ! 2 refl (tt, tt)) $
-          rewrite ! 2 (λ (p : ℕ). ‵ (fat fullShare tyPtr l₇ 0 (vptr (s .ptr .0) p))) (sym (place-is 16 (s .ptr .1) (x .at))) refl $
+          rewrite ! 2 (λ (p : ℕ). ‵ (fat fullShare tyPtr l₇ 0 (vptr (s .ptr .0) p))) (sym (place-is 40 (s .ptr .1) (x .at))) refl $
           -- one copy of what the slice owns is kept, and of the other the fractured borrow is looked into
           move ! (19 ∷ []) $ use1 W (‵ Own ⊛ ‵ Own) (shr-slice-copy 𝓤 H A W (named 0) κ L.the-row .twice s (v ∷ [])) $ split ! $ fsplit ! $ let-go ! $ fsplit ! $ let-go ! $
           move ! (20 ∷ []) $ split ! $ move ! (2 ∷ 0 ∷ []) $

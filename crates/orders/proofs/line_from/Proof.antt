@@ -1,4 +1,4 @@
-use mathlib.Core.Path.{ap, _∙_}
+use mathlib.Core.Path.{refl, ap, _∙_}
 use native.Mathlib.Omega.{arith}
 use Rattle.rows.specs.Kept.{keptFrom}
 use Rattle.orders.specs.Said.{numberOf, dayOf, saidOperation}
@@ -67,7 +67,7 @@ returns c =
     let xb = c .before .before .before .first-named2 .result in
     let fb = found 1 p s 1 i1 (fa .on) xb (c .before .before .before .first-named2 .ensures) in
     let i2 = xb .child .after in
-    line-made s (keptFrom p s i0) _ (c .before .before .before .before .number-of .ensures ∙ ap numberOf (c .before .before .before .before .before .read-field .ensures) ∙ says-progressivo s (xa .child) _ (fa .text)) (c .number-of2 .ensures ∙ ap numberOf (c .before .read-field2 .ensures) ∙ says-importo s (xb .child) _ (fa .texts 1 (omega arith) ∙ fb .text))
+    line-made s (keptFrom p s i0) _ (c .before .before .before .before .number-of .ensures ∙ ap numberOf (c .before .before .before .before .before .read-field .ensures) ∙ says-progressivo s (xa .child) _ (fa .text)) (c .number-of2 .ensures ∙ ap numberOf (c .before .read-field2 .ensures) ∙ says-importo s (xb .child) _ (fa .texts 1 (omega arith) ∙ fb .text)) refl
 
 pub line-from-spec : {M : Type 1} → statement M
 line-from-spec =

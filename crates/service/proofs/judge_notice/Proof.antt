@@ -1,7 +1,8 @@
 use mathlib.Core.Path.{sym, _∙_}
 use native.Mathlib.Omega.{arith}
 use borrow.Author.Needs.{needs}
-use Rattle.service.proofs.Laws.{search-held, notice-none, notice-found, notice-lines}
+use Rattle.slots.proofs.Held.{search-held}
+use Rattle.service.proofs.Laws.{notice-none, notice-found, notice-lines}
 use borrow.Author.Needs.{needs}
 use Rattle.service.proofs.judge_notice.Statement.{statement}
 use Rattle.service.proofs.judge_notice.Tie as tie

@@ -4,6 +4,12 @@ use Rattle.service.proofs.Laws.{change-lines, change-held, change-at, c
 use borrow.Author.Needs.{needs}
 use Rattle.service.proofs.serve_change.Statement.{statement}
 use Rattle.service.proofs.serve_change.Tie as tie
+use Rattle.service.proofs.serve_change.Reads as reads
+use Rattle.service.proofs.serve_change.Lts as lts
+use Rattle.lines.proofs.check_lines.Reads as check-lines-reads
+use Rattle.service.proofs.serve_absent.Reads as serve-absent-reads
+use Rattle.service.proofs.serve_record.Reads as serve-record-reads
+use Rattle.slots.proofs.seek.Reads as seek-reads
 
 check-lines-requires : tie.Need-check-lines-requires
 check-lines-requires c κs = search needs

@@ -1,0 +1,6 @@
+pub mod Marks
+pub mod Twice
+pub mod Bytes
+pub mod Walk
+pub mod Kept
+pub mod Cases
