@@ -605,12 +605,12 @@ module _ (slots year : ℕ) (o : Ordinativo) (rs : List Record) where
               upper = at-most (earlier (o .kind) (o .lines) j (at o j)) (tells rs (at o j)) q
 
               by : {t x : ℕ} → Late t x → nameTurn j + (suc n - 24) ≤ t
-              by {v} {x} (of-line p i k t u) = split (ltb i j) (ltb j i) refl refl
+              by {t = v} (of-line p i k t u) = split (ltb i j) (ltb j i) refl refl
                 where
                   split : (a b : Bool) → ltb i j ≡ a → ltb j i ≡ b → nameTurn j + (suc n - 24) ≤ v
                   split true b f g = absurd (omega (arith, t .0, h i (ltb-true i j f)))
                   split false true f g = omega (arith, u, ltb-true j i g, upper)
-                  split false false f g = omega (arith, u, t .1, ltb-false i j f, ltb-false j i g)
+                  split false false f g = let e : i ≡ j = omega (arith, ltb-false i j f, ltb-false j i g) in omega (arith, u, t .1, ap code e, q)
               by (no-room w k u) = omega (arith, upper)
               by (not-meant q r h m u) = omega (arith, upper)
 
