@@ -142,6 +142,7 @@ module _ (t : List ℕ) (base n year : ℕ) (o : Ordinativo) (c : Change) {code 
   change-lines h = ruled-refused leaves (stepped n o (recordsAt t base n) c (findIn (recordsAt t base n) 0 (keyFor year o))) e h (refused-is t base n year o code)
 
   pub steps-lines : (code ≡ 0 → ⊥) → 0 ≡ stepsOf year o (recordsAt t base n)
+  unfolding stepsOf
   steps-lines h = rw (← e) (sym (unless-none code _ h))
 
   module _ {f : Sought} (h : code ≡ 0) (g : f ≡ seekIn (recordsAt t base n) 0 (keyFor year o)) where
@@ -169,11 +170,13 @@ module _ (t : List ℕ) (base n year : ℕ) (o : Ordinativo) (c : Change) {code 
 
     -- the one walk tells the steps: up to and including the slot found, or all that are used
     pub steps-at : {i : ℕ} → f ≡ sought.At i → i + 1 ≡ stepsOf year o (recordsAt t base n)
+    unfolding stepsOf
     steps-at {i} z =
         let a = seek-at (recordsAt t base n) 0 (keyFor year o) i (seek-here z) in
         rw (← e, h, a) (omega arith)
 
     pub steps-none : {m : ℕ} → f ≡ sought.Absent m → m ≡ stepsOf year o (recordsAt t base n)
+    unfolding stepsOf
     steps-none {m} z =
         let a = seek-absent (recordsAt t base n) 0 (keyFor year o) m (seek-here z) in
         rw (← e, h, a .0) (omega (arith, a .1))
