@@ -1,7 +1,7 @@
 -- Laws of numbers in digits: one for each way out of the code, and the ranges that the crates above rely on.
 use mathlib.Core.Path.{_≡_, refl, sym, ap, _∙_}
 use mathlib.Core.List.{List, [], _∷_}
-use mathlib.Core.Bool.{Bool, true, false, cond, not, _&&_}
+use mathlib.Core.Bool.{Bool, true, false, cond, not, _&&_, _||_}
 use Prim.Native.Nat.{ℕ, zero, suc, _+_, _*_, _-_, _≤_, _<_}
 use native.Mathlib.Nat.{add-zero}
 use native.Mathlib.Numerals.{add-one}
@@ -14,7 +14,7 @@ use Rattle.scan.specs.Bytes.{byteAt, part, between, isDigit, run}
 use Rattle.scan.proofs.Laws.{both, in-range}
 use Rattle.digits.specs.declared.Number.{Number}
 use Rattle.digits.specs.declared.Number.the-variants.{Value, NoNumber}
-use Rattle.digits.specs.Digits.{isValue, within, digitsAfter, digits, esercizio, numero, inCents, zeroInFront, amountOf, importo, progressivo}
+use Rattle.digits.specs.Digits.{isValue, within, digitsAfter, digits, esercizio, numero, inCents, zeroInFront, amountOf, importo, progressivo, isRefusal}
 use Rattle.digits.specs.Inner.{zeroFirst, importoBack}
 
 -- INVERSIONS: what a number says of the tests that led to it
@@ -338,3 +338,11 @@ importo-length t e =
     let stands = eqb (byteAt t (length t - 3)) 46 && not (zeroFirst t) in
     let b = cond-is (between 4 12 (length t) && stands) (inCents (whole t) (cents t)) (ap isValue (sym (importo-back t)) ∙ e) in
     in-range 4 12 (length t) (both (between 4 12 (length t)) stands b .0)
+
+-- THE CODES OF A REFUSED ORDER
+pub refusal-in : (c : ℕ) → isRefusal c ≡ true → (12 ≤ c) × (c ≤ 26)
+refusal-in c e = go (between 12 19 c) refl
+  where
+    go : (b : Bool) → between 12 19 c ≡ b → (12 ≤ c) × (c ≤ 26)
+    go true f = let r = in-range 12 19 c f in let a = r .0 in let z = r .1 in (a, omega arith)
+    go false f = let r = in-range 24 26 c (rw f at e) in let a = r .0 in let z = r .1 in (omega arith, z)

@@ -1,7 +1,7 @@
 -- The forms that write a number in digits (document 01, "The fields"). A text is taken as it stands in the flow: nothing is trimmed.
 use Prim.Native.Nat.{ℕ, _+_, _*_, _-_}
 use mathlib.Core.List.{List, [], _∷_}
-use mathlib.Core.Bool.{Bool, true, false, cond, not, _&&_}
+use mathlib.Core.Bool.{Bool, true, false, cond, not, _&&_, _||_}
 use lib.ListN.{length, take, drop}
 use lib.Dec.{eqb}
 use Rattle.scan.specs.Bytes.{byte, byteAt, between, isDigit, run}
@@ -68,9 +68,10 @@ importo t = amountOf (take (run isDigit t) t) (drop (run isDigit t) t)
 unfoldable pub progressivo : List ℕ → Number
 progressivo t = digits 1 3 t
 
--- the codes of a refused order: document 01, "Per order", 11 to 19 (document 02, Req 01: "a code no order can get" is any other but 0)
+-- the codes of a refused order: document 01, "Per order", 12 to 19 (document 02, Req 07: "11 is given no more", and 24 to 26; Req 01: "a code no order can
+-- get" is any other but 0)
 abbrev pub isRefusal : ℕ → Bool
-isRefusal c = between 11 19 c
+isRefusal c = between 12 19 c || between 24 26 c
 
 -- codice_errore of an outcome message (document 000, 10.2.5): two digits, the code of a refused order
 abbrev pub codiceErroreWritten : List ℕ → Number

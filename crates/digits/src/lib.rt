@@ -145,10 +145,16 @@ pub fn importo_of(t: &[u8]) -> Number
 pub fn is_refusal(code: u64) -> bool
     ensures { λ r. ⌜ r ≡ isRefusal code ⌝ }
 {
-    if code < 11 {
+    if code < 12 {
         return false;
     }
-    code <= 19
+    if code <= 19 {
+        return true;
+    }
+    if code < 24 {
+        return false;
+    }
+    code <= 26
 }
 
 // codice_errore

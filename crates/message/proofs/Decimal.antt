@@ -19,7 +19,7 @@ use Rattle.digits.specs.declared.Number.{Number}
 use Rattle.digits.specs.declared.Number.the-variants.{Value, NoNumber}
 use Rattle.digits.specs.Digits.{within, digitsAfter, digits, esercizio, numero, importo, codiceErrore, isRefusal}
 use Rattle.digits.specs.Inner.{zeroFirst}
-use Rattle.digits.proofs.Laws.{p10, whole, cents, digits-within, importo-cents}
+use Rattle.digits.proofs.Laws.{p10, whole, cents, digits-within, importo-cents, refusal-in}
 use Rattle.dates.specs.declared.Day.the-variants.{On, NoDay}
 use Rattle.dates.specs.Dates.{dataOf, real}
 use Rattle.dates.proofs.Laws.{data-day}
@@ -146,7 +146,7 @@ esercizio-fixed n h = let r = in-range 2000 2099 n h in let u = r .1 in let p = 
 
 pub code-fixed : (n : ℕ) → isRefusal n ≡ true → codiceErrore (fixed 2 n) ≡ Value n
 unfolding codiceErrore
-code-fixed n h = let r = in-range 11 19 n h in let u = r .1 in let p = p10-2 in within-is isRefusal n (digits 2 2 (fixed 2 n)) (fixed-digits 2 n (omega arith)) h
+code-fixed n h = let r = refusal-in n h in let u = r .1 in let p = p10-2 in within-is isRefusal n (digits 2 2 (fixed 2 n)) (fixed-digits 2 n (omega arith)) h
 
 -- AMOUNTS
 small : (w n : ℕ) → n ≤ 9 → decimalBy w n ≡ digit n ∷ []

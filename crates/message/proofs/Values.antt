@@ -8,13 +8,12 @@ use lib.ListN.{length}
 use lib.Dec.{eqb}
 use borrow.Author.Tests.{le-leb, ne-eqb}
 use Rattle.scan.specs.Bytes.{bytes, between, startsWith, hasAt, textIs}
-use Rattle.scan.proofs.Laws.{in-range}
 use Rattle.bounds.specs.Bounds.{isYear, isNumero, maxCents}
 use Rattle.calendar.specs.Calendar.{isDate}
 use Rattle.digits.specs.declared.Number.{Number}
 use Rattle.digits.specs.declared.Number.the-variants.{Value, NoNumber}
 use Rattle.digits.specs.Digits.{within, digits, esercizio, numero, importo, codiceErrore, isRefusal}
-use Rattle.digits.proofs.Laws.{importo-range}
+use Rattle.digits.proofs.Laws.{importo-range, refusal-in}
 use Rattle.dates.specs.Dates.{dataOf}
 use Rattle.dates.proofs.Laws.{data-real}
 use Rattle.fields.specs.declared.Form.the-variants.{Identificativo, Esercizio, Numero, Data, Importo, DataOraZona, EsitoOperazione, CodiceErrore, Descrizione, Elemento}
@@ -116,7 +115,7 @@ code-ok t k = within-there isRefusal (digits 2 2 t) (valueOf (codiceErrore t)) (
 
 -- the code of a refusal isn't 0
 pub not-zero : (n : ℕ) → isRefusal n ≡ true → eqb n 0 ≡ false
-not-zero n e = let r = in-range 11 19 n e in let a = r .0 in ne-eqb n 0 (λ z. omega arith)
+not-zero n e = let r = refusal-in n e in let a = r .0 in ne-eqb n 0 (λ z. omega arith)
 
 in-codes : (n : ℕ) → isRefusal n ≡ true → isOutcome n ≡ true
 in-codes n e = rw (not-zero n e) e

@@ -10,7 +10,7 @@ use lib.Seq.{drop-cons}
 use lib.Dec.{eqb}
 use borrow.Author.Tests.{eq-eqb, ne-eqb}
 use Rattle.scan.specs.Bytes.{part}
-use Rattle.scan.proofs.Laws.{in-range}
+use Rattle.digits.proofs.Laws.{refusal-in}
 use Rattle.tokens.specs.Tokens.{whiteAt}
 use Rattle.calendar.specs.declared.Date.{Date}
 use Rattle.codes.specs.Codes.{operationNumber, esitoOperazione}
@@ -42,7 +42,7 @@ unfolding codiceErrore
 code-small t = go (digits 2 2 t)
   where
     by : (v : ℕ) (b : Bool) → isRefusal v ≡ b → valueOf (cond b (Value v) NoNumber) ≤ 255
-    by v true e = let r = in-range 11 19 v e .1 in omega arith
+    by v true e = let r = refusal-in v e .1 in omega arith
     by v false e = omega arith
 
     go : (n : Number) → valueOf (within isRefusal n) ≤ 255
