@@ -112,7 +112,13 @@ fn build(base: &[u8], s: &[u8], a: usize, e: usize, out: &mut [u8]) -> usize
     ensures { λ r. ⌜ Counts r (now (out .exit)) ⌝ }
 {
     let taken = first(base, casebook::number(s, a, e, 1));
-    splice::repeated(taken, text(s, a, e, 15), casebook::number(s, a, e, 16), text(s, a, e, 17), out)
+    splice::repeated(
+        taken,
+        text(s, a, e, 15),
+        casebook::number(s, a, e, 16),
+        text(s, a, e, 17),
+        out,
+    )
 }
 
 fn run_case(base: &[u8], s: &[u8], a: usize, e: usize)

@@ -103,7 +103,7 @@ module _ (t code s : List ℕ) (c : ℕ) (p : JournalPromise t code s c) where
   from-1 (broken-case w z) h = absurd (omega arith)
   from-1 (own-case o) h = absurd (low 0 o h (omega arith))
 
-  from-7 : Case → c ≡ 7 → tableOk t ≡ true × bodyOf t code ≡ Nothing
+  from-7 : Case → c ≡ 7 → (tableOk t ≡ true) × (bodyOf t code ≡ Nothing)
   from-7 (no-table-case e z) h = absurd (omega arith)
   from-7 (no-body-case ok e z) h = (ok, e)
   from-7 (broken-case w z) h = absurd (omega arith)

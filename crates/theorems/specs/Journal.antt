@@ -31,7 +31,7 @@ pub record JournalAnswers : Type 0 where
   -- "Refusals after 1 and 7: 29 over 4,096 or not whole movements": each exactly when
   pub refused : (t code s : List ℕ) (c : ℕ) → JournalPromise t code s c
       → Exactly (c ≡ 1) (tableOk t ≡ false)
-      × Exactly (c ≡ 7) (tableOk t ≡ true × bodyOf t code ≡ Nothing)
+      × Exactly (c ≡ 7) ((tableOk t ≡ true) × (bodyOf t code ≡ Nothing))
       × Exactly (c ≡ 29) (Broken t code s)
   -- "then one by one 30 no such executed line, 31 other cents, 32 listed before; then 33 an executed line is missing": each exactly when (`Told`,
   -- crates/journal/specs/Told)

@@ -43,7 +43,8 @@ impl Told {
 
     fn record(&mut self, kind: &str, parts: &[&[u8]]) {
         let lengths: Vec<_> = parts.iter().map(|part| part.len().to_string()).collect();
-        let lines = writeln!(self.0, "{kind} {}", lengths.join(" ")).and_then(|()| parts.iter().try_for_each(|part| self.0.write_all(part)));
+        let lines = writeln!(self.0, "{kind} {}", lengths.join(" "))
+            .and_then(|()| parts.iter().try_for_each(|part| self.0.write_all(part)));
         lines.expect("what is told can be written");
     }
 }
