@@ -33,7 +33,7 @@ static const char *const NAMES[] = {"Rossi", "Bianchi", "Verdi &amp; figli", "Ni
 
 const char *shape_name(enum shape shape)
 {
-    static const char *const names[SHAPES] = {"one order", "64 orders", "most lines", "passed-over elements", "64 orders, edition 2"};
+    static const char *const names[SHAPES] = {"one order", "64 orders", "64 orders, edition 2", "most lines", "passed-over elements"};
     return names[shape];
 }
 

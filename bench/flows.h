@@ -25,7 +25,7 @@ struct flow {
     unsigned elements; /* all of them, the passed-over ones too */
 };
 
-enum shape { ONE_ORDER, MANY_ORDERS, MOST_LINES, PASSED_OVER, EDITION_2, SHAPES };
+enum shape { ONE_ORDER, MANY_ORDERS, EDITION_2, MOST_LINES, PASSED_OVER, SHAPES };
 
 /* A shape's name, for a reader. */
 const char *shape_name(enum shape shape);

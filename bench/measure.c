@@ -76,17 +76,42 @@ static int ascending(const void *left, const void *right)
     return (difference > 0) - (difference < 0);
 }
 
-/* The engines take turns, so that whatever else the machine does meets all of them alike. */
-static void time_case(const struct flow *flow, const char *shape, const char *table, unsigned rounds)
+static double middle(double *values, unsigned count)
 {
-    static double times[COUNT][MOST_ROUNDS];
-    for (unsigned round = 0; round < rounds; round++)
-        for (unsigned i = 0; i < COUNT; i++)
-            times[i][round] = time_round(ENGINES[i], flow);
-    for (unsigned i = 0; i < COUNT; i++) {
-        qsort(times[i], rounds, sizeof times[i][0], ascending);
-        printf("time\t%s\t%s\t%s\t%.0f\t%.0f\n", shape, table, ENGINES[i]->name, times[i][rounds / 2], times[i][0]);
+    qsort(values, count, sizeof *values, ascending);
+    return values[count / 2];
+}
+
+/* A round of every engine on every flow. Each second round goes the other way, so that none is always behind the same other. */
+static void time_all(const struct flow *flows, unsigned round, double times[SHAPES][COUNT][MOST_ROUNDS])
+{
+    enum { ALL = (int)SHAPES * (int)COUNT };
+    for (unsigned step = 0; step < ALL; step++) {
+        unsigned at = round % 2 ? ALL - 1 - step : step;
+        unsigned shape = at / COUNT, engine = at % COUNT;
+        times[shape][engine][round] = time_round(ENGINES[engine], &flows[shape]);
     }
+}
+
+/*
+ * Engines and flows take turns within each round, so that whatever else the machine does meets all of them alike. A flow's time is the
+ * median of its rounds; how edition 2 stands to edition 1 is the median of the rounds' own ratios.
+ */
+static void time_table(const struct flow *flows, const char *table, unsigned rounds)
+{
+    static double times[SHAPES][COUNT][MOST_ROUNDS], ratios[MOST_ROUNDS];
+    for (unsigned round = 0; round < rounds; round++)
+        time_all(flows, round, times);
+    for (unsigned i = 0; i < COUNT; i++) {
+        for (unsigned round = 0; round < rounds; round++)
+            ratios[round] = times[EDITION_2][i][round] / times[MANY_ORDERS][i][round];
+        printf("editions\t%s\t%s\t%.4f\n", table, ENGINES[i]->name, middle(ratios, rounds));
+    }
+    for (unsigned shape = 0; shape < SHAPES; shape++)
+        for (unsigned i = 0; i < COUNT; i++) {
+            double half = middle(times[shape][i], rounds);
+            printf("time\t%s\t%s\t%s\t%.0f\t%.0f\n", shape_name(shape), table, ENGINES[i]->name, half, times[shape][i][0]);
+        }
     fflush(stdout);
 }
 
@@ -108,23 +133,24 @@ static void count_case(const struct flow *flow, const char *shape, const char *t
 
 int main(int argc, char **argv)
 {
-    static struct flow flow;
+    static struct flow flows[SHAPES];
     int timing = argc == 3 && strcmp(argv[1], "time") == 0;
     unsigned rounds = timing ? (unsigned)atoi(argv[2]) : 0;
     if ((!timing && (argc != 2 || strcmp(argv[1], "count") != 0)) || (timing && (rounds < 1 || rounds > MOST_ROUNDS)))
         give_up("usage: measure time ROUNDS, or measure count");
+    for (unsigned shape = 0; shape < SHAPES; shape++) {
+        struct flow *flow = &flows[shape];
+        write_flow(flow, (enum shape)shape);
+        printf("flow\t%s\t%u\t%u\t%u\t%u\n", shape_name(shape), flow->length, flow->orders, flow->lines, flow->elements);
+    }
     for (int table = 0; table < 2; table++) {
         for (unsigned i = 0; i < COUNT; i++)
             ENGINES[i]->prepare(table);
-        for (int shape = 0; shape < SHAPES; shape++) {
-            write_flow(&flow, (enum shape)shape);
-            if (table == 0)
-                printf("flow\t%s\t%u\t%u\t%u\t%u\n", shape_name(shape), flow.length, flow.orders, flow.lines, flow.elements);
-            if (timing)
-                time_case(&flow, shape_name(shape), TABLES[table], rounds);
-            else
-                count_case(&flow, shape_name(shape), TABLES[table]);
-        }
+        if (timing)
+            time_table(flows, TABLES[table], rounds);
+        else
+            for (unsigned shape = 0; shape < SHAPES; shape++)
+                count_case(&flows[shape], shape_name(shape), TABLES[table]);
     }
     return 0;
 }

@@ -30,6 +30,10 @@ Microseconds of one call, and their ratios:
 
 $(part times)
 
+The same 64 orders in edition 2 and in edition 1, the time of the one over that of the other, both taken within one round:
+
+$(part editions)
+
 ## Goals
 
 By the ratios above:
@@ -63,7 +67,8 @@ $(cat "$to/messages.md")
 
 ## How it was measured
 
-- The three take turns: a round makes five calls of each in a row and keeps the quickest; the figure is the median of $rounds rounds. Tables are
+- The three and the flows take turns: a round makes five calls of each of the three on each flow in a row and keeps the quickest, every second round the
+  other way about; the figure is the median of $rounds rounds, and of the two editions the median of the rounds' own ratios. Tables are
   restored before each call, outside the time: by copying the bytes, by deleting the new rows, by freeing the last tree.
 - Every call of the first two is seen to accept all orders of its flow, and every call of pugixml to parse.
 - The bench is compiled with \`cc -O2\`; peers are Debian's packages as they are: libxml2 $(version libxml2-dev), SQLite $(version libsqlite3-dev), pugixml

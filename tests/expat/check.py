@@ -1,6 +1,6 @@
 """Reads messages with expat, a parser that is not ours, and compares each with the tree that its values make.
 
-Standard input has the lines of tests/differential/examples/written.rs. The tree of a message is made here from the flow, which expat reads
+Standard input has the records of tests/differential/src/told.rs. The tree of a message is made here from the flow, which expat reads
 too, the outcome bytes and the caller's values, by document 02's sentences alone.
 """
 
@@ -10,6 +10,7 @@ from xml.parsers import expat
 
 REFERENCES = {"&amp;": "&", "&lt;": "<", "&gt;": ">", "&quot;": '"', "&apos;": "'"}
 WORDS = {1: "ACQUISITO", 2: "VARIATO", 3: "ANNULLATO", 4: "SOSTITUITO"}
+OPERATIONS = {word: number for number, word in WORDS.items()}
 HEADER = ["codice_ABI_BT", "data_ora_creazione_flusso", "codice_ente", "descrizione_ente", "codice_istat_ente", "codice_fiscale_ente",
           "codice_tramite_ente", "codice_tramite_BT", "codice_ente_BT"]
 ENTRY = ["identificativo_flusso", "esercizio", "numero_{0}", "data_{0}", "importo", "esito_operazione", "data_ora_esito_operazione"]
@@ -94,30 +95,47 @@ def due(flow, outcomes, given):
     return ("messaggi_esito_applicativo", [("testata_messaggio", testata), ("identificativo_flusso_BT", shown(flusso_bt))] + entries)
 
 
-def check_values(message, values, flow, given, entries):
-    """The places and lengths that reading tells name the very bytes that were given."""
+def told(message, values):
+    """What reading tells of a message: the ten texts at the places and lengths, and of each entry its numbers and two texts."""
     def text(at):
         place, length = (int.from_bytes(values[at + i:at + i + 4], "big") for i in (0, 4))
         return message[place:place + length]
 
-    created, time, ente, descrizione, istat, fiscale, tramite_ente, tramite_bt, flusso_bt = given
-    abi, body = (child(flow, name).encode() for name in ("codice_ABI_BT", "codice_ente_BT"))
-    header = [abi, created, ente, descrizione, istat, fiscale, tramite_ente, tramite_bt, body, flusso_bt]
-    assert [text(8 * pair) for pair in range(10)] == header
-    assert len(values) == 80 + 48 * len(entries)
-    for i, (name, inside) in enumerate(entries):
-        at, fields = 80 + 48 * i, dict(inside)
+    def entry(at):
+        assert not any(values[at + zero] for zero in (3, 6, 7, *range(40, 48)))
+        numbers = [int.from_bytes(values[at + a:at + b], "big") for a, b in ((4, 6), (8, 12), (16, 24))]
+        date = "%04d-%02d-%02d" % (int.from_bytes(values[at + 12:at + 14], "big"), values[at + 14], values[at + 15])
+        return [*values[at:at + 3], *numbers, date, text(at + 24), text(at + 32)]
+
+    return [text(8 * pair) for pair in range(10)], [entry(at) for at in range(80, len(values), 48)]
+
+
+def check_values(message, values, tree):
+    """The places, lengths and numbers that reading tells are what the message's tree has."""
+    texts, entries = told(message, values)
+    header, flusso_bt, *inside = known(tree)[1]
+    header = dict(header[1])
+    assert [shown(text) for text in texts] == [header.get(name, "") for name in HEADER] + [flusso_bt[1]]
+    assert len(entries) == len(inside)
+    for entry, (name, fields) in zip(entries, inside):
+        fields = dict(fields)
         kind = 1 if name == "esito_mandati" else 2
         order = "mandato" if kind == 1 else "reversale"
         code = int(dict(fields["lista_errori"])["codice_errore"]) if "lista_errori" in fields else 0
-        assert (values[at], values[at + 2]) == (kind, code)
-        assert WORDS[values[at + 1]] == fields["esito_operazione"].removeprefix("NON ")
-        numbers = [int.from_bytes(values[at + a:at + b], "big") for a, b in ((4, 6), (8, 12), (16, 24))]
-        assert numbers == [int(fields["esercizio"]), int(fields["numero_" + order]), int(fields["importo"].replace(".", ""))]
-        date = "%04d-%02d-%02d" % (int.from_bytes(values[at + 12:at + 14], "big"), values[at + 14], values[at + 15])
-        assert date == fields["data_" + order]
-        assert (text(at + 24), text(at + 32)) == (fields["identificativo_flusso"].encode(), time)
-        assert not any(values[at + zero] for zero in (3, 6, 7, *range(40, 48)))
+        operation = OPERATIONS[fields["esito_operazione"].removeprefix("NON ")]
+        assert fields["esito_operazione"].startswith("NON ") == (code != 0)
+        numbers = [int(fields["esercizio"]), int(fields["numero_" + order]), int(fields["importo"].replace(".", ""))]
+        texts = [fields["identificativo_flusso"], fields["data_ora_esito_operazione"]]
+        assert entry[:7] + [shown(text) for text in entry[7:]] == [kind, operation, code, *numbers, fields["data_" + order], *texts]
+
+
+def check_given(message, values, flow, given):
+    """The texts that reading tells of a message that was written are byte for byte those that were given."""
+    created, time, *others, flusso_bt = given
+    abi, body, identifier = (child(flow, name).encode() for name in ("codice_ABI_BT", "codice_ente_BT", "identificativo_flusso"))
+    texts, entries = told(message, values)
+    assert texts == [abi, created, *others, body, flusso_bt]
+    assert all(entry[7:] == [identifier, time] for entry in entries)
 
 
 def known(tree):
@@ -132,28 +150,47 @@ def known(tree):
     return (name, inside.lstrip("0") if name.startswith("numero_") else inside)
 
 
+def records(stream):
+    """Each record's kind and parts."""
+    while line := stream.readline():
+        kind, *lengths = line.split()
+        parts = [stream.read(int(length)) for length in lengths]
+        assert [len(part) for part in parts] == [int(length) for length in lengths], "the records end in the middle of one"
+        yield kind.decode(), parts
+
+
+def check_layout(written):
+    """Nothing stands between the elements: bytes of tags and texts are all there is."""
+    assert written.startswith(b"<messaggi_esito_applicativo>") and written.endswith(b"</messaggi_esito_applicativo>")
+    assert not re.search(rb"</[A-Za-z_]+>[ \t\r\n]+<", written), written
+
+
+def check(kind, parts):
+    if kind == "written":
+        edition, flow, outcomes, *given, message, values = parts
+        flow = read(flow, id_allowed=True)
+        flow = flat(flow) if edition == b"\2" else flow
+        tree = read(message)
+        assert tree == due(flow, outcomes, given), (message, tree)
+        check_values(message, values, tree)
+        check_given(message, values, flow, given)
+        check_layout(message)
+    elif kind == "again":
+        message, again = parts
+        assert read(again) == known(read(message, id_allowed=True)), (message, again)
+        check_layout(again)
+    else:
+        message, values = parts
+        check_values(message, values, read(message, id_allowed=True))
+
+
 def main():
-    counts = {"written": 0, "again": 0}
-    for line in sys.stdin:
-        what, *parts = line.split()
-        parts = [b"" if part == "-" else bytes.fromhex(part) for part in parts]
-        if what == "written":
-            edition, flow, outcomes, *given, message, values = parts
-            flow = read(flow, id_allowed=True)
-            flow = flat(flow) if edition == b"\2" else flow
-            tree = due(flow, outcomes, given)
-            assert read(message) == tree, (message, tree)
-            check_values(message, values, flow, given, tree[1][2:])
-        else:
-            message, again = parts
-            assert read(again) == known(read(message, id_allowed=True)), (message, again)
-        # Nothing stands between the elements: bytes of tags and texts are all there is.
-        written = parts[-1] if what == "again" else parts[-2]
-        assert written.startswith(b"<messaggi_esito_applicativo>") and written.endswith(b"</messaggi_esito_applicativo>")
-        assert not re.search(rb"</[A-Za-z_]+>[ \t\r\n]+<", written), written
-        counts[what] += 1
+    counts = {"written": 0, "again": 0, "read": 0}
+    for kind, parts in records(sys.stdin.buffer):
+        check(kind, parts)
+        counts[kind] += 1
     assert min(counts.values()) > 0, counts
-    print("%d messages written and %d written again are the trees that %s reads" % (counts["written"], counts["again"], expat.EXPAT_VERSION))
+    print("%d messages written, %d written again and %d read are the trees that %s reads" % (*counts.values(), expat.EXPAT_VERSION))
 
 
 main()

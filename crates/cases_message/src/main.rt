@@ -1,6 +1,7 @@
 // Cases of writing an outcome message. The first line of the input is a flow. Each further line has a name, how many bytes of the flow are taken, outcome
 // bytes, the caller's nine values, the buffer's length, what document 02 says of it, by hand, and the edition's number; the output has what the code says
-// above it. After a message stand the code of its reading, its entries, the code and length of writing it again, whether that gave the same bytes, and the
+// above it. Where the flow goes on otherwise, there follow a part, how often it is put behind, and an end; and of what is said by hand, which part stands
+// as often, and the end. After a message stand the code of its reading, its entries, the code and length of writing it again, whether that gave the same bytes, and the
 // codes of reading it in edition 2 and by numbers of no edition.
 use casebook::say;
 use casebook::say_next;
@@ -8,6 +9,7 @@ use casebook::say_number;
 use message_write::WriteAnswer;
 ghost use Prim.Native.Nat.{_≤_};
 ghost use lib.ListN.{length};
+ghost use Rattle.io.specs.Counts.{Counts};
 
 // The first v bytes, or all of them.
 fn first(s: &[u8], v: u64) -> &[u8] {
@@ -87,18 +89,51 @@ fn say_case(flow: &[u8], edition: u64, s: &[u8], a: usize, e: usize, m: &mut [u8
     say_answer(answer, m);
 }
 
+fn say_times(t: &[u8], times: u64) {
+    let mut left = times;
+    while 0 < left {
+        say(t);
+        left -= 1;
+    }
+}
+
+// What document 02 says of a case.
+fn say_due(s: &[u8], a: usize, e: usize)
+    requires { ⌜ (a ≤ e) × (e ≤ length (now s)) ⌝ }
+{
+    casebook::say_column(s, a, e, 13);
+    say_times(text(s, a, e, 18), casebook::number(s, a, e, 16));
+    casebook::say_column(s, a, e, 19);
+}
+
+// The flow of a case: how many bytes it has.
+fn build(base: &[u8], s: &[u8], a: usize, e: usize, out: &mut [u8]) -> usize
+    requires { ⌜ (a ≤ e) × (e ≤ length (now s)) ⌝ }
+    ensures { λ r. ⌜ Counts r (now (out .exit)) ⌝ }
+{
+    let taken = first(base, casebook::number(s, a, e, 1));
+    splice::repeated(
+        taken,
+        text(s, a, e, 15),
+        casebook::number(s, a, e, 16),
+        text(s, a, e, 17),
+        out,
+    )
+}
+
 fn run_case(base: &[u8], s: &[u8], a: usize, e: usize)
     requires { ⌜ (a ≤ e) × (e ≤ length (now s)) × (length (now s) ≤ 131072) ⌝ }
 {
     let mut m = [0u8; 65536];
-    let flow = first(base, casebook::number(s, a, e, 1));
+    let mut flow = [0u8; 40000];
+    let n = build(base, s, a, e, &mut flow);
     let from = last(casebook::number(s, a, e, 12));
     let edition = casebook::number(s, a, e, 14);
     casebook::say_column(s, a, e, 0);
     say(b"\n");
-    say_case(flow, edition, s, a, e, &mut m[from..]);
+    say_case(&flow[..n], edition, s, a, e, &mut m[from..]);
     say(b"\n");
-    casebook::say_column(s, a, e, 13);
+    say_due(s, a, e);
     say(b"\n");
 }
 

@@ -1,4 +1,4 @@
-// For the case programs: a text with one part of it replaced.
+// For the case programs: a text with one part of it replaced, or with a part put behind it many times.
 ghost use Prim.Native.Nat.{_+_, _≤_, _<_};
 ghost use lib.ListN.{length};
 ghost use Rattle.io.specs.Counts.{Counts};
@@ -63,4 +63,17 @@ pub fn spliced(base: &[u8], x: &[u8], k: u64, y: &[u8], out: &mut [u8]) -> usize
     let n = append(out, 0, base, 0, at);
     let m = append(out, n, y, 0, y.len());
     append(out, m, base, to, base.len())
+}
+
+// Puts base, then y so many times, then z into out, as far as there is room: how many bytes it then holds.
+pub fn repeated(base: &[u8], y: &[u8], times: u64, z: &[u8], out: &mut [u8]) -> usize
+    ensures { λ r. ⌜ Counts r (now (out .exit)) ⌝ }
+{
+    let mut m = append(out, 0, base, 0, base.len());
+    let mut left = times;
+    while 0 < left {
+        m = append(out, m, y, 0, y.len());
+        left -= 1;
+    }
+    append(out, m, z, 0, z.len())
 }

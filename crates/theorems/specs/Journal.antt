@@ -19,13 +19,20 @@ pub record Accepts (t code s : List ℕ) : Type 0 where
   pub whole : wholeMovements s ≡ true
   pub same : Permutation (movementsIn s) (executedLines (bodyRecords body t))
 
+-- "29 over 4,096 or not whole movements", of a body that is there
+pub record Broken (t code s : List ℕ) : Type 0 where
+  pub valid : tableOk t ≡ true
+  pub body : ℕ
+  pub named : bodyOf t code ≡ At body
+  pub broken : wholeMovements s ≡ false
+
 pub record JournalAnswers : Type 0 where
   pub accepted : (t code s : List ℕ) (c : ℕ) → JournalPromise t code s c → Exactly (c ≡ 0) (Accepts t code s)
-  -- "Refusals after 1 and 7: 29 over 4,096 or not whole movements"
+  -- "Refusals after 1 and 7: 29 over 4,096 or not whole movements": each exactly when
   pub refused : (t code s : List ℕ) (c : ℕ) → JournalPromise t code s c
-      → (tableOk t ≡ false → c ≡ 1)
-      × (tableOk t ≡ true → bodyOf t code ≡ Nothing → c ≡ 7)
-      × ((b : ℕ) → tableOk t ≡ true → bodyOf t code ≡ At b → wholeMovements s ≡ false → c ≡ 29)
+      → Exactly (c ≡ 1) (tableOk t ≡ false)
+      × Exactly (c ≡ 7) ((tableOk t ≡ true) × (bodyOf t code ≡ Nothing))
+      × Exactly (c ≡ 29) (Broken t code s)
   -- "then one by one 30 no such executed line, 31 other cents, 32 listed before; then 33 an executed line is missing": each exactly when (`Told`,
   -- crates/journal/specs/Told)
   pub told : (t code s : List ℕ) (c : ℕ) → JournalPromise t code s c → (b : ℕ) → tableOk t ≡ true → bodyOf t code ≡ At b → wholeMovements s ≡ true

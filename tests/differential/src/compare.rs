@@ -6,6 +6,7 @@ use reference::{FlowAnswer, NoticeAnswer, Totals};
 use crate::case::{Answer, Call, Case};
 use crate::engine::Engine;
 use crate::pen::{Pen, Place};
+use crate::told::Told;
 
 /// What differs, in a sentence.
 #[derive(Clone, Debug, PartialEq, Eq)]
@@ -36,6 +37,7 @@ pub struct Yard {
     values: [Pen; 9],
     written: Pen,
     results: [Pen; 5],
+    told: Option<Told>,
 }
 
 impl Default for Yard {
@@ -86,7 +88,13 @@ impl Yard {
             values: std::array::from_fn(|_| Pen::new(141)),
             written: Pen::new(40_000),
             results: std::array::from_fn(|_| Pen::new(8)),
+            told: None,
         }
+    }
+
+    /// Has what the tried engine makes of messages written down.
+    pub fn tell(&mut self, told: Told) {
+        self.told = Some(told);
     }
 
     /// Makes one call on an engine with guards around each buffer and result. `Err` says which byte outside them was written.
@@ -256,6 +264,9 @@ impl Yard {
             }
             if let Some(what) = different_byte("table", &right, &left, expected, tried) {
                 return difference(what);
+            }
+            if let Some(told) = &mut self.told {
+                told.tell(tried, call, &got);
             }
         }
         None

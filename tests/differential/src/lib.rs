@@ -17,6 +17,7 @@ pub mod shrink;
 pub mod stray;
 pub mod sweep;
 pub mod tables;
+pub mod told;
 pub mod wrong;
 
 pub use case::{Answer, Call, Case, Values};

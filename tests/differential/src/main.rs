@@ -8,6 +8,7 @@ use differential::cases::{self, Theme};
 use differential::pen::Place;
 use differential::random::Random;
 use differential::stray::Stray;
+use differential::told::Told;
 use differential::wrong::{FAULTS, Wrong};
 use differential::{Case, Difference, Engine, Lend, Reference, Yard, shrink, sweep};
 
@@ -28,6 +29,7 @@ Without arguments: the sweep, then 40000 random cases.
                  the one, now at the other), heap (allocations of their own, for a run under valgrind)
   --engine E     library (default with the feature native), reference, or a fault: an engine that is wrong on purpose; ReadsPast and
                  ReadsBefore look at a byte they are not lent
+  --tell FILE    writes what the engine wrote, rewrote and read of messages into FILE, for another reader of XML: see tests/expat
   --show         prints the cases instead of trying them
 
 The last line is 'differential: N cases, 0 differences'; the exit status is 1 on a difference.";
@@ -46,6 +48,7 @@ struct Run {
     show: bool,
     lend: Lend,
     engine: Option<String>,
+    tell: Option<String>,
 }
 
 #[derive(Clone, Copy, PartialEq, Eq)]
@@ -91,6 +94,7 @@ fn arguments(mut given: impl Iterator<Item = String>) -> Result<Option<Run>, Str
         show: false,
         lend: Lend::Turns,
         engine: None,
+        tell: None,
     };
     while let Some(argument) = given.next() {
         let mut number = || -> Result<u64, String> {
@@ -116,6 +120,7 @@ fn arguments(mut given: impl Iterator<Item = String>) -> Result<Option<Run>, Str
             "--long" => (run.cases, run.count) = (Cases::SweepAndRandom, Some(1_000_000)),
             "--lend" => run.lend = lend(&given.next().ok_or("--lend needs a place")?)?,
             "--engine" => run.engine = Some(given.next().ok_or("--engine needs a name")?),
+            "--tell" => run.tell = Some(given.next().ok_or("--tell needs a file")?),
             "--show" => run.show = true,
             "--help" | "-h" => return Ok(None),
             _ => return Err(format!("{argument} is not known")),
@@ -201,6 +206,9 @@ fn cases_of(run: &Run) -> Box<dyn Iterator<Item = (u64, Option<Theme>, Case)>> {
 fn try_all(run: &Run, tried: &dyn Engine) -> ExitCode {
     let start = Instant::now();
     let mut yard = Yard::new(run.lend);
+    if let Some(file) = &run.tell {
+        yard.tell(Told::new(std::fs::File::create(file).expect("the file of --tell can be written")));
+    }
     let (mut tries, mut calls, mut rows) = (0u64, 0u64, 0u64);
     for (index, theme, case) in cases_of(run) {
         if run.seconds.is_some_and(|seconds| start.elapsed() >= Duration::from_secs(seconds)) {
