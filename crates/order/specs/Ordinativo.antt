@@ -4,9 +4,17 @@ use mathlib.Core.List.{List}
 use lib.ListN.{take}
 use Rattle.calendar.specs.declared.Date.{Date}
 use Rattle.codes.specs.declared.Operation.{Operation}
+use Rattle.order.specs.declared.NamedLine.{NamedLine}
 use Rattle.order.specs.declared.Line.{Line}
 use Rattle.order.specs.declared.Lines.{Lines}
 use Rattle.order.specs.declared.Order.{Order}
+
+-- a line that names none, and no line
+abbrev pub noName : NamedLine
+noName = record { number = 0; line = 0; esercizio = 0 }
+
+abbrev pub noLine : Line
+noLine = record { progressivo = 0; amount = 0; named = noName }
 
 pub record Ordinativo : Type 0 where
   -- 1 mandato, 2 reversale

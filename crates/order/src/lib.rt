@@ -6,10 +6,18 @@ ghost use Prim.Native.Nat.{_≤_};
 ghost use lib.ListN.{length};
 ghost use Rattle.order.specs.Ordinativo.{linesThere};
 
-// A line of an order: its progressivo and its cents.
+// The line that a line of a SOSTITUZIONE names, by number, line and esercizio.
+pub struct NamedLine {
+    pub number: u64,
+    pub line: u64,
+    pub esercizio: u64,
+}
+
+// A line of an order: its progressivo, its cents and the line that it names, zeros where it names none.
 pub struct Line {
     pub progressivo: u64,
     pub amount: u64,
+    pub named: NamedLine,
 }
 
 // An order's lines: how many, and each of them, zeros after them.
