@@ -16,8 +16,12 @@ use Rattle.rows.specs.declared.Spot.the-variants.{At, Passed}
 use Rattle.rows.specs.declared.Holds.{Holds}
 use Rattle.rows.specs.declared.Kept.{Kept}
 use Rattle.rows.specs.declared.Next.the-variants.{Named, Done}
-use Rattle.rows.specs.Table.{table, spotIn}
+use Rattle.rows.specs.Table.{nameIs, table, spotIn}
 use Rattle.rows.specs.Kept.{keep, keptFrom, nextOf}
+use Rattle.rows.specs.Replaces.{replaces, asReplacing, rowsFor}
+use Rattle.tokens.specs.Tokens.{whiteAt}
+use Rattle.scan.specs.Bytes.{bytes}
+use borrow.Author.Tests.{eq-eqb, ne-eqb}
 
 pub not-both : {A : Type 0} → _≡_ {A = Bool} false true → A
 not-both e = let z : _≡_ {A = ℕ} 0 1 = cc in absurd (omega arith)
@@ -74,3 +78,28 @@ next-done p s i e = go (keptFrom p s i) e
     go : (ks : List Kept) → nextOf ks ≡ Done → ks ≡ []
     go [] e = refl
     go (k ∷ ks) e = no-next (sym e)
+
+-- WHETHER AN ORDER REPLACES OTHERS, as the walk to its tipo_operazione goes
+module _ (p : Parent) (s : List ℕ) (i : ℕ) where
+  pub replaces-none : nextOf (keptFrom p s i) ≡ Done → replaces s (keptFrom p s i) ≡ false
+  unfolding replaces
+  replaces-none e = rw (next-done p s i e)
+
+  module _ (k : Kept) (e : nextOf (keptFrom p s i) ≡ Named k) where
+    pub replaces-said : k .row ≡ 0 → replaces s (keptFrom p s i) ≡ nameIs (bytes "SOSTITUZIONE") s (k .child .gt + 1) (k .child .to)
+    unfolding replaces
+    replaces-said z = rw (next-at p s i k e .rest, eq-eqb (k .row) 0 z)
+
+    pub replaces-later : (k .row ≡ 0 → ⊥) → replaces s (keptFrom p s i) ≡ replaces s (keptFrom p s (k .child .after))
+    unfolding replaces
+    replaces-later z = rw (next-at p s i k e .rest, ne-eqb (k .row) 0 z)
+
+-- THE ROWS OF CONTENT, by the parent that its element's name says
+module _ (p : Parent) (s : List ℕ) (at : ℕ) (q : Parent) (e : p ≡ q) where
+  pub rows-told : (b : Bool) → b ≡ replaces s (keptFrom p s (whiteAt s at)) → asReplacing q b ≡ rowsFor p s at
+  unfolding rowsFor
+  rows-told b f = rw (← e) (ap (asReplacing p) f)
+
+  pub rows-still : ((b : Bool) → asReplacing q b ≡ q) → p ≡ rowsFor p s at
+  unfolding rowsFor
+  rows-still f = rw e (sym (f (replaces s (keptFrom q s (whiteAt s at)))))

@@ -2,3 +2,4 @@ pub mod Table
 pub mod Kept
 pub mod Read
 pub mod Inner
+pub mod Replaces

@@ -2,13 +2,13 @@
 use Prim.Native.Nat.{ℕ, suc, _-_}
 use Prim.Native.String.{String}
 use mathlib.Core.List.{List, [], _∷_}
-use mathlib.Core.Bool.{Bool, cond, _&&_}
+use mathlib.Core.Bool.{Bool, true, false, cond, _&&_}
 use lib.ListN.{length}
 use lib.Dec.{eqb}
 use Rattle.scan.specs.Bytes.{bytes, hasAt}
 use Rattle.fields.specs.declared.Form.the-variants.{CodiceAbi, Identificativo, DataOra, CodiceEnte, Esercizio, TipoOperazione, Numero, Data, Importo, Progressivo, Anagrafica, DataOraZona, Testo, EsitoOperazione, CodiceErrore, Descrizione, Elemento}
 use Rattle.rows.specs.declared.Parent.{Parent}
-use Rattle.rows.specs.declared.Parent.the-variants.{FlussoOrdinativi, Mandato, Reversale, InformazioniBeneficiario, InformazioniVersante, Beneficiario, Versante, MessaggiEsito, TestataMessaggio, EsitoReversali, EsitoMandati, ErroriReversali, ErroriMandati, FlussoOpi, TestataFlusso}
+use Rattle.rows.specs.declared.Parent.the-variants.{FlussoOrdinativi, Mandato, Reversale, InformazioniBeneficiario, InformazioniVersante, SostituzioneMandato, SostituzioneReversale, Beneficiario, Versante, MessaggiEsito, TestataMessaggio, EsitoReversali, EsitoMandati, ErroriReversali, ErroriMandati, FlussoOpi, TestataFlusso}
 use Rattle.rows.specs.declared.Holds.{Holds}
 use Rattle.rows.specs.declared.Holds.the-variants.{Text, Rows}
 use Rattle.rows.specs.declared.Spot.{Spot}
@@ -40,7 +40,24 @@ optional n = record { names = n ∷ []; least = 0; most = 1 }
 abbrev pub never : Named → Row
 never n = record { names = n ∷ []; least = 0; most = 0 }
 
+-- document 02, Req 07: "A SOSTITUZIONE line holds its structure once, after beneficiario or versante, else answer 4; other operations pass it over"
+abbrev pub ifReplacing : Bool → Named → List Row
+ifReplacing true n = once n ∷ []
+ifReplacing false n = []
+
+-- a root's orders: "mandato and reversale in any mix", 1 to 64
+abbrev pub ordersRow : Row
+ordersRow = many 1 64 (("mandato" is Rows (Mandato false)) ∷ ("reversale" is Rows (Reversale false)) ∷ [])
+
 -- an entry of an outcome message (document 000, Tab. 17) ..
+abbrev pub entryEnd : Parent → List Row
+entryEnd errors =
+    once ("importo" is Text Importo)
+    ∷ once ("esito_operazione" is Text EsitoOperazione)
+    ∷ once ("data_ora_esito_operazione" is Text DataOraZona)
+    ∷ optional ("lista_errori" is Rows errors)
+    ∷ []
+
 abbrev pub entryRows : String → String → String → Parent → List Row
 entryRows number progressivo date errors =
     once ("identificativo_flusso" is Text Identificativo)
@@ -48,22 +65,17 @@ entryRows number progressivo date errors =
     ∷ once (number is Text Numero)
     ∷ never (progressivo is Text Progressivo)
     ∷ once (date is Text Data)
-    ∷ once ("importo" is Text Importo)
-    ∷ once ("esito_operazione" is Text EsitoOperazione)
-    ∷ once ("data_ora_esito_operazione" is Text DataOraZona)
-    ∷ optional ("lista_errori" is Rows errors)
-    ∷ []
+    ∷ entryEnd errors
 
 -- .. and its list of errors
-abbrev pub errorRows : String → List Row
-errorRows progressivo =
-    never (progressivo is Text Progressivo)
-    ∷ once ("codice_errore" is Text CodiceErrore)
-    ∷ once ("descrizione" is Text Descrizione)
-    ∷ once ("elemento" is Text Elemento)
-    ∷ []
+abbrev pub errorEnd : List Row
+errorEnd = once ("codice_errore" is Text CodiceErrore) ∷ once ("descrizione" is Text Descrizione) ∷ once ("elemento" is Text Elemento) ∷ []
 
--- THE TABLE
+abbrev pub errorRows : String → List Row
+errorRows progressivo = never (progressivo is Text Progressivo) ∷ errorEnd
+
+-- THE TABLE. An order and a line of it are told whether the order replaces others: then each line names the one that it replaces, by "the sostituzione
+-- structures of 000" (document 02, Req 07)
 abbrev pub table : Parent → List Row
 table FlussoOrdinativi =
     once ("codice_ABI_BT" is Text CodiceAbi)
@@ -71,33 +83,43 @@ table FlussoOrdinativi =
     ∷ once ("data_ora_creazione_flusso" is Text DataOra)
     ∷ once ("codice_ente_BT" is Text CodiceEnte)
     ∷ once ("esercizio" is Text Esercizio)
-    ∷ many 1 64 (("mandato" is Rows Mandato) ∷ ("reversale" is Rows Reversale) ∷ [])
+    ∷ ordersRow
     ∷ []
-table Mandato =
+table (Mandato r) =
     once ("tipo_operazione" is Text TipoOperazione)
     ∷ once ("numero_mandato" is Text Numero)
     ∷ once ("data_mandato" is Text Data)
     ∷ once ("importo_mandato" is Text Importo)
-    ∷ many 1 8 (("informazioni_beneficiario" is Rows InformazioniBeneficiario) ∷ [])
+    ∷ many 1 8 (("informazioni_beneficiario" is Rows (InformazioniBeneficiario r)) ∷ [])
     ∷ []
-table InformazioniBeneficiario =
+table (InformazioniBeneficiario r) =
     once ("progressivo_beneficiario" is Text Progressivo)
     ∷ once ("importo_beneficiario" is Text Importo)
     ∷ once ("beneficiario" is Rows Beneficiario)
+    ∷ ifReplacing r ("sostituzione_mandato" is Rows SostituzioneMandato)
+table SostituzioneMandato =
+    once ("numero_mandato_da_sostituire" is Text Numero)
+    ∷ once ("progressivo_beneficiario_da_sostituire" is Text Progressivo)
+    ∷ once ("esercizio_mandato_da_sostituire" is Text Esercizio)
     ∷ []
 table Beneficiario = once ("anagrafica_beneficiario" is Text Anagrafica) ∷ []
 -- "Reversale is the same with reversale, informazioni_versante, versante in place of mandato, informazioni_beneficiario, beneficiario"
-table Reversale =
+table (Reversale r) =
     once ("tipo_operazione" is Text TipoOperazione)
     ∷ once ("numero_reversale" is Text Numero)
     ∷ once ("data_reversale" is Text Data)
     ∷ once ("importo_reversale" is Text Importo)
-    ∷ many 1 8 (("informazioni_versante" is Rows InformazioniVersante) ∷ [])
+    ∷ many 1 8 (("informazioni_versante" is Rows (InformazioniVersante r)) ∷ [])
     ∷ []
-table InformazioniVersante =
+table (InformazioniVersante r) =
     once ("progressivo_versante" is Text Progressivo)
     ∷ once ("importo_versante" is Text Importo)
     ∷ once ("versante" is Rows Versante)
+    ∷ ifReplacing r ("sostituzione_reversale" is Rows SostituzioneReversale)
+table SostituzioneReversale =
+    once ("numero_reversale_da_sostituire" is Text Numero)
+    ∷ once ("progressivo_versante_da_sostituire" is Text Progressivo)
+    ∷ once ("esercizio_reversale_da_sostituire" is Text Esercizio)
     ∷ []
 table Versante = once ("anagrafica_versante" is Text Anagrafica) ∷ []
 -- OUTCOME MESSAGES: "the messaggio di esito applicativo of source document 000, 10.2.5" (Tab. 17, its testata Tab. 13), as Req 01 has it written. (That
@@ -128,7 +150,7 @@ table ErroriMandati = errorRows "progressivo_beneficiario"
 table FlussoOpi =
     once ("testata_flusso" is Rows TestataFlusso)
     ∷ once ("esercizio" is Text Esercizio)
-    ∷ many 1 64 (("mandato" is Rows Mandato) ∷ ("reversale" is Rows Reversale) ∷ [])
+    ∷ ordersRow
     ∷ []
 table TestataFlusso =
     once ("codice_ABI_BT" is Text CodiceAbi)

@@ -8,20 +8,26 @@ use fields::Value;
 ghost use mathlib.Core.Path.{_≡_};
 ghost use mathlib.Core.Bool.{true};
 ghost use Prim.Native.Nat.{_+_, _≤_, _<_};
-ghost use lib.ListN.{length};
+ghost use lib.ListN.{length, drop};
 ghost use Rattle.markup.specs.Noted.{Noted};
-ghost use Rattle.rows.specs.Table.{nameIs, table, spotIn};
+ghost use mathlib.Core.List.{[], _∷_};
+ghost use Rattle.rows.specs.Table.{nameIs, table, ordersRow, entryEnd, errorEnd, spotIn};
 ghost use Rattle.rows.specs.Kept.{keptFrom, nextOf};
 ghost use Rattle.rows.specs.Read.{fieldRead};
+ghost use Rattle.rows.specs.Replaces.{replaces, rowsFor};
+ghost use Rattle.tokens.specs.Tokens.{whiteAt};
 ghost use Rattle.rows.specs.Inner.{ofMessage};
 
-// The parents of document 01's table; then those of outcome messages, and edition 2's root and header.
+// The parents of document 01's table, an order and a line of it each with whether the order replaces others; then those of outcome messages, and
+// edition 2's root and header.
 pub enum Parent {
     FlussoOrdinativi,
-    Mandato,
-    Reversale,
-    InformazioniBeneficiario,
-    InformazioniVersante,
+    Mandato(bool),
+    Reversale(bool),
+    InformazioniBeneficiario(bool),
+    InformazioniVersante(bool),
+    SostituzioneMandato,
+    SostituzioneReversale,
     Beneficiario,
     Versante,
     MessaggiEsito,
@@ -75,6 +81,20 @@ pub fn is(s: &[u8], a: usize, e: usize, x: &[u8]) -> bool
     scan::has(s, a, x)
 }
 
+// The row of a root that its orders stand in.
+fn order_spot(s: &[u8], a: usize, e: usize, row: usize) -> Spot
+    requires { ⌜ (a ≤ e) × (e ≤ length (now s)) ⌝ }
+    ensures { λ r. ⌜ r ≡ spotIn (ordersRow ∷ []) row (now (s .entry)) a e ⌝ }
+{
+    if is(s, a, e, b"mandato") {
+        return Spot::At(row, Holds::Rows(Parent::Mandato(false)));
+    }
+    if is(s, a, e, b"reversale") {
+        return Spot::At(row, Holds::Rows(Parent::Reversale(false)));
+    }
+    Spot::Passed
+}
+
 fn flusso_spot(s: &[u8], a: usize, e: usize) -> Spot
     requires { ⌜ (a ≤ e) × (e ≤ length (now s)) ⌝ }
     ensures { λ r. ⌜ r ≡ spotIn (table Parent.FlussoOrdinativi) 0 (now (s .entry)) a e ⌝ }
@@ -94,18 +114,12 @@ fn flusso_spot(s: &[u8], a: usize, e: usize) -> Spot
     if is(s, a, e, b"esercizio") {
         return Spot::At(4, Holds::Text(Form::Esercizio));
     }
-    if is(s, a, e, b"mandato") {
-        return Spot::At(5, Holds::Rows(Parent::Mandato));
-    }
-    if is(s, a, e, b"reversale") {
-        return Spot::At(5, Holds::Rows(Parent::Reversale));
-    }
-    Spot::Passed
+    order_spot(s, a, e, 5)
 }
 
-fn mandato_spot(s: &[u8], a: usize, e: usize) -> Spot
+fn mandato_spot(s: &[u8], a: usize, e: usize, replaces: bool) -> Spot
     requires { ⌜ (a ≤ e) × (e ≤ length (now s)) ⌝ }
-    ensures { λ r. ⌜ r ≡ spotIn (table Parent.Mandato) 0 (now (s .entry)) a e ⌝ }
+    ensures { λ r. ⌜ r ≡ spotIn (table (Parent.Mandato replaces)) 0 (now (s .entry)) a e ⌝ }
 {
     if is(s, a, e, b"tipo_operazione") {
         return Spot::At(0, Holds::Text(Form::TipoOperazione));
@@ -120,14 +134,14 @@ fn mandato_spot(s: &[u8], a: usize, e: usize) -> Spot
         return Spot::At(3, Holds::Text(Form::Importo));
     }
     if is(s, a, e, b"informazioni_beneficiario") {
-        return Spot::At(4, Holds::Rows(Parent::InformazioniBeneficiario));
+        return Spot::At(4, Holds::Rows(Parent::InformazioniBeneficiario(replaces)));
     }
     Spot::Passed
 }
 
-fn reversale_spot(s: &[u8], a: usize, e: usize) -> Spot
+fn reversale_spot(s: &[u8], a: usize, e: usize, replaces: bool) -> Spot
     requires { ⌜ (a ≤ e) × (e ≤ length (now s)) ⌝ }
-    ensures { λ r. ⌜ r ≡ spotIn (table Parent.Reversale) 0 (now (s .entry)) a e ⌝ }
+    ensures { λ r. ⌜ r ≡ spotIn (table (Parent.Reversale replaces)) 0 (now (s .entry)) a e ⌝ }
 {
     if is(s, a, e, b"tipo_operazione") {
         return Spot::At(0, Holds::Text(Form::TipoOperazione));
@@ -142,14 +156,14 @@ fn reversale_spot(s: &[u8], a: usize, e: usize) -> Spot
         return Spot::At(3, Holds::Text(Form::Importo));
     }
     if is(s, a, e, b"informazioni_versante") {
-        return Spot::At(4, Holds::Rows(Parent::InformazioniVersante));
+        return Spot::At(4, Holds::Rows(Parent::InformazioniVersante(replaces)));
     }
     Spot::Passed
 }
 
-fn informazioni_beneficiario_spot(s: &[u8], a: usize, e: usize) -> Spot
+fn informazioni_beneficiario_spot(s: &[u8], a: usize, e: usize, replaces: bool) -> Spot
     requires { ⌜ (a ≤ e) × (e ≤ length (now s)) ⌝ }
-    ensures { λ r. ⌜ r ≡ spotIn (table Parent.InformazioniBeneficiario) 0 (now (s .entry)) a e ⌝ }
+    ensures { λ r. ⌜ r ≡ spotIn (table (Parent.InformazioniBeneficiario replaces)) 0 (now (s .entry)) a e ⌝ }
 {
     if is(s, a, e, b"progressivo_beneficiario") {
         return Spot::At(0, Holds::Text(Form::Progressivo));
@@ -160,12 +174,34 @@ fn informazioni_beneficiario_spot(s: &[u8], a: usize, e: usize) -> Spot
     if is(s, a, e, b"beneficiario") {
         return Spot::At(2, Holds::Rows(Parent::Beneficiario));
     }
+    if !replaces {
+        return Spot::Passed;
+    }
+    if is(s, a, e, b"sostituzione_mandato") {
+        return Spot::At(3, Holds::Rows(Parent::SostituzioneMandato));
+    }
     Spot::Passed
 }
 
-fn informazioni_versante_spot(s: &[u8], a: usize, e: usize) -> Spot
+fn sostituzione_mandato_spot(s: &[u8], a: usize, e: usize) -> Spot
     requires { ⌜ (a ≤ e) × (e ≤ length (now s)) ⌝ }
-    ensures { λ r. ⌜ r ≡ spotIn (table Parent.InformazioniVersante) 0 (now (s .entry)) a e ⌝ }
+    ensures { λ r. ⌜ r ≡ spotIn (table Parent.SostituzioneMandato) 0 (now (s .entry)) a e ⌝ }
+{
+    if is(s, a, e, b"numero_mandato_da_sostituire") {
+        return Spot::At(0, Holds::Text(Form::Numero));
+    }
+    if is(s, a, e, b"progressivo_beneficiario_da_sostituire") {
+        return Spot::At(1, Holds::Text(Form::Progressivo));
+    }
+    if is(s, a, e, b"esercizio_mandato_da_sostituire") {
+        return Spot::At(2, Holds::Text(Form::Esercizio));
+    }
+    Spot::Passed
+}
+
+fn informazioni_versante_spot(s: &[u8], a: usize, e: usize, replaces: bool) -> Spot
+    requires { ⌜ (a ≤ e) × (e ≤ length (now s)) ⌝ }
+    ensures { λ r. ⌜ r ≡ spotIn (table (Parent.InformazioniVersante replaces)) 0 (now (s .entry)) a e ⌝ }
 {
     if is(s, a, e, b"progressivo_versante") {
         return Spot::At(0, Holds::Text(Form::Progressivo));
@@ -175,6 +211,28 @@ fn informazioni_versante_spot(s: &[u8], a: usize, e: usize) -> Spot
     }
     if is(s, a, e, b"versante") {
         return Spot::At(2, Holds::Rows(Parent::Versante));
+    }
+    if !replaces {
+        return Spot::Passed;
+    }
+    if is(s, a, e, b"sostituzione_reversale") {
+        return Spot::At(3, Holds::Rows(Parent::SostituzioneReversale));
+    }
+    Spot::Passed
+}
+
+fn sostituzione_reversale_spot(s: &[u8], a: usize, e: usize) -> Spot
+    requires { ⌜ (a ≤ e) × (e ≤ length (now s)) ⌝ }
+    ensures { λ r. ⌜ r ≡ spotIn (table Parent.SostituzioneReversale) 0 (now (s .entry)) a e ⌝ }
+{
+    if is(s, a, e, b"numero_reversale_da_sostituire") {
+        return Spot::At(0, Holds::Text(Form::Numero));
+    }
+    if is(s, a, e, b"progressivo_versante_da_sostituire") {
+        return Spot::At(1, Holds::Text(Form::Progressivo));
+    }
+    if is(s, a, e, b"esercizio_reversale_da_sostituire") {
+        return Spot::At(2, Holds::Text(Form::Esercizio));
     }
     Spot::Passed
 }
@@ -237,6 +295,13 @@ fn testata_spot(s: &[u8], a: usize, e: usize) -> Spot
     if is(s, a, e, b"codice_istat_ente") {
         return Spot::At(4, Holds::Text(Form::Testo));
     }
+    testata_end(s, a, e)
+}
+
+fn testata_end(s: &[u8], a: usize, e: usize) -> Spot
+    requires { ⌜ (a ≤ e) × (e ≤ length (now s)) ⌝ }
+    ensures { λ r. ⌜ r ≡ spotIn (drop 5 (table Parent.TestataMessaggio)) 5 (now (s .entry)) a e ⌝ }
+{
     if is(s, a, e, b"codice_fiscale_ente") {
         return Spot::At(5, Holds::Text(Form::Testo));
     }
@@ -248,6 +313,26 @@ fn testata_spot(s: &[u8], a: usize, e: usize) -> Spot
     }
     if is(s, a, e, b"codice_ente_BT") {
         return Spot::At(8, Holds::Text(Form::CodiceEnte));
+    }
+    Spot::Passed
+}
+
+// The rows that follow the date in an entry of either kind.
+fn entry_end(s: &[u8], a: usize, e: usize, errors: Parent) -> Spot
+    requires { ⌜ (a ≤ e) × (e ≤ length (now s)) ⌝ }
+    ensures { λ r. ⌜ r ≡ spotIn (entryEnd errors) 5 (now (s .entry)) a e ⌝ }
+{
+    if is(s, a, e, b"importo") {
+        return Spot::At(5, Holds::Text(Form::Importo));
+    }
+    if is(s, a, e, b"esito_operazione") {
+        return Spot::At(6, Holds::Text(Form::EsitoOperazione));
+    }
+    if is(s, a, e, b"data_ora_esito_operazione") {
+        return Spot::At(7, Holds::Text(Form::DataOraZona));
+    }
+    if is(s, a, e, b"lista_errori") {
+        return Spot::At(8, Holds::Rows(errors));
     }
     Spot::Passed
 }
@@ -271,19 +356,7 @@ fn esito_reversali_spot(s: &[u8], a: usize, e: usize) -> Spot
     if is(s, a, e, b"data_reversale") {
         return Spot::At(4, Holds::Text(Form::Data));
     }
-    if is(s, a, e, b"importo") {
-        return Spot::At(5, Holds::Text(Form::Importo));
-    }
-    if is(s, a, e, b"esito_operazione") {
-        return Spot::At(6, Holds::Text(Form::EsitoOperazione));
-    }
-    if is(s, a, e, b"data_ora_esito_operazione") {
-        return Spot::At(7, Holds::Text(Form::DataOraZona));
-    }
-    if is(s, a, e, b"lista_errori") {
-        return Spot::At(8, Holds::Rows(Parent::ErroriReversali));
-    }
-    Spot::Passed
+    entry_end(s, a, e, Parent::ErroriReversali)
 }
 
 fn esito_mandati_spot(s: &[u8], a: usize, e: usize) -> Spot
@@ -305,17 +378,22 @@ fn esito_mandati_spot(s: &[u8], a: usize, e: usize) -> Spot
     if is(s, a, e, b"data_mandato") {
         return Spot::At(4, Holds::Text(Form::Data));
     }
-    if is(s, a, e, b"importo") {
-        return Spot::At(5, Holds::Text(Form::Importo));
+    entry_end(s, a, e, Parent::ErroriMandati)
+}
+
+// The rows that follow the progressivo in a list of errors.
+fn error_end(s: &[u8], a: usize, e: usize) -> Spot
+    requires { ⌜ (a ≤ e) × (e ≤ length (now s)) ⌝ }
+    ensures { λ r. ⌜ r ≡ spotIn errorEnd 1 (now (s .entry)) a e ⌝ }
+{
+    if is(s, a, e, b"codice_errore") {
+        return Spot::At(1, Holds::Text(Form::CodiceErrore));
     }
-    if is(s, a, e, b"esito_operazione") {
-        return Spot::At(6, Holds::Text(Form::EsitoOperazione));
+    if is(s, a, e, b"descrizione") {
+        return Spot::At(2, Holds::Text(Form::Descrizione));
     }
-    if is(s, a, e, b"data_ora_esito_operazione") {
-        return Spot::At(7, Holds::Text(Form::DataOraZona));
-    }
-    if is(s, a, e, b"lista_errori") {
-        return Spot::At(8, Holds::Rows(Parent::ErroriMandati));
+    if is(s, a, e, b"elemento") {
+        return Spot::At(3, Holds::Text(Form::Elemento));
     }
     Spot::Passed
 }
@@ -327,16 +405,7 @@ fn errori_reversali_spot(s: &[u8], a: usize, e: usize) -> Spot
     if is(s, a, e, b"progressivo_versante") {
         return Spot::At(0, Holds::Text(Form::Progressivo));
     }
-    if is(s, a, e, b"codice_errore") {
-        return Spot::At(1, Holds::Text(Form::CodiceErrore));
-    }
-    if is(s, a, e, b"descrizione") {
-        return Spot::At(2, Holds::Text(Form::Descrizione));
-    }
-    if is(s, a, e, b"elemento") {
-        return Spot::At(3, Holds::Text(Form::Elemento));
-    }
-    Spot::Passed
+    error_end(s, a, e)
 }
 
 fn errori_mandati_spot(s: &[u8], a: usize, e: usize) -> Spot
@@ -346,16 +415,7 @@ fn errori_mandati_spot(s: &[u8], a: usize, e: usize) -> Spot
     if is(s, a, e, b"progressivo_beneficiario") {
         return Spot::At(0, Holds::Text(Form::Progressivo));
     }
-    if is(s, a, e, b"codice_errore") {
-        return Spot::At(1, Holds::Text(Form::CodiceErrore));
-    }
-    if is(s, a, e, b"descrizione") {
-        return Spot::At(2, Holds::Text(Form::Descrizione));
-    }
-    if is(s, a, e, b"elemento") {
-        return Spot::At(3, Holds::Text(Form::Elemento));
-    }
-    Spot::Passed
+    error_end(s, a, e)
 }
 
 fn opi_spot(s: &[u8], a: usize, e: usize) -> Spot
@@ -368,13 +428,7 @@ fn opi_spot(s: &[u8], a: usize, e: usize) -> Spot
     if is(s, a, e, b"esercizio") {
         return Spot::At(1, Holds::Text(Form::Esercizio));
     }
-    if is(s, a, e, b"mandato") {
-        return Spot::At(2, Holds::Rows(Parent::Mandato));
-    }
-    if is(s, a, e, b"reversale") {
-        return Spot::At(2, Holds::Rows(Parent::Reversale));
-    }
-    Spot::Passed
+    order_spot(s, a, e, 2)
 }
 
 fn testata_flusso_spot(s: &[u8], a: usize, e: usize) -> Spot
@@ -410,10 +464,12 @@ fn message_spot(s: &[u8], a: usize, e: usize, parent: Parent) -> Spot
         Parent::ErroriReversali => errori_reversali_spot(s, a, e),
         Parent::ErroriMandati => errori_mandati_spot(s, a, e),
         Parent::FlussoOrdinativi => Spot::Passed,
-        Parent::Mandato => Spot::Passed,
-        Parent::Reversale => Spot::Passed,
-        Parent::InformazioniBeneficiario => Spot::Passed,
-        Parent::InformazioniVersante => Spot::Passed,
+        Parent::Mandato(_) => Spot::Passed,
+        Parent::Reversale(_) => Spot::Passed,
+        Parent::InformazioniBeneficiario(_) => Spot::Passed,
+        Parent::InformazioniVersante(_) => Spot::Passed,
+        Parent::SostituzioneMandato => Spot::Passed,
+        Parent::SostituzioneReversale => Spot::Passed,
         Parent::Beneficiario => Spot::Passed,
         Parent::Versante => Spot::Passed,
         Parent::FlussoOpi => Spot::Passed,
@@ -428,10 +484,12 @@ pub fn spot_of(s: &[u8], a: usize, e: usize, parent: Parent) -> Spot
 {
     match parent {
         Parent::FlussoOrdinativi => flusso_spot(s, a, e),
-        Parent::Mandato => mandato_spot(s, a, e),
-        Parent::Reversale => reversale_spot(s, a, e),
-        Parent::InformazioniBeneficiario => informazioni_beneficiario_spot(s, a, e),
-        Parent::InformazioniVersante => informazioni_versante_spot(s, a, e),
+        Parent::Mandato(r) => mandato_spot(s, a, e, r),
+        Parent::Reversale(r) => reversale_spot(s, a, e, r),
+        Parent::InformazioniBeneficiario(r) => informazioni_beneficiario_spot(s, a, e, r),
+        Parent::InformazioniVersante(r) => informazioni_versante_spot(s, a, e, r),
+        Parent::SostituzioneMandato => sostituzione_mandato_spot(s, a, e),
+        Parent::SostituzioneReversale => sostituzione_reversale_spot(s, a, e),
         Parent::Beneficiario => beneficiario_spot(s, a, e),
         Parent::Versante => versante_spot(s, a, e),
         Parent::MessaggiEsito => message_spot(s, a, e, parent),
@@ -469,6 +527,50 @@ pub fn next_named(s: &[u8], from: usize, parent: Parent, past: &[u32]) -> Next
                 i = c.after;
             }
         }
+    }
+}
+
+// Whether the order whose content begins at a place replaces others. (Its first named child is tipo_operazione, where its structure stands.)
+fn is_replacing(s: &[u8], at: usize, parent: Parent, past: &[u32]) -> bool
+    requires { ⌜ (at ≤ length (now s)) × Noted (now s) (now past) ⌝ }
+    ensures { λ r. ⌜ r ≡ replaces (now (s .entry)) (keptFrom parent (now (s .entry)) (whiteAt (now (s .entry)) at)) ⌝ }
+{
+    let mut i = scan::white_end(s, at);
+    loop {
+        let Next::Named(k) = next_named(s, i, parent, past) else {
+            return false;
+        };
+        let c = k.child;
+        if k.row == 0 {
+            return is(s, c.gt + 1, c.to, b"SOSTITUZIONE");
+        }
+        i = c.after;
+    }
+}
+
+// The parent whose rows content has, where its element's name says `parent`: an order is told whether it replaces others.
+pub fn rows_for(s: &[u8], at: usize, parent: Parent, past: &[u32]) -> Parent
+    requires { ⌜ (at ≤ length (now s)) × Noted (now s) (now past) ⌝ }
+    ensures { λ r. ⌜ r ≡ rowsFor parent (now (s .entry)) at ⌝ }
+{
+    match parent {
+        Parent::Mandato(_) => Parent::Mandato(is_replacing(s, at, parent, past)),
+        Parent::Reversale(_) => Parent::Reversale(is_replacing(s, at, parent, past)),
+        Parent::FlussoOrdinativi => parent,
+        Parent::InformazioniBeneficiario(_) => parent,
+        Parent::InformazioniVersante(_) => parent,
+        Parent::SostituzioneMandato => parent,
+        Parent::SostituzioneReversale => parent,
+        Parent::Beneficiario => parent,
+        Parent::Versante => parent,
+        Parent::MessaggiEsito => parent,
+        Parent::TestataMessaggio => parent,
+        Parent::EsitoReversali => parent,
+        Parent::EsitoMandati => parent,
+        Parent::ErroriReversali => parent,
+        Parent::ErroriMandati => parent,
+        Parent::FlussoOpi => parent,
+        Parent::TestataFlusso => parent,
     }
 }
 

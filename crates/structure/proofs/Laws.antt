@@ -13,6 +13,7 @@ use Rattle.scan.proofs.Laws.{both}
 use Rattle.tokens.specs.Tokens.{whiteAt}
 use Rattle.children.specs.declared.Child.{Child}
 use Rattle.rows.specs.declared.Parent.{Parent}
+use Rattle.rows.specs.declared.Parent.the-variants.{InformazioniBeneficiario, InformazioniVersante}
 use Rattle.rows.specs.declared.Holds.{Holds}
 use Rattle.rows.specs.declared.Spot.{Spot}
 use Rattle.rows.specs.declared.Spot.the-variants.{At, Passed}
@@ -26,6 +27,11 @@ use Rattle.structure.specs.Structure.{isNil, allKept, Range, ranges, tak
 
 no : {A : Type 0} → _≡_ {A = Bool} false true → A
 no e = let z : _≡_ {A = ℕ} 0 1 = cc in absurd (omega arith)
+
+-- a line's rows take as many elements for both kinds
+pub versante-rows : (r : Bool) → ranges (table (InformazioniVersante r)) ≡ ranges (table (InformazioniBeneficiario r))
+versante-rows true = refl
+versante-rows false = refl
 
 -- WHAT FITS IS MADE OF
 pub fits-parts : (d : ℕ) (p : Parent) (s : List ℕ) (at : ℕ) → fitsAt (suc d) p s at ≡ true

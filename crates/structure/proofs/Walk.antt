@@ -13,7 +13,7 @@ use Rattle.scan.specs.Bytes.{between, run}
 use Rattle.tokens.specs.Tokens.{whiteAt}
 use Rattle.children.specs.declared.Child.{Child}
 use Rattle.rows.specs.declared.Parent.{Parent}
-use Rattle.rows.specs.declared.Parent.the-variants.{FlussoOrdinativi, Mandato, Reversale, InformazioniBeneficiario, InformazioniVersante, Beneficiario, Versante, MessaggiEsito, TestataMessaggio, EsitoReversali, EsitoMandati, ErroriReversali, ErroriMandati, FlussoOpi, TestataFlusso}
+use Rattle.rows.specs.declared.Parent.the-variants.{FlussoOrdinativi, Mandato, Reversale, InformazioniBeneficiario, InformazioniVersante, SostituzioneMandato, SostituzioneReversale, Beneficiario, Versante, MessaggiEsito, TestataMessaggio, EsitoReversali, EsitoMandati, ErroriReversali, ErroriMandati, FlussoOpi, TestataFlusso}
 use Rattle.children.specs.declared.Step.the-variants.{One, End}
 use Rattle.rows.specs.declared.Kept.{Kept}
 use Rattle.children.specs.Child.{childAt}
@@ -55,10 +55,12 @@ module _ (ps : List ℕ) (row n : ℕ) where
 
 pub some-row : (p : Parent) → 0 < length (ranges (table p))
 some-row FlussoOrdinativi = omega arith
-some-row Mandato = omega arith
-some-row Reversale = omega arith
-some-row InformazioniBeneficiario = omega arith
-some-row InformazioniVersante = omega arith
+some-row (Mandato r) = omega arith
+some-row (Reversale r) = omega arith
+some-row (InformazioniBeneficiario r) = omega arith
+some-row (InformazioniVersante r) = omega arith
+some-row SostituzioneMandato = omega arith
+some-row SostituzioneReversale = omega arith
 some-row Beneficiario = omega arith
 some-row Versante = omega arith
 some-row MessaggiEsito = omega arith

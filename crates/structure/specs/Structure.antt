@@ -13,6 +13,7 @@ use Rattle.rows.specs.declared.Kept.{Kept}
 use Rattle.children.specs.Child.{childrenFrom}
 use Rattle.rows.specs.Table.{Row, table}
 use Rattle.rows.specs.Kept.{keptFrom}
+use Rattle.rows.specs.Replaces.{rowsFor}
 
 abbrev pub isNil : {A : Type 0} → List A → Bool
 isNil [] = true
@@ -62,10 +63,10 @@ inOrder (r ∷ rs) n ks = takes r (run (isRow n) ks) && inOrder rs (suc n) (drop
 unfoldable pub textOnly : List ℕ → ℕ → Bool
 textOnly s at = isNil (childrenFrom s (whiteAt s at))
 
--- content that begins at `at` is what is to be held: text only, or the rows of a parent
+-- content that begins at `at` is what is to be held: text only, or the rows of a parent, which an order has by its operation
 abbrev pub holdsAt : (Parent → ℕ → Bool) → List ℕ → Holds → ℕ → Bool
 holdsAt deeper s (Text f) at = textOnly s at
-holdsAt deeper s (Rows p) at = deeper p at
+holdsAt deeper s (Rows p) at = deeper (rowsFor p s at) at
 
 abbrev pub keptHolds : (Parent → ℕ → Bool) → List ℕ → Kept → Bool
 keptHolds deeper s k = holdsAt deeper s (k .holds) (k .child .gt + 1)

@@ -16,9 +16,12 @@ const MANDATO: [u8; 10] = *b"\x01\x01\x01\x01\x01\x01\x01\x01\x01\x08";
 
 const REVERSALE: [u8; 10] = *b"\x01\x01\x01\x01\x01\x01\x01\x01\x01\x08";
 
-const INFORMAZIONI_BENEFICIARIO: [u8; 6] = *b"\x01\x01\x01\x01\x01\x01";
+// A line of either kind, and one of an order that replaces others.
+const LINE: [u8; 6] = *b"\x01\x01\x01\x01\x01\x01";
 
-const INFORMAZIONI_VERSANTE: [u8; 6] = *b"\x01\x01\x01\x01\x01\x01";
+const LINE_REPLACING: [u8; 8] = *b"\x01\x01\x01\x01\x01\x01\x01\x01";
+
+const SOSTITUZIONE: [u8; 6] = *b"\x01\x01\x01\x01\x01\x01";
 
 const BENEFICIARIO: [u8; 2] = *b"\x01\x01";
 
@@ -65,15 +68,24 @@ fn row_allows(row: usize, n: usize, pairs: &[u8]) -> bool
     n <= wide(pairs[j])
 }
 
+// A line has three rows, and a fourth where its order replaces others.
+fn line_rows(replaces: bool) -> usize
+    ensures { λ r. ⌜ r ≡ length (ranges (table (Parent.InformazioniBeneficiario replaces))) ⌝ }
+{
+    if replaces { 4 } else { 3 }
+}
+
 pub fn rows(parent: Parent) -> usize
     ensures { λ r. ⌜ r ≡ length (ranges (table parent)) ⌝ }
 {
     match parent {
         Parent::FlussoOrdinativi => 6,
-        Parent::Mandato => 5,
-        Parent::Reversale => 5,
-        Parent::InformazioniBeneficiario => 3,
-        Parent::InformazioniVersante => 3,
+        Parent::Mandato(_) => 5,
+        Parent::Reversale(_) => 5,
+        Parent::InformazioniBeneficiario(r) => line_rows(r),
+        Parent::InformazioniVersante(r) => line_rows(r),
+        Parent::SostituzioneMandato => 3,
+        Parent::SostituzioneReversale => 3,
         Parent::Beneficiario => 1,
         Parent::Versante => 1,
         Parent::MessaggiEsito => 4,
@@ -106,16 +118,29 @@ fn filled_in(row: usize, n: usize, to: usize, pairs: &[u8]) -> bool
     true
 }
 
+// The same of a line's rows, which are alike for both kinds.
+fn line_filled(row: usize, n: usize, to: usize, replaces: bool) -> bool
+    ensures { λ r. ⌜ r ≡ filledFrom (ranges (table (Parent.InformazioniBeneficiario replaces))) row n to ⌝ }
+{
+    if replaces {
+        filled_in(row, n, to, &LINE_REPLACING)
+    } else {
+        filled_in(row, n, to, &LINE)
+    }
+}
+
 // The same of the parent's rows.
 pub fn filled(parent: Parent, row: usize, n: usize, to: usize) -> bool
     ensures { λ r. ⌜ r ≡ filledFrom (ranges (table parent)) row n to ⌝ }
 {
     match parent {
         Parent::FlussoOrdinativi => filled_in(row, n, to, &FLUSSO_ORDINATIVI),
-        Parent::Mandato => filled_in(row, n, to, &MANDATO),
-        Parent::Reversale => filled_in(row, n, to, &REVERSALE),
-        Parent::InformazioniBeneficiario => filled_in(row, n, to, &INFORMAZIONI_BENEFICIARIO),
-        Parent::InformazioniVersante => filled_in(row, n, to, &INFORMAZIONI_VERSANTE),
+        Parent::Mandato(_) => filled_in(row, n, to, &MANDATO),
+        Parent::Reversale(_) => filled_in(row, n, to, &REVERSALE),
+        Parent::InformazioniBeneficiario(r) => line_filled(row, n, to, r),
+        Parent::InformazioniVersante(r) => line_filled(row, n, to, r),
+        Parent::SostituzioneMandato => filled_in(row, n, to, &SOSTITUZIONE),
+        Parent::SostituzioneReversale => filled_in(row, n, to, &SOSTITUZIONE),
         Parent::Beneficiario => filled_in(row, n, to, &BENEFICIARIO),
         Parent::Versante => filled_in(row, n, to, &VERSANTE),
         Parent::MessaggiEsito => filled_in(row, n, to, &MESSAGGI_ESITO),

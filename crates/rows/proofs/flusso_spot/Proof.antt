@@ -2,6 +2,10 @@ use mathlib.Core.Path.{sym, _∙_}
 use borrow.Author.Needs.{needs}
 use Rattle.rows.proofs.flusso_spot.Statement.{statement}
 use Rattle.rows.proofs.flusso_spot.Tie as tie
+use Rattle.rows.proofs.flusso_spot.Reads as reads
+use Rattle.rows.proofs.flusso_spot.Lts as lts
+use Rattle.rows.proofs.is.Reads as is-reads
+use Rattle.rows.proofs.order_spot.Reads as order-spot-reads
 
 slice-aggregate-is : tie.Need-slice-aggregate-is
 slice-aggregate-is c = search needs
@@ -48,26 +52,11 @@ is-requires-5 c κs = search needs
 returns-5 : tie.Need-returns-5
 returns-5 c = rw (sym (c .before .before .before .before .before .before .before .before .before .before .before .before .before .is .ensures) ∙ c .before .before .before .before .before .before .before .before .before .before .before .before .if1 .left, sym (c .before .before .before .before .before .before .before .before .before .before .is2 .ensures) ∙ c .before .before .before .before .before .before .before .before .before .if2 .left, sym (c .before .before .before .before .before .before .before .is3 .ensures) ∙ c .before .before .before .before .before .before .if3 .left, sym (c .before .before .before .before .is4 .ensures) ∙ c .before .before .before .if4 .left, sym (c .before .is5 .ensures) ∙ c .if5 .taken)
 
-slice-aggregate-is-6 : tie.Need-slice-aggregate-is-6
-slice-aggregate-is-6 c = search needs
-
-is-requires-6 : tie.Need-is-requires-6
-is-requires-6 c κs = search needs
+order-spot-requires : tie.Need-order-spot-requires
+order-spot-requires c κs = search needs
 
 returns-6 : tie.Need-returns-6
-returns-6 c = rw (sym (c .before .before .before .before .before .before .before .before .before .before .before .before .before .before .before .before .is .ensures) ∙ c .before .before .before .before .before .before .before .before .before .before .before .before .before .before .before .if1 .left, sym (c .before .before .before .before .before .before .before .before .before .before .before .before .before .is2 .ensures) ∙ c .before .before .before .before .before .before .before .before .before .before .before .before .if2 .left, sym (c .before .before .before .before .before .before .before .before .before .before .is3 .ensures) ∙ c .before .before .before .before .before .before .before .before .before .if3 .left, sym (c .before .before .before .before .before .before .before .is4 .ensures) ∙ c .before .before .before .before .before .before .if4 .left, sym (c .before .before .before .before .is5 .ensures) ∙ c .before .before .before .if5 .left, sym (c .before .is6 .ensures) ∙ c .if6 .taken)
-
-slice-aggregate-is-7 : tie.Need-slice-aggregate-is-7
-slice-aggregate-is-7 c = search needs
-
-is-requires-7 : tie.Need-is-requires-7
-is-requires-7 c κs = search needs
-
-returns-7 : tie.Need-returns-7
-returns-7 c = rw (sym (c .before .before .before .before .before .before .before .before .before .before .before .before .before .before .before .before .before .before .before .is .ensures) ∙ c .before .before .before .before .before .before .before .before .before .before .before .before .before .before .before .before .before .before .if1 .left, sym (c .before .before .before .before .before .before .before .before .before .before .before .before .before .before .before .before .is2 .ensures) ∙ c .before .before .before .before .before .before .before .before .before .before .before .before .before .before .before .if2 .left, sym (c .before .before .before .before .before .before .before .before .before .before .before .before .before .is3 .ensures) ∙ c .before .before .before .before .before .before .before .before .before .before .before .before .if3 .left, sym (c .before .before .before .before .before .before .before .before .before .before .is4 .ensures) ∙ c .before .before .before .before .before .before .before .before .before .if4 .left, sym (c .before .before .before .before .before .before .before .is5 .ensures) ∙ c .before .before .before .before .before .before .if5 .left, sym (c .before .before .before .before .is6 .ensures) ∙ c .before .before .before .if6 .left, sym (c .before .is7 .ensures) ∙ c .if7 .taken)
-
-returns-8 : tie.Need-returns-8
-returns-8 c = rw (sym (c .before .before .before .before .before .before .before .before .before .before .before .before .before .before .before .before .before .before .before .is .ensures) ∙ c .before .before .before .before .before .before .before .before .before .before .before .before .before .before .before .before .before .before .if1 .left, sym (c .before .before .before .before .before .before .before .before .before .before .before .before .before .before .before .before .is2 .ensures) ∙ c .before .before .before .before .before .before .before .before .before .before .before .before .before .before .before .if2 .left, sym (c .before .before .before .before .before .before .before .before .before .before .before .before .before .is3 .ensures) ∙ c .before .before .before .before .before .before .before .before .before .before .before .before .if3 .left, sym (c .before .before .before .before .before .before .before .before .before .before .is4 .ensures) ∙ c .before .before .before .before .before .before .before .before .before .if4 .left, sym (c .before .before .before .before .before .before .before .is5 .ensures) ∙ c .before .before .before .before .before .before .if5 .left, sym (c .before .before .before .before .is6 .ensures) ∙ c .before .before .before .if6 .left, sym (c .before .is7 .ensures) ∙ c .if7 .left)
+returns-6 c = rw (sym (c .before .before .before .before .before .before .before .before .before .before .before .before .before .before .is .ensures) ∙ c .before .before .before .before .before .before .before .before .before .before .before .before .before .if1 .left, sym (c .before .before .before .before .before .before .before .before .before .before .before .is2 .ensures) ∙ c .before .before .before .before .before .before .before .before .before .before .if2 .left, sym (c .before .before .before .before .before .before .before .before .is3 .ensures) ∙ c .before .before .before .before .before .before .before .if3 .left, sym (c .before .before .before .before .before .is4 .ensures) ∙ c .before .before .before .before .if4 .left, sym (c .before .before .is5 .ensures) ∙ c .before .if5 .left) (c .order-spot .ensures)
 
 pub flusso-spot-spec : {M : Type 1} → statement M
 flusso-spot-spec =
@@ -88,10 +77,5 @@ flusso-spot-spec =
     slice-aggregate-is-5
     is-requires-5
     returns-5
-    slice-aggregate-is-6
-    is-requires-6
-    returns-6
-    slice-aggregate-is-7
-    is-requires-7
-    returns-7
-    returns-8)
+    order-spot-requires
+    returns-6)

@@ -74,6 +74,12 @@ enum-told-14 c = search needs
 enum-told-15 : tie.Need-enum-told-15
 enum-told-15 c = search needs
 
+enum-told-16 : tie.Need-enum-told-16
+enum-told-16 c = search needs
+
+enum-told-17 : tie.Need-enum-told-17
+enum-told-17 c = search needs
+
 returns : tie.Need-returns
 returns c = rw (c .before .enum-told .given .1) (c .messaggi-spot .ensures)
 
@@ -119,6 +125,12 @@ returns-14 c = not-both (rw (c .enum-told14 .given .1) at (c .before .before .be
 returns-15 : tie.Need-returns-15
 returns-15 c = not-both (rw (c .enum-told15 .given .1) at (c .before .before .before .pre .2))
 
+returns-16 : tie.Need-returns-16
+returns-16 c = not-both (rw (c .enum-told16 .given .1) at (c .before .before .before .pre .2))
+
+returns-17 : tie.Need-returns-17
+returns-17 c = not-both (rw (c .enum-told17 .given .1) at (c .before .before .before .pre .2))
+
 pub message-spot-spec : {M : Type 1} → statement M
 message-spot-spec =
     tie.close
@@ -144,6 +156,8 @@ message-spot-spec =
     enum-told-13
     enum-told-14
     enum-told-15
+    enum-told-16
+    enum-told-17
     returns
     returns-2
     returns-3
@@ -158,4 +172,6 @@ message-spot-spec =
     returns-12
     returns-13
     returns-14
-    returns-15)
+    returns-15
+    returns-16
+    returns-17)

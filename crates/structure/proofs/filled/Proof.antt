@@ -1,9 +1,11 @@
+use Rattle.structure.proofs.Laws.{versante-rows}
 use borrow.Author.Needs.{needs}
 use Rattle.structure.proofs.filled.Statement.{statement}
 use Rattle.structure.proofs.filled.Tie as tie
 use Rattle.structure.proofs.filled.Reads as reads
 use Rattle.structure.proofs.filled.Lts as lts
 use Rattle.structure.proofs.filled_in.Reads as filled-in-reads
+use Rattle.structure.proofs.line_filled.Reads as line-filled-reads
 
 enum-told : tie.Need-enum-told
 enum-told c = search needs
@@ -31,6 +33,18 @@ slice-aggregate-filled-in-3 c = search needs
 
 filled-in-requires-3 : tie.Need-filled-in-requires-3
 filled-in-requires-3 c κs = search needs
+
+enum-known-parent : tie.Need-enum-known-parent
+enum-known-parent c = search needs
+
+line-filled-requires : tie.Need-line-filled-requires
+line-filled-requires c κs = search needs
+
+enum-known-parent-2 : tie.Need-enum-known-parent-2
+enum-known-parent-2 c = search needs
+
+line-filled-requires-2 : tie.Need-line-filled-requires-2
+line-filled-requires-2 c κs = search needs
 
 enum-told-4 : tie.Need-enum-told-4
 enum-told-4 c = search needs
@@ -150,40 +164,46 @@ returns-3 : tie.Need-returns-3
 returns-3 c = rw (c .before .before .enum-told3 .given .1) (c .filled-in3 .ensures)
 
 returns-4 : tie.Need-returns-4
-returns-4 c = rw (c .before .before .enum-told4 .given .1) (c .filled-in4 .ensures)
+returns-4 c = rw (c .before .before .parent .given .1) (c .line-filled .ensures)
 
 returns-5 : tie.Need-returns-5
-returns-5 c = rw (c .before .before .enum-told5 .given .1) (c .filled-in5 .ensures)
+returns-5 c = rw (c .before .before .parent2 .given .1, versante-rows) (c .line-filled2 .ensures)
 
 returns-6 : tie.Need-returns-6
-returns-6 c = rw (c .before .before .enum-told6 .given .1) (c .filled-in6 .ensures)
+returns-6 c = rw (c .before .before .enum-told4 .given .1) (c .filled-in4 .ensures)
 
 returns-7 : tie.Need-returns-7
-returns-7 c = rw (c .before .before .enum-told7 .given .1) (c .filled-in7 .ensures)
+returns-7 c = rw (c .before .before .enum-told5 .given .1) (c .filled-in5 .ensures)
 
 returns-8 : tie.Need-returns-8
-returns-8 c = rw (c .before .before .enum-told8 .given .1) (c .filled-in8 .ensures)
+returns-8 c = rw (c .before .before .enum-told6 .given .1) (c .filled-in6 .ensures)
 
 returns-9 : tie.Need-returns-9
-returns-9 c = rw (c .before .before .enum-told9 .given .1) (c .filled-in9 .ensures)
+returns-9 c = rw (c .before .before .enum-told7 .given .1) (c .filled-in7 .ensures)
 
 returns-10 : tie.Need-returns-10
-returns-10 c = rw (c .before .before .enum-told10 .given .1) (c .filled-in10 .ensures)
+returns-10 c = rw (c .before .before .enum-told8 .given .1) (c .filled-in8 .ensures)
 
 returns-11 : tie.Need-returns-11
-returns-11 c = rw (c .before .before .enum-told11 .given .1) (c .filled-in11 .ensures)
+returns-11 c = rw (c .before .before .enum-told9 .given .1) (c .filled-in9 .ensures)
 
 returns-12 : tie.Need-returns-12
-returns-12 c = rw (c .before .before .enum-told12 .given .1) (c .filled-in12 .ensures)
+returns-12 c = rw (c .before .before .enum-told10 .given .1) (c .filled-in10 .ensures)
 
 returns-13 : tie.Need-returns-13
-returns-13 c = rw (c .before .before .enum-told13 .given .1) (c .filled-in13 .ensures)
+returns-13 c = rw (c .before .before .enum-told11 .given .1) (c .filled-in11 .ensures)
 
 returns-14 : tie.Need-returns-14
-returns-14 c = rw (c .before .before .enum-told14 .given .1) (c .filled-in14 .ensures)
+returns-14 c = rw (c .before .before .enum-told12 .given .1) (c .filled-in12 .ensures)
 
 returns-15 : tie.Need-returns-15
-returns-15 c = rw (c .before .before .enum-told15 .given .1) (c .filled-in15 .ensures)
+returns-15 c = rw (c .before .before .enum-told13 .given .1) (c .filled-in13 .ensures)
+
+returns-16 : tie.Need-returns-16
+returns-16 c = rw (c .before .before .enum-told14 .given .1) (c .filled-in14 .ensures)
+
+returns-17 : tie.Need-returns-17
+returns-17 c = rw (c .before .before .enum-told15 .given .1) (c .filled-in15 .ensures)
 
 pub filled-spec : {M : Type 1} → statement M
 filled-spec =
@@ -198,6 +218,10 @@ filled-spec =
     enum-told-3
     slice-aggregate-filled-in-3
     filled-in-requires-3
+    enum-known-parent
+    line-filled-requires
+    enum-known-parent-2
+    line-filled-requires-2
     enum-told-4
     slice-aggregate-filled-in-4
     filled-in-requires-4
@@ -248,4 +272,6 @@ filled-spec =
     returns-12
     returns-13
     returns-14
-    returns-15)
+    returns-15
+    returns-16
+    returns-17)
