@@ -3,3 +3,4 @@ pub mod Same
 pub mod Slots
 pub mod Puts
 pub mod State
+pub mod Replaced

@@ -1,9 +1,9 @@
 -- One body (document 01, "The table" and "Totals"): when it is valid, and its totals.
 use Prim.Native.Nat.{ℕ, zero, suc, _+_, _*_}
-use mathlib.Core.Bool.{Bool, true, _&&_, cond}
+use mathlib.Core.Bool.{Bool, true, false, _&&_, _||_, cond}
 use mathlib.Core.List.{List, [], _∷_}
 use lib.Dec.{eqb}
-use Rattle.record.specs.Slot.{slotSize, recordAt, restZero}
+use Rattle.record.specs.Slot.{slotSize, replacedLine, recordAt, restZero}
 use Rattle.record.specs.declared.Record.{Record}
 use Rattle.ranges.specs.Ranges.{zeros}
 use Rattle.valid.specs.Valid.{recordOk, executed}
@@ -33,3 +33,14 @@ bodyOk t at n =
 unfoldable pub centsOf : ℕ → List Record → ℕ
 centsOf k [] = 0
 centsOf k (r ∷ rs) = cond (eqb (r .kind) k) (executed r) 0 + centsOf k rs
+
+-- REPLACED LINES (document 02, Req 07: "it becomes replaced (line state 3)")
+
+unfoldable pub anyReplaced : List ℕ → Bool
+anyReplaced [] = false
+anyReplaced (s ∷ states) = eqb s replacedLine || anyReplaced states
+
+-- no line of the records is
+unfoldable pub noneReplaced : List Record → Bool
+noneReplaced [] = true
+noneReplaced (r ∷ rs) = cond (anyReplaced (r .states)) false (noneReplaced rs)

@@ -8,7 +8,7 @@ ghost use Rattle.record.specs.Slot.{slotSize, recordAt};
 ghost use Rattle.valid.specs.Valid.{executed};
 ghost use Rattle.valid.specs.Inner.{told};
 ghost use Rattle.slots.specs.Slots.{slotsAt, recordsAt};
-ghost use Rattle.body.specs.Body.{slotOk, slotsOk, bodyOk};
+ghost use Rattle.body.specs.Body.{slotOk, slotsOk, bodyOk, anyReplaced, noneReplaced};
 ghost use Rattle.body.specs.Inner.{summed};
 
 // A body judged: broken, or valid with the cents of its executed lines, paid and collected.
@@ -68,4 +68,46 @@ pub fn judge(t: &[u8], base: usize, n: usize) -> Sums
         return Sums::Broken;
     }
     Sums::Right(paid, collected)
+}
+
+// Whether one of these lines is replaced.
+fn any_replaced(states: &[u8]) -> bool
+    ensures { λ r. ⌜ r ≡ anyReplaced (now (states .entry)) ⌝ }
+{
+    let mut i = 0;
+    while i < states.len() {
+        if states[i] == record::REPLACED {
+            return true;
+        }
+        i += 1;
+    }
+    false
+}
+
+// Whether no line of the n used slots from a place on is replaced.
+fn slots_unreplaced(t: &[u8], base: usize, n: usize) -> bool
+    requires { ⌜ base + slotSize * n ≤ length (now t) ⌝ }
+    ensures { λ r. ⌜ r ≡ noneReplaced (slotsAt (now (t .entry)) base n) ⌝ }
+{
+    let mut at = base;
+    let mut left = n;
+    while 0 < left {
+        let r = record::record_at(t, at);
+        let states = r.states;
+        if any_replaced(&states) {
+            return false;
+        }
+        at += record::SLOT;
+        left -= 1;
+    }
+    true
+}
+
+// Whether no line of a body of n slots is replaced.
+pub fn none_replaced(t: &[u8], base: usize, n: usize) -> bool
+    requires { ⌜ base + slotSize * n ≤ length (now t) ⌝ }
+    ensures { λ r. ⌜ r ≡ noneReplaced (recordsAt (now (t .entry)) base n) ⌝ }
+{
+    let used = slots::used_slots(t, base, n);
+    slots_unreplaced(t, base, used)
 }

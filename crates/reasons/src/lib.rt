@@ -207,16 +207,22 @@ pub fn of_flow(flow: &[u8], code: u64, place: u64, cause: u64) -> bool {
 pub fn of_order(code: u8) -> bool {
     match code {
         0 => true,
-        11 => say(b"  11, SOSTITUZIONE is not taken\n"),
         12 => say(b"  12, the order's lines are not numbered 1, 2, 3 and so on\n"),
         13 => say(b"  13, the order's line amounts do not sum to its total\n"),
         14 => say(b"  14, the body already has an order of this kind, esercizio and number\n"),
         15 => say(b"  15, the body has no empty slot\n"),
         16 => say(b"  16, the body has no order of this kind, esercizio and number\n"),
         17 => say(b"  17, the order is annulled, and stays so\n"),
-        18 => say(b"  18, a line of the order is executed: it has to be reversed first\n"),
-        _ => say(
+        18 => say(
+            b"  18, a line of the order is executed, and has to be reversed first, or is replaced\n",
+        ),
+        19 => say(
             b"  19, ANNULLO: total, number of lines or a line amount differs from the record\n",
         ),
+        24 => say(b"  24, SOSTITUZIONE: a line names a line that is not there\n"),
+        25 => say(
+            b"  25, SOSTITUZIONE: a named line is not executed, or is replaced already\n",
+        ),
+        _ => say(b"  26, SOSTITUZIONE: a named line has another amount\n"),
     }
 }

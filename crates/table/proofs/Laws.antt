@@ -22,7 +22,7 @@ use Rattle.entries.specs.Entry.{entrySize, kept, slotsOf, placeOf, formOk, form
 use Rattle.entries.proofs.Laws.{times, Form, form}
 use Rattle.bounds.specs.Bounds.{maxBodies}
 use Rattle.table.specs.declared.Layout.{Layout}
-use Rattle.table.specs.Table.{table1, table2, headSize, bodies, abiOf, headOk, entryOk, layoutOk, agrees, recordsOf, bodyHolds, bodiesOk, validAs}
+use Rattle.table.specs.Table.{table1, table2, headSize, bodies, abiOf, headOk, entryOk, layoutOk, agrees, recordsOf, linesHold, bodyHolds, bodiesOk, validAs}
 use Rattle.table.specs.Inner.{Known, sumsAgree}
 
 -- LAYOUTS
@@ -196,28 +196,41 @@ module _ (L : Layout) (t : List ℕ) (at : ℕ) {p n : ℕ} (e : p ≡ placeOf t
     its-right : (bodyOk t (placeOf t at) (slotsOf t at) ≡ true) × (Right a b ≡ summed true (recordsOf t at))
     its-right = summed-right (bodyOk t (placeOf t at) (slotsOf t at)) (recordsOf t at) a b (sym its ∙ g)
 
-    pub holds-kept : L .keeps ≡ true → bodyHolds L t at ≡ sumsAgree t at a b
-    unfolding bodyHolds agrees
-    holds-kept k =
-        let w = its-right in
-        let x : a ≡ centsOf 1 (recordsOf t at) = let z = w .1 in cc in
-        let y : b ≡ centsOf 2 (recordsOf t at) = let z = w .1 in cc in
-        rw (w .0, k, ← x, ← y)
+    module _ {c : Bool} (q : c ≡ linesHold L (recordsAt t p n)) where
+      read-lines : linesHold L (recordsAt t p n) ≡ linesHold L (recordsOf t at)
+      read-lines i = linesHold L (recordsAt t (e i) (f i))
 
-    pub holds-bare : L .keeps ≡ false → bodyHolds L t at ≡ true
-    unfolding bodyHolds
-    holds-bare k = rw (its-right .0, k)
+      its-lines : {d : Bool} → c ≡ d → linesHold L (recordsOf t at) ≡ d
+      its-lines x = sym read-lines ∙ sym q ∙ x
+
+      pub holds-lines : c ≡ false → bodyHolds L t at ≡ false
+      unfolding bodyHolds
+      holds-lines x = λ i. its-right .0 i && (its-lines x i && cond (L .keeps) (agrees t at (recordsOf t at)) true)
+
+      pub holds-kept : c ≡ true → L .keeps ≡ true → bodyHolds L t at ≡ sumsAgree t at a b
+      unfolding bodyHolds agrees
+      holds-kept h k =
+          let w = its-right in
+          let x : a ≡ centsOf 1 (recordsOf t at) = let z = w .1 in cc in
+          let y : b ≡ centsOf 2 (recordsOf t at) = let z = w .1 in cc in
+          (λ i. w .0 i && (its-lines h i && cond (k i) (agrees t at (recordsOf t at)) true)) ∙ rw (← x, ← y)
+
+      pub holds-bare : c ≡ true → L .keeps ≡ false → bodyHolds L t at ≡ true
+      unfolding bodyHolds
+      holds-bare h k = λ i. its-right .0 i && (its-lines h i && cond (k i) (agrees t at (recordsOf t at)) true)
 
 -- what an entry whose body holds tells
 pub record Holds (L : Layout) (t : List ℕ) (at : ℕ) : Type 0 where
   pub body : bodyOk t (placeOf t at) (slotsOf t at) ≡ true
+  pub lines : linesHold L (recordsOf t at) ≡ true
   pub kept : L .keeps ≡ true → agrees t at (recordsOf t at) ≡ true
 
 pub holds : (L : Layout) (t : List ℕ) (at : ℕ) → bodyHolds L t at ≡ true → Holds L t at
 unfolding bodyHolds
 holds L t at e =
-    let a = both (bodyOk t (placeOf t at) (slotsOf t at)) (cond (L .keeps) (agrees t at (recordsOf t at)) true) e in
-    record { body = a .0; kept = λ k. ap (λ (b : Bool). cond b (agrees t at (recordsOf t at)) true) (sym k) ∙ a .1 }
+    let a = both (bodyOk t (placeOf t at) (slotsOf t at)) (linesHold L (recordsOf t at) && cond (L .keeps) (agrees t at (recordsOf t at)) true) e in
+    let c = both (linesHold L (recordsOf t at)) (cond (L .keeps) (agrees t at (recordsOf t at)) true) (a .1) in
+    record { body = a .0; lines = c .0; kept = λ k. ap (λ (b : Bool). cond b (agrees t at (recordsOf t at)) true) (sym k) ∙ c .1 }
 
 module _ (L : Layout) (t : List ℕ) (at k m : ℕ) (e : k ≡ suc m) where
   pub bodies-not : bodyHolds L t at ≡ false → bodiesOk L t at k ≡ false

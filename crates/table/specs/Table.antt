@@ -12,21 +12,23 @@ use Rattle.record.specs.Slot.{slotSize, mandatoKind, reversaleKind}
 use Rattle.record.specs.declared.Record.{Record}
 use Rattle.ranges.specs.Ranges.{zeros}
 use Rattle.slots.specs.Slots.{recordsAt}
-use Rattle.body.specs.Body.{bodyOk, centsOf}
+use Rattle.body.specs.Body.{bodyOk, centsOf, noneReplaced}
 use Rattle.ranges.specs.declared.Found.{Found}
 use Rattle.entries.specs.Entry.{entrySize, entryFixed, entryRest, kept, slotsOf, placeOf, formOk, codesFrom, findCode, distinctCodes}
 use Rattle.table.specs.declared.Layout.{Layout}
 
--- WHAT TELLS TABLES APART: an entry's size, where its rest begins, whether it keeps totals before that, the head's number, the greatest length
+-- WHAT TELLS TABLES APART: an entry's size, where its rest begins, whether it keeps totals before that, whether lines may be replaced, the head's number, the
+-- greatest length
 
--- document 01: "2-3 the number 1", "One entry per body, 32 bytes", "20-23 place of its first slot; rest zero", "at most 65,536"
+-- document 01: "2-3 the number 1", "One entry per body, 32 bytes", "20-23 place of its first slot; rest zero", "line states (0 no line, 1 waiting,
+-- 2 executed)", "at most 65,536"
 abbrev pub table1 : Layout
-table1 = record { entry = 32; rest = entryFixed; keeps = false; number = 1; most = 65536 }
+table1 = record { entry = 32; rest = entryFixed; keeps = false; replaces = false; number = 1; most = 65536 }
 
 -- document 02, Req 04: "Entries grow to 48 bytes: cents paid at 24-31, cents collected at 32-39, rest zero. The head's number becomes 2, and a table is
--- valid only if these agree with the records. .. The greatest table length becomes 65,792."
+-- valid only if these agree with the records. .. The greatest table length becomes 65,792." Req 07: "replaced (line state 3)"
 abbrev pub table2 : Layout
-table2 = record { entry = entrySize; rest = entryRest; keeps = true; number = 2; most = maxLength }
+table2 = record { entry = entrySize; rest = entryRest; keeps = true; replaces = true; number = 2; most = maxLength }
 
 -- A VALID TABLE of a layout
 
@@ -69,9 +71,14 @@ agrees t at rs = eqb (kept mandatoKind t at) (centsOf mandatoKind rs) && eqb (ke
 abbrev pub recordsOf : List ℕ → ℕ → List Record
 recordsOf t at = recordsAt t (placeOf t at) (slotsOf t at)
 
+-- only a table whose lines may be replaced has any that are
+abbrev pub linesHold : Layout → List Record → Bool
+linesHold l rs = cond (l .replaces) true (noneReplaced rs)
+
 -- the body of the entry at `at` is valid, and what the entry keeps agrees with it
 unfoldable pub bodyHolds : Layout → List ℕ → ℕ → Bool
-bodyHolds l t at = bodyOk t (placeOf t at) (slotsOf t at) && cond (l .keeps) (agrees t at (recordsOf t at)) true
+bodyHolds l t at =
+    bodyOk t (placeOf t at) (slotsOf t at) && (linesHold l (recordsOf t at) && cond (l .keeps) (agrees t at (recordsOf t at)) true)
 
 -- the bodies of the n entries from `at` on
 unfoldable pub bodiesOk : Layout → List ℕ → ℕ → ℕ → Bool

@@ -9,8 +9,9 @@ ghost use Prim.Native.Nat.{_+_, _*_, _≤_, _<_};
 ghost use lib.ListN.{length};
 ghost use Rattle.bounds.specs.Bounds.{maxBodies, maxLength, maxSlots};
 ghost use Rattle.record.specs.Slot.{slotSize};
+ghost use Rattle.slots.specs.Slots.{recordsAt};
 ghost use Rattle.entries.specs.Entry.{entrySize, slotsOf, placeOf};
-ghost use Rattle.table.specs.Table.{table1, table2, headSize, bodies, headOk, entryOk, layoutOk, bodyHolds, bodiesOk, validAs, tableOk, bodyOf};
+ghost use Rattle.table.specs.Table.{table1, table2, headSize, bodies, headOk, entryOk, layoutOk, linesHold, bodyHolds, bodiesOk, validAs, tableOk, bodyOf};
 ghost use Rattle.table.specs.Inner.{Known, sumsAgree};
 
 pub const HEAD: usize = 16;
@@ -23,11 +24,13 @@ pub const REST: usize = 13;
 // An entry of a table 1.
 pub const OLD_ENTRY: usize = 32;
 
-// What tells tables apart: an entry's size, where its rest begins, whether it keeps totals before that, the head's number, the greatest length.
+// What tells tables apart: an entry's size, where its rest begins, whether it keeps totals before that, whether lines may be replaced, the head's number,
+// the greatest length.
 pub struct Layout {
     pub entry: usize,
     pub rest: usize,
     pub keeps: bool,
+    pub replaces: bool,
     pub number: u64,
     pub most: usize,
 }
@@ -39,6 +42,7 @@ pub fn table_1() -> Layout
         entry: OLD_ENTRY,
         rest: entries::FIXED,
         keeps: false,
+        replaces: false,
         number: 1,
         most: 65536,
     }
@@ -51,6 +55,7 @@ pub fn table_2() -> Layout
         entry: entries::ENTRY,
         rest: entries::REST,
         keeps: true,
+        replaces: true,
         number: 2,
         most: bounds::MAX_LENGTH,
     }
@@ -139,6 +144,17 @@ fn kept_are(t: &[u8], at: usize, paid: u64, collected: u64) -> bool
     words::read8(t, at + entries::COLLECTED) == collected
 }
 
+// Whether a body's lines are as the layout has them: where none may be replaced, none is.
+fn lines_hold(t: &[u8], base: usize, n: usize, l: Layout) -> bool
+    requires { ⌜ base + slotSize * n ≤ length (now t) ⌝ }
+    ensures { λ r. ⌜ r ≡ linesHold l (recordsAt (now (t .entry)) base n) ⌝ }
+{
+    if l.replaces {
+        return true;
+    }
+    body::none_replaced(t, base, n)
+}
+
 // Whether the body of the entry at a place is valid, and what the entry keeps agrees with it.
 fn body_holds(t: &[u8], at: usize, l: Layout) -> bool
     requires { ⌜ Known l × (at + l .entry ≤ length (now t)) × (placeOf (now t) at + slotSize * slotsOf (now t) at ≤ length (now t))
@@ -150,6 +166,9 @@ fn body_holds(t: &[u8], at: usize, l: Layout) -> bool
     let Sums::Right(paid, collected) = body::judge(t, base, n) else {
         return false;
     };
+    if !lines_hold(t, base, n, l) {
+        return false;
+    }
     if l.keeps {
         kept_are(t, at, paid, collected)
     } else {

@@ -31,7 +31,7 @@ use Rattle.rules.specs.declared.Ruling.{Ruling}
 use Rattle.rules.specs.declared.Ruling.the-variants.{Accepted, Refused}
 use Rattle.rules.specs.declared.Noticed.{Noticed}
 use Rattle.rules.specs.declared.Noticed.the-variants.{Moved, Unmoved}
-use Rattle.rules.specs.Rules.{changeOf, situationOf, stepCode, sameOrder, placed, unless, stepped, judgeChange, keyFor, judgeOrder, orderCode, lineMoves, noticeIn, noticeAt, judgeNotice, noticeCode}
+use Rattle.rules.specs.Rules.{changeOf, wasExecuted, situationOf, stepCode, sameOrder, placed, unless, stepped, judgeChange, keyFor, judgeOrder, orderCode, lineMoves, noticeIn, noticeAt, judgeNotice, noticeCode}
 use Rattle.service.specs.Service.{noticeComes}
 use Rattle.address.specs.declared.Addressed.{Addressed}
 use Rattle.address.specs.declared.Addressed.the-variants.{Invalid, Unknown, Body}
@@ -170,7 +170,7 @@ open-codes WrongLength = refl
 -- A NOTICE for a body
 moves-coded : (executing : Bool) (s i cents : ℕ) → oneOf (noticeCodes executing) (noticeCode (unless Unmoved (lineMoves executing s) (Moved i cents))) ≡ true
 unfolding lineMoves
-moves-coded true s i cents = go (eqb s 2)
+moves-coded true s i cents = go (wasExecuted s)
   where
     go : (u : Bool) → oneOf (noticeCodes true) (noticeCode (unless Unmoved (cond u 21 0) (Moved i cents))) ≡ true
     go true = refl

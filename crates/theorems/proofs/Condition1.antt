@@ -1,9 +1,10 @@
 -- CONDITION 1, proved. (Its codes: Codes and Accepted; a refused flow: crates/desk/proofs/Refusals.antt.)
-use Prim.Native.Nat.{ℕ, suc, zero, _≤_}
+use Prim.Native.Nat.{ℕ, suc, zero, _≤_, _<_}
 use native.Mathlib.Omega.{arith}
-use borrow.Author.Tests.{ne-eqb, le-leb, lt-leb}
-use mathlib.Core.Path.{_≡_, refl, ap, _∙_}
-use mathlib.Core.Bool.{Bool, true}
+use lib.Dec.{eqb, ltb}
+use borrow.Author.Tests.{ne-eqb, eqb-true, eqb-false, ltb-true, ltb-false, le-leb, lt-leb}
+use mathlib.Core.Path.{_≡_, refl, sym, ap, subst, _∙_}
+use mathlib.Core.Bool.{Bool, true, false}
 use mathlib.Core.List.{List}
 use Rattle.order.specs.Ordinativo.{Ordinativo}
 use Rattle.target_days.specs.Target.{targetCode}
@@ -69,32 +70,35 @@ convert-codes Converted.Converts = refl
 convert-codes Converted.InvalidTable = refl
 convert-codes Converted.WrongLength = refl
 
-above : (c : ℕ) → 20 ≤ c → isRefusal c ≡ oneOf orderRefusals c
-above c l =
-    rw (le-leb 11 c (omega arith), lt-leb c 19 (omega arith), ne-eqb c 11 (λ e. omega arith), ne-eqb c 12 (λ e. omega arith), ne-eqb c 13 (λ e. omega arith), ne-eqb c 14 (λ e. omega arith), ne-eqb c 15 (λ e. omega arith), ne-eqb c 16 (λ e. omega arith), ne-eqb c 17 (λ e. omega arith), ne-eqb c 18 (λ e. omega arith), ne-eqb c 19 (λ e. omega arith))
+-- A MESSAGE'S CODES are those of a refused order: computed below 27, and from there on none is
+abbrev Same : ℕ → Type 0
+Same c = isRefusal c ≡ oneOf orderRefusals c
 
-message-code : (code : ℕ) → isRefusal code ≡ oneOf orderRefusals code
-message-code zero = refl
-message-code (suc zero) = refl
-message-code (suc (suc zero)) = refl
-message-code (suc (suc (suc zero))) = refl
-message-code (suc (suc (suc (suc zero)))) = refl
-message-code (suc (suc (suc (suc (suc zero))))) = refl
-message-code (suc (suc (suc (suc (suc (suc zero)))))) = refl
-message-code (suc (suc (suc (suc (suc (suc (suc zero))))))) = refl
-message-code (suc (suc (suc (suc (suc (suc (suc (suc zero)))))))) = refl
-message-code (suc (suc (suc (suc (suc (suc (suc (suc (suc zero))))))))) = refl
-message-code (suc (suc (suc (suc (suc (suc (suc (suc (suc (suc zero)))))))))) = refl
-message-code (suc (suc (suc (suc (suc (suc (suc (suc (suc (suc (suc zero))))))))))) = refl
-message-code (suc (suc (suc (suc (suc (suc (suc (suc (suc (suc (suc (suc zero)))))))))))) = refl
-message-code (suc (suc (suc (suc (suc (suc (suc (suc (suc (suc (suc (suc (suc zero))))))))))))) = refl
-message-code (suc (suc (suc (suc (suc (suc (suc (suc (suc (suc (suc (suc (suc (suc zero)))))))))))))) = refl
-message-code (suc (suc (suc (suc (suc (suc (suc (suc (suc (suc (suc (suc (suc (suc (suc zero))))))))))))))) = refl
-message-code (suc (suc (suc (suc (suc (suc (suc (suc (suc (suc (suc (suc (suc (suc (suc (suc zero)))))))))))))))) = refl
-message-code (suc (suc (suc (suc (suc (suc (suc (suc (suc (suc (suc (suc (suc (suc (suc (suc (suc zero))))))))))))))))) = refl
-message-code (suc (suc (suc (suc (suc (suc (suc (suc (suc (suc (suc (suc (suc (suc (suc (suc (suc (suc zero)))))))))))))))))) = refl
-message-code (suc (suc (suc (suc (suc (suc (suc (suc (suc (suc (suc (suc (suc (suc (suc (suc (suc (suc (suc zero))))))))))))))))))) = refl
-message-code (suc (suc (suc (suc (suc (suc (suc (suc (suc (suc (suc (suc (suc (suc (suc (suc (suc (suc (suc (suc n)))))))))))))))))))) = above (suc (suc (suc (suc (suc (suc (suc (suc (suc (suc (suc (suc (suc (suc (suc (suc (suc (suc (suc (suc n)))))))))))))))))))) (omega arith)
+abbrev Below : ℕ → Type 0
+Below zero = Unit
+Below (suc n) = Below n × Same n
+
+pick : (n c : ℕ) → Below n → c < n → Same c
+pick zero c b h = absurd (omega arith)
+pick (suc n) c b h = go (eqb c n) refl (pick n c (b .0))
+  where
+    go : (x : Bool) → eqb c n ≡ x → (c < n → Same c) → Same c
+    go true e f = subst Same (sym (eqb-true c n e)) (b .1)
+    go false e f = let d = eqb-false c n e in f (omega arith)
+
+computed : Below 27
+computed = (((((((((((((((((((((((((((tt, refl), refl), refl), refl), refl), refl), refl), refl), refl), refl), refl), refl), refl), refl), refl), refl), refl), refl), refl), refl), refl), refl), refl), refl), refl), refl), refl)
+
+above : (c : ℕ) → 27 ≤ c → Same c
+above c l =
+    rw (le-leb 12 c (omega arith), lt-leb c 19 (omega arith), le-leb 24 c (omega arith), lt-leb c 26 (omega arith), ne-eqb c 12 (λ e. omega arith), ne-eqb c 13 (λ e. omega arith), ne-eqb c 14 (λ e. omega arith), ne-eqb c 15 (λ e. omega arith), ne-eqb c 16 (λ e. omega arith), ne-eqb c 17 (λ e. omega arith), ne-eqb c 18 (λ e. omega arith), ne-eqb c 19 (λ e. omega arith), ne-eqb c 24 (λ e. omega arith), ne-eqb c 25 (λ e. omega arith), ne-eqb c 26 (λ e. omega arith))
+
+message-code : (code : ℕ) → Same code
+message-code c = go (ltb c 27) refl
+  where
+    go : (x : Bool) → ltb c 27 ≡ x → Same c
+    go true e = pick 27 c computed (ltb-true c 27 e)
+    go false e = above c (ltb-false c 27 e)
 
 pub condition1 : Condition1
 condition1 = record {

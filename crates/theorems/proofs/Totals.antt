@@ -124,7 +124,7 @@ module _ (t : List ℕ) (ok : tableOk t ≡ true) (code : List ℕ) (b : ℕ) (e
 pub cash-moved : CashMoved
 unfolding orderComes
 cash-moved = record {
-  order-cash = λ t ok b l year o kind. order-cash (slotsOf t (entryOf b)) year o (bodyRecords b t) _ refl kind;
+  order-cash = λ t ok b l year o few kind. order-cash (slotsOf t (entryOf b)) year o (bodyRecords b t) few kind _ refl;
   execute-cash = λ t ok code b e x k line d z a t′ p q cents f kind.
       let m = judgeNotice true k line (bodyRecords b t) in
       let w = worth-weighs (ofKind kind) itsCents .executes t (placeOf t (entryOf b)) (slotsOf t (entryOf b)) (body-ok t ok code b e x k line d z a t′ p) k line m refl in

