@@ -133,7 +133,29 @@ module _ (slots year : ℕ) (o : Ordinativo) (rs : List Record) (c : Change) (i 
           (ap (λ (m : ℕ). sameOrder o (nth rs m)) (sym q) ∙ h)
       go false h e = refused e
 
+  placed-change : (d : Change) (f : Found) → placed slots o rs d f ≡ Accepted c i → c ≡ d
+  unfolding placed
+  placed-change Insert f e = empty Insert e .0
+  placed-change Replace f e = empty Replace (unless-zero (replaceCode rs (namings o)) _ e .1) .0
+  placed-change Vary Nothing e = refused e
+  placed-change Vary (At j) e = cc
+  placed-change Annul Nothing e = refused e
+  placed-change Annul (At j) e = go (sameOrder o (nth rs j)) e
+    where
+      go : (b : Bool) → cond b (Accepted Annul j) (Refused 19) ≡ Accepted c i → c ≡ Annul
+      go true e = cc
+      go false e = refused e
+
   module _ (e : judgeOrder slots year o rs ≡ Accepted c i) where
+    -- the change is that of the order's operation
+    pub accepted-change : c ≡ changeOf (o .operation)
+    unfolding judgeOrder stepped
+    accepted-change =
+        let d = changeOf (o .operation) in
+        let l = unless-zero (lineCode (o .lines) (o .total)) _ e in
+        let s = unless-zero (stepCode d (situationOf rs (findIn rs 0 (keyFor year o)))) _ (l .1) in
+        placed-change d (findIn rs 0 (keyFor year o)) (s .1)
+
     -- the tests that it passed
     record Passed : Type 0 where
       change : Change

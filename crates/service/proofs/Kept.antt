@@ -35,7 +35,7 @@ use Rattle.rules.proofs.Kept.{Writable, Writables, none, more, written-valid, w
 use Rattle.service.specs.Service.{orderComes, besidesPut, orderStored, orderLeaves, allLeave}
 use Rattle.slots.proofs.Held.{Held, held, search-held}
 use Rattle.service.proofs.Laws.{order-low}
-use Rattle.service.proofs.Worth.{stored-end, order-cash}
+use Rattle.service.proofs.Worth.{stored-end, full-at, order-cash}
 
 -- a call on a body of n slots from base on left t′ of t
 pub record Kept (t t′ : List ℕ) (base n : ℕ) : Type 0 where
@@ -185,7 +185,7 @@ module _ (t : List ℕ) (base n year : ℕ) (o : Ordinativo) (fits : base + slot
   unfolding orderComes orderStored
   kept-by (Accepted c i) e =
       let x = left c i e (order-low t base n year o c i e) (accepted n year o rs c i e) in
-      within-kept (x .within) (λ kind. ap (centsOf kind) (x .records) ∙ order-cash n year o rs (w .count .1) kind (Accepted c i) e)
+      within-kept (x .within) (λ kind. ap (centsOf kind) (x .records) ∙ order-cash n year o rs (full-at t base n) (w .count .1) kind (Accepted c i) e)
   kept-by (Refused code) e = unchanged t base n ok
 
   pub order-kept : Kept t (orderLeaves t base n year o) base n

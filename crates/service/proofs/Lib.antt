@@ -1,5 +1,7 @@
 pub mod Laws
+pub mod Brought
 pub mod Worth
+pub mod There
 pub mod Kept
 pub mod Totals
 pub mod Moved

@@ -35,6 +35,7 @@ use Rattle.one_table.proofs.One.{one-table}
 use Rattle.isolation.specs.Machine.{log}
 use Rattle.theorems.specs.Engine.{machine, tableAfter}
 use Rattle.theorems.specs.Condition2.{codesInTurn, Taken}
+use Rattle.theorems.specs.History.{History}
 use Rattle.theorems.specs.Totals.{oldBody, TakenOld, Conversion, FromTable1}
 use Rattle.theorems.proofs.Condition2.{condition2}
 use Rattle.theorems.proofs.Condition3.{condition3}
@@ -116,11 +117,9 @@ conversion E o t t₀ p = record {
   only = only;
   answers = λ bo u bu U cs. let q = only bo u bu U in (λ i. log (machine E (q i)) cs (q i), λ i. tableAfter E (q i) cs);
   isolated = condition3 E t₀ (S .valid);
-  history = λ b l cs kind.
+  history = λ b l cs.
       let m : b < bodies t₀ = omega (arith, S .number) in
-      let h = history E t₀ (S .valid) b m cs .cash-history kind in
-      let r = ap (centsOf kind) (S .records b l) in
-      omega arith;
+      subst (History E t₀ b cs) (S .records b l) (history E t₀ (S .valid) b m cs);
 }
   where
     F : Filled o t₀

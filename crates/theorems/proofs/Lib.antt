@@ -8,6 +8,7 @@ pub mod Named
 pub mod Steps
 pub mod Calls
 pub mod Condition3
+pub mod Weighing
 pub mod History
 pub mod NoSecond
 pub mod Condition1

@@ -49,7 +49,7 @@ front-writable (x ∷ xs) zs (more w ws) = more w (front-writable xs zs ws)
 
 -- THE ORDERS on a valid body: over its table is over its records
 module _ (base n year : ℕ) (y : (2000 ≤ year) × (year ≤ 2099)) where
-  codes-over : (t : List ℕ) (os : List Ordinativo) → base + slotSize * n ≤ length t → bodyOk t base n ≡ true → Writables os
+  pub codes-over : (t : List ℕ) (os : List Ordinativo) → base + slotSize * n ≤ length t → bodyOk t base n ≡ true → Writables os
       → codesOn t base n year os ≡ codesInTurn n year os (recordsAt t base n)
   codes-over t [] fits ok none = refl
   codes-over t (o ∷ os) fits ok (more w ws) =

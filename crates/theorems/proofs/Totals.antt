@@ -26,7 +26,7 @@ use Rattle.rules.specs.Effects.{recordsMoved}
 use Rattle.rules.specs.Worth.{worth, ofKind, itsCents}
 use Rattle.service.specs.Service.{orderComes}
 use Rattle.service.proofs.Totals.{agrees-is}
-use Rattle.service.proofs.Worth.{order-cash, cents-worth}
+use Rattle.service.proofs.Worth.{full-at, order-cash, cents-worth}
 use Rattle.notices.specs.declared.NoticeAnswer.{NoticeAnswer}
 use Rattle.notices.specs.declared.NoticeAnswer.the-variants.{Done}
 use Rattle.notices.specs.Notices.{noticed, NoticePromise}
@@ -124,7 +124,7 @@ module _ (t : List ℕ) (ok : tableOk t ≡ true) (code : List ℕ) (b : ℕ) (e
 pub cash-moved : CashMoved
 unfolding orderComes
 cash-moved = record {
-  order-cash = λ t ok b l year o few kind. order-cash (slotsOf t (entryOf b)) year o (bodyRecords b t) few kind _ refl;
+  order-cash = λ t ok b l year o few kind. order-cash (slotsOf t (entryOf b)) year o (bodyRecords b t) (full-at t (placeOf t (entryOf b)) (slotsOf t (entryOf b))) few kind _ refl;
   execute-cash = λ t ok code b e x k line d z a t′ p q cents f kind.
       let m = judgeNotice true k line (bodyRecords b t) in
       let w = worth-weighs (ofKind kind) itsCents .executes t (placeOf t (entryOf b)) (slotsOf t (entryOf b)) (body-ok t ok code b e x k line d z a t′ p) k line m refl in

@@ -41,7 +41,7 @@ use Rattle.theorems.specs.Engine.{Call, Engine, machine, bodyRecords, ta
 use Rattle.theorems.specs.Condition2.{codesInTurn, comesTo, EachOrder, EachNotice}
 use Rattle.theorems.specs.Condition3.{Condition3}
 use Rattle.theorems.specs.Codes.{outcomeCodes}
-use Rattle.theorems.specs.History.{executions, reversals, cash, logOf}
+use Rattle.theorems.specs.History.{History}
 
 -- "Every call that moves a line keeps them true": after any calls, what a body's entry keeps are the cents of its records
 abbrev pub KeptTrue : Type 0
@@ -116,10 +116,8 @@ pub record Conversion (E : Engine) (o t₀ : List ℕ) : Type 0 where
       → (log (machine E u) cs u ≡ log (machine E t₀) cs t₀) × (tableAfter E u cs ≡ tableAfter E t₀ cs)
   -- condition 3, for any sequence of calls from it on
   pub isolated : Condition3 E t₀
-  -- and cash by history, from the cents of the table 1's records on
-  pub history : (b : ℕ) → b < bodies o → (cs : List Call) (kind : ℕ)
-      → centsOf kind (bodyRecords b (tableAfter E t₀ cs)) + reversals (cash kind) (logOf E t₀ b cs)
-      ≡ centsOf kind (oldRecords o b) + executions (cash kind) (logOf E t₀ b cs)
+  -- and cash by history, from the table 1's records on
+  pub history : (b : ℕ) → b < bodies o → (cs : List Call) → History E t₀ b cs (oldRecords o b)
 
 -- from any buffer that conversion answered 0 for
 abbrev pub FromTable1 : Type 0
