@@ -9,7 +9,7 @@ use lib.ListN.{length, getD, take, drop, set, replicate, length-replicate, drop-
 use lib.Seq.{length-take-le, drop-cons, getD-take, take-suc, take-suc-set, take-all}
 use lib.Dec.{eqb}
 use borrow.Author.Tests.{eq-eqb, ne-eqb}
-use Rattle.words.specs.Numbers.{put, bytes4}
+use Rattle.words.specs.Numbers.{put}
 use Rattle.words.proofs.Laws.{put-put, put-nil}
 use Rattle.record.specs.declared.Record.{Record}
 use Rattle.record.specs.declared.Key.{Key}
@@ -235,23 +235,16 @@ pub rest-end : (t : List ℕ) (at : ℕ) (fs : List ℕ) (i : ℕ) → length fs
 unfolding blankedFrom
 rest-end t at fs i h = ap (blankedFrom t at) (drop-of-length-le fs {i = i} h)
 
-pub blanked-most : (t : List ℕ) (at : ℕ) (fs : List ℕ) → length (blankedFrom t at fs) ≤ length fs
-unfolding blankedFrom
-blanked-most t at [] = omega arith
-blanked-most t at (f ∷ fs) = go (blanks t at f) (blanked-most t (at + slotSize) fs)
-  where
-    go : (b : Bool) → length (blankedFrom t (at + slotSize) fs) ≤ length fs → length (cond b (at ∷ []) [] ++ blankedFrom t (at + slotSize) fs) ≤ suc (length fs)
-    go true h = omega arith
-    go false h = omega arith
+-- numbers written one after the other, w bytes each: one more, and none
+module _ (bytes : ℕ → List ℕ) (r : List ℕ) (to : ℕ) where
+  pub put-more : (r′ : List ℕ) (w v : ℕ) (vs : List ℕ) → length (bytes v) ≡ w → to ≤ length r → r′ ≡ put r to (bytes v) → put r to (each bytes (v ∷ vs)) ≡ put r′ (to + w) (each bytes vs)
+  unfolding each
+  put-more r′ w v vs l h e =
+      sym (ap (λ (x : List ℕ). put x (to + w) (each bytes vs)) e ∙ put-put r to (bytes v) (each bytes vs) (to + w) h (ap (λ (x : ℕ). to + x) l))
 
--- numbers written one after the other: one more, and none
-pub put-more : (r r′ : List ℕ) (to v : ℕ) (vs : List ℕ) → to ≤ length r → r′ ≡ put r to (bytes4 v) → put r to (each bytes4 (v ∷ vs)) ≡ put r′ (to + 4) (each bytes4 vs)
-unfolding each
-put-more r r′ to v vs h e = sym (ap (λ (x : List ℕ). put x (to + 4) (each bytes4 vs)) e ∙ put-put r to (bytes4 v) (each bytes4 vs) (to + 4) h refl)
-
-pub put-none : (r : List ℕ) (to : ℕ) → put r to (each bytes4 []) ≡ r
-unfolding each
-put-none r to = put-nil r to
+  pub put-none : put r to (each bytes []) ≡ r
+  unfolding each
+  put-none = put-nil r to
 
 -- MOVED RECORDS: those from slot i on, of which the next kept one comes to slot `to`
 module _ (fs : List ℕ) (i to : ℕ) (low : i < length fs) where
@@ -271,13 +264,3 @@ module _ (fs : List ℕ) (i to : ℕ) (low : i < length fs) where
 pub moved-end : (fs : List ℕ) (i to : ℕ) → length fs ≤ i → movedFrom i to (drop i fs) ≡ 0
 unfolding movedFrom
 moved-end fs i to h = ap (movedFrom i to) (drop-of-length-le fs {i = i} h)
-
-pub moved-most : (i to : ℕ) (fs : List ℕ) → movedFrom i to fs ≤ length fs
-unfolding movedFrom
-moved-most i to [] = omega arith
-moved-most i to (f ∷ fs) = go (eqb f 1) (not (eqb i to)) (moved-most (i + 1) (to + 1) fs) (moved-most (i + 1) to fs)
-  where
-    go : (b c : Bool) → movedFrom (i + 1) (to + 1) fs ≤ length fs → movedFrom (i + 1) to fs ≤ length fs → cond b (flag c + movedFrom (i + 1) (to + 1) fs) (movedFrom (i + 1) to fs) ≤ suc (length fs)
-    go true true h g = omega arith
-    go true false h g = omega arith
-    go false c h g = omega arith

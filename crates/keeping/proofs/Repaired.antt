@@ -1,19 +1,20 @@
 -- WHAT A REPAIRED BODY IS: valid whatever it was, its records the kept ones in order, and a valid body as it was.
 use Prim.Native.Nat.{ℕ, zero, suc, _+_, _-_, _*_, _≤_, _<_}
-use mathlib.Core.Bool.{Bool, true, false, _&&_, cond}
+use mathlib.Core.Bool.{Bool, true, false, _&&_, not, cond}
 use mathlib.Core.List.{List, [], _∷_, _++_, append-assoc, append-nil}
 use mathlib.Core.Path.{_≡_, refl, sym, ap, _∙_}
 use native.Mathlib.Omega.{arith}
 use native.Mathlib.Nat.{not-suc-le-zero}
 use lib.ListN.{length, getD, replicate}
 use lib.Dec.{eqb}
-use borrow.Author.Tests.{eqb-true}
+use borrow.Author.Tests.{eq-eqb}
+use Rattle.words.proofs.Laws.{Agree, on}
 use Rattle.scan.proofs.Laws.{both}
 use Rattle.record.specs.declared.Record.{Record}
 use Rattle.record.specs.declared.Key.{Key}
 use Rattle.record.specs.Slot.{slotSize, recordAt, restZero, keyIs, keyOf}
 use Rattle.ranges.specs.Ranges.{zeros, isNothing}
-use Rattle.ranges.proofs.Laws.{zeros-get}
+use Rattle.ranges.proofs.Laws.{zeros-get, get-zeros}
 use Rattle.valid.specs.Valid.{recordOk}
 use Rattle.valid.proofs.Valid.{ok-used}
 use Rattle.slots.specs.Slots.{usedAt, slotsAt, recordsAt, findIn, distinct}
@@ -23,9 +24,11 @@ use Rattle.valid.proofs.Laws.{same-test}
 use Rattle.body.specs.Body.{slotOk, slotsOk, bodyOk}
 use Rattle.body.proofs.Laws.{slot-rest}
 use Rattle.body.proofs.Slots.{parts}
+use Rattle.body.proofs.Same.{fewer, slot-ok-agree, slots-agree}
+use Rattle.record.proofs.Back.{same-record}
 use Rattle.packing.specs.Packing.{kept, chosen, packed}
 use Rattle.packing.proofs.Packed.{clash, none-cons, packed-records, packed-ok, packed-same, firstKept}
-use Rattle.keeping.specs.Keeping.{keeps, flag, keepsFrom, keepsAt}
+use Rattle.keeping.specs.Keeping.{keeps, flag, keepsFrom, keepsAt, keptAt, blanks, blankedFrom, movedFrom, moved}
 use Rattle.keeping.proofs.Laws.{keeps-more}
 
 -- as many flags as slots
@@ -184,6 +187,40 @@ keeps-none t at (suc m) seen z =
     (keeps-none t (at + slotSize) m (seen ++ [])
     (λ i h. let q : at + slotSize + slotSize * i ≡ at + slotSize * suc i = omega arith in ap (λ (x : ℕ). getD t x 0) q ∙ z (suc i) (omega arith)))
 
+-- kept ones first, and slots of zeros after them: nothing is moved, nothing blanked
+none-moved : (i to m : ℕ) → movedFrom i to (replicate m 0) ≡ 0
+unfolding movedFrom
+none-moved i to zero = refl
+none-moved i to (suc m) = none-moved (i + 1) to m
+
+first-moved : (i u m : ℕ) → movedFrom i i (firstKept u m) ≡ 0
+unfolding movedFrom
+first-moved i zero m = none-moved i i m
+first-moved i (suc u) m = ap (λ (b : Bool). flag (not b) + movedFrom (i + 1) (i + 1) (firstKept u m)) (eq-eqb i i refl) ∙ first-moved (i + 1) u m
+
+blanks-zero : (t : List ℕ) (at : ℕ) → zeros t at (at + slotSize) ≡ true → blanks t at 0 ≡ false
+unfolding blanks
+blanks-zero t at z = ap not z
+
+blanks-one : (t : List ℕ) (at : ℕ) → blanks t at 1 ≡ false
+unfolding blanks
+blanks-one t at = refl
+
+none-blanked : (t : List ℕ) (at m : ℕ) → ((i : ℕ) → at ≤ i → i < at + slotSize * m → getD t i 0 ≡ 0) → blankedFrom t at (replicate m 0) ≡ []
+unfolding blankedFrom
+none-blanked t at zero z = refl
+none-blanked t at (suc m) z =
+    let b = blanks-zero t at (get-zeros t at (at + slotSize) (λ i a h. z i a (omega arith))) in
+    ap (λ (x : Bool). cond x (at ∷ []) [] ++ blankedFrom t (at + slotSize) (replicate m 0)) b
+    ∙ none-blanked t (at + slotSize) m (λ i a h. z i (omega arith) (omega arith))
+
+first-blanked : (t : List ℕ) (at u m : ℕ) → ((i : ℕ) → at + slotSize * u ≤ i → i < at + slotSize * (u + m) → getD t i 0 ≡ 0) → blankedFrom t at (firstKept u m) ≡ []
+unfolding blankedFrom
+first-blanked t at zero m z = none-blanked t at m (λ i a h. z i (omega arith) (omega arith))
+first-blanked t at (suc u) m z =
+    ap (λ (x : Bool). cond x (at ∷ []) [] ++ blankedFrom t (at + slotSize) (firstKept u m)) (blanks-one t at)
+    ∙ first-blanked t (at + slotSize) u m (λ i a h. z i (omega arith) (omega arith))
+
 module _ (t : List ℕ) (base n : ℕ) (fits : base + slotSize * n ≤ length t) (ok : bodyOk t base n ≡ true) where
   abbrev u : ℕ
   u = usedAt t base n
@@ -203,3 +240,37 @@ module _ (t : List ℕ) (base n : ℕ) (fits : base + slotSize * n ≤ length t)
       let q : u + (n - u) ≡ n = omega arith in
       ap (packed t base) valid-flags
       ∙ packed-same t base u (n - u) (omega arith) (ap (λ (x : ℕ). zeros t (base + slotSize * u) (base + slotSize * x)) q ∙ parts t base n ok .empty)
+
+  -- its records are all kept, none is moved, and no slot is blanked
+  pub valid-kept : keptAt t base n ≡ recordsAt t base n
+  valid-kept = sym (repaired-records t base n fits) ∙ ap (λ (s : List ℕ). recordsAt s base n) repaired-same
+
+  pub valid-moved : moved (keepsAt t base n) ≡ 0
+  valid-moved = ap moved valid-flags ∙ first-moved 0 u (n - u)
+
+  pub valid-blanked : blankedFrom t base (keepsAt t base n) ≡ []
+  valid-blanked =
+      let l = used-le t base n in
+      let p = parts t base n ok in
+      ap (blankedFrom t base) valid-flags
+      ∙ first-blanked t base u (n - u)
+      (λ i a b. zeros-get t (base + slotSize * u) (base + slotSize * n) (p .empty) i a (omega arith))
+
+-- WHAT IS KEPT goes by the slots' bytes alone
+keeps-agree : {s t : List ℕ} {p q : ℕ} → Agree s p t q slotSize → (seen : List Record) → keeps s p seen ≡ keeps t q seen
+unfolding keeps
+keeps-agree a seen = let x = slot-ok-agree a in let y = same-record a in λ i. x i && isNothing (findIn seen 0 (keyOf (y i)))
+
+flags-agree : {s t : List ℕ} {p q : ℕ} (n : ℕ) (seen : List Record) → Agree s p t q (slotSize * n) → keepsFrom s p n seen ≡ keepsFrom t q n seen
+unfolding keepsFrom
+flags-agree zero seen a = refl
+flags-agree {s} {t} {p} {q} (suc n) seen a =
+    let h = fewer a slotSize (omega arith) in
+    let k = keeps-agree h seen in
+    let r = same-record h in
+    let z = flags-agree n (seen ++ cond (keeps s p seen) (recordAt s p ∷ []) []) (on a slotSize (slotSize * n) (omega arith)) in
+    ap (λ (l : List ℕ). flag (keeps s p seen) ∷ l) z
+    ∙ (λ i. flag (k i) ∷ keepsFrom t (q + slotSize) n (seen ++ cond (k i) (r i ∷ []) []))
+
+pub kept-agree : {s t : List ℕ} {p q : ℕ} (n : ℕ) → Agree s p t q (slotSize * n) → keptAt s p n ≡ keptAt t q n
+kept-agree n a i = chosen (slots-agree n a i) (flags-agree n [] a i)
