@@ -4,7 +4,7 @@ use mathlib.Core.Bool.{Bool, true, false, _&&_, not, cond}
 use mathlib.Core.List.{List, [], _∷_, _++_, append-assoc, append-nil}
 use mathlib.Core.Path.{_≡_, refl, sym, ap, _∙_}
 use native.Mathlib.Omega.{arith}
-use native.Mathlib.Nat.{not-suc-le-zero}
+use native.Mathlib.Nat.{not-suc-le-zero, zero-add}
 use lib.ListN.{length, getD, replicate}
 use lib.Dec.{eqb}
 use borrow.Author.Tests.{eq-eqb}
@@ -196,7 +196,7 @@ none-moved i to (suc m) = none-moved (i + 1) to m
 first-moved : (i u m : ℕ) → movedFrom i i (firstKept u m) ≡ 0
 unfolding movedFrom
 first-moved i zero m = none-moved i i m
-first-moved i (suc u) m = ap (λ (b : Bool). flag (not b) + movedFrom (i + 1) (i + 1) (firstKept u m)) (eq-eqb i i refl) ∙ first-moved (i + 1) u m
+first-moved i (suc u) m = ap (λ (b : Bool). flag (not b) + movedFrom (i + 1) (i + 1) (firstKept u m)) (eq-eqb i i refl) ∙ zero-add (movedFrom (i + 1) (i + 1) (firstKept u m)) ∙ first-moved (i + 1) u m
 
 blanks-zero : (t : List ℕ) (at : ℕ) → zeros t at (at + slotSize) ≡ true → blanks t at 0 ≡ false
 unfolding blanks

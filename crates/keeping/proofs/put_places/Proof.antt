@@ -65,7 +65,7 @@ loop-again c =
     let s = ap length k in
     let z = blankedRest (c .before .before .before .before .before .before .before .before .args .t .now) (l .at + slotSize) (c .before .before .before .before .before .before .before .before .args .flags .now) (l .i + 1) in
     (omega arith, omega arith, ap length (w .5 ∙ w .2 .ensures) ∙ length-put (l .r) (l .next) _ (omega (arith, l .inv .3)) ∙ l .inv .2, l .inv .3 ∙ omega (arith, w .6),
-    l .inv .4 ∙ ap (λ (vs : List ℕ). put (l .r) (l .next) (each bytes4 vs)) k ∙ put-more (l .r) (c .if1 .r) (l .next) (l .at) z (omega (arith, l .inv .3)) (w .5 ∙ w .2 .ensures) ∙ (λ j. put (c .if1 .r) (sym (w .6) j) (each bytes4 z))))
+    l .inv .4 ∙ ap (λ (vs : List ℕ). put (l .r) (l .next) (each bytes4 vs)) k ∙ put-more bytes4 (l .r) (l .next) (c .if1 .r) 4 (l .at) z refl (omega (arith, l .inv .3)) (w .5 ∙ w .2 .ensures) ∙ (λ j. put (c .if1 .r) (sym (w .6) j) (each bytes4 z))))
     (λ w.
     let k = rest-no (c .before .before .before .before .before .before .before .before .args .t .now) (l .at) (c .before .before .before .before .before .before .before .before .args .flags .now) (l .i) (omega arith) (c .before .is-blanked .ensures) (w .0 .left) in
     (omega arith, omega arith, ap length (w .1) ∙ l .inv .2, l .inv .3 ∙ omega (arith, w .2, ap length k),
@@ -79,7 +79,7 @@ returns : tie.Need-returns Inv-loop μ-loop
 returns c =
     let l = c .before .loop in
     let k = rest-end (c .before .before .before .before .before .args .t .now) (l .at) (c .before .before .before .before .before .args .flags .now) (l .i) (omega arith) in
-    (omega (arith, l .inv .3, ap length k), sym (l .inv .4 ∙ ap (λ (vs : List ℕ). put (l .r) (l .next) (each bytes4 vs)) k ∙ put-none (l .r) (l .next)))
+    (omega (arith, l .inv .3, ap length k), sym (l .inv .4 ∙ ap (λ (vs : List ℕ). put (l .r) (l .next) (each bytes4 vs)) k ∙ put-none bytes4 (l .r) (l .next)))
 
 pub put-places-spec : {M : Type 1} → statement M
 put-places-spec =
