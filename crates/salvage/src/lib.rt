@@ -21,7 +21,7 @@ pub enum Salvaged {
     ShortReport,
 }
 
-// Document 02's numbers of an answer.
+// An answer in document 02's numbers.
 pub struct SalvageReply {
     pub code: u64,
     pub blanked: u64,
@@ -138,7 +138,7 @@ pub fn salvage(t: &mut [u8], report: &mut [u8]) -> Salvaged
 
 // Document 02's numbers of an answer.
 pub fn reply_of(a: Salvaged) -> SalvageReply
-    ensures { λ r. ⌜ r ≡ salvageReply a ⌝ }
+    ensures { λ r. ⌜ (r .code ≡ salvageReply a .code) × (r .blanked ≡ salvageReply a .blanked) ⌝ }
 {
     match a {
         Salvaged::Repaired(count) => SalvageReply {
