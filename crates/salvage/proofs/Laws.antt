@@ -89,7 +89,7 @@ unfolding each
 each-four [] = refl
 each-four (x ∷ xs) = omega (arith, length-append (bytes4 x) (each bytes4 xs), length-append (bytes2 (x / 65536)) (bytes2 x), each-four xs)
 
-pub each-two : (xs : List ℕ) → length (each bytes2 xs) ≡ 2 * length xs
+each-two : (xs : List ℕ) → length (each bytes2 xs) ≡ 2 * length xs
 unfolding each
 each-two [] = refl
 each-two (x ∷ xs) = omega (arith, length-append (bytes2 x) (each bytes2 xs), each-two xs)
@@ -107,11 +107,14 @@ unfolding movedIn
 moved-length t at zero = refl
 moved-length t at (suc n) = ap suc (moved-length t (at + entrySize) n)
 
+-- the counts take two bytes for each body
+pub moved-two : (t : List ℕ) (n : ℕ) → length (each bytes2 (movedIn t headSize n)) ≡ 2 * n
+moved-two t n = each-two (movedIn t headSize n) ∙ ap (λ (m : ℕ). 2 * m) (moved-length t headSize n)
+
 pub report-length : (t : List ℕ) → length (reportOf t) ≡ 2 * bodies t + 4 * length (blanked t)
 unfolding reportOf
 report-length t =
-    let a = each-two (movedIn t headSize (bodies t)) in
-    let b = moved-length t headSize (bodies t) in
+    let a = moved-two t (bodies t) in
     let c = each-four (blanked t) in
     length-append (each bytes2 (movedIn t headSize (bodies t))) (each bytes4 (blanked t)) ∙ omega arith
 
@@ -119,8 +122,7 @@ report-length t =
 pub report-by : (t r r₁ r₂ : List ℕ) {n : ℕ} → n ≡ bodies t → r₁ ≡ put r 0 (each bytes2 (movedIn t headSize n)) → r₂ ≡ put r₁ (2 * n) (each bytes4 (blanked t)) → r₂ ≡ put r 0 (reportOf t)
 unfolding reportOf
 report-by t r r₁ r₂ {n} e f g =
-    let x = each-two (movedIn t headSize n) in
-    let y = moved-length t headSize n in
+    let x = moved-two t n in
     g ∙ ap (λ (s : List ℕ). put s (2 * n) (each bytes4 (blanked t))) f
     ∙ put-put r 0 (each bytes2 (movedIn t headSize n)) (each bytes4 (blanked t)) (2 * n) (omega arith) (omega arith)
     ∙ ap (λ (m : ℕ). put r 0 (each bytes2 (movedIn t headSize m) ++ each bytes4 (blanked t))) e
