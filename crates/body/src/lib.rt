@@ -18,7 +18,7 @@ pub enum Sums {
 }
 
 // Whether the used slot at a place is valid, and the cents of its record's executed lines.
-fn judge_slot(t: &[u8], at: usize) -> Judged
+pub fn judge_slot(t: &[u8], at: usize) -> Judged
     requires { ⌜ at + slotSize ≤ length (now t) ⌝ }
     ensures { λ j. ⌜ j ≡ told (slotOk (now (t .entry)) at) (executed (recordAt (now (t .entry)) at)) ⌝ }
 {

@@ -31,23 +31,28 @@ pub unmarked : {seen : List ℕ} {rs : List Record} (k : Key) (h : ℕ) → Mark
 unmarked {seen} k h m q z = m .absent k (ap (λ (p : ℕ). getD seen p 0) (sym q) ∙ eqb-true _ 0 (not-false _ z))
 
 -- a record whose key is at another place has another key
-other-key : (r : Record) (k : Key) → (markOf k ≡ markOf (keyOf r) → ⊥) → keyIs r k ≡ false
+pub other-key : (r : Record) (k : Key) → (markOf k ≡ markOf (keyOf r) → ⊥) → keyIs r k ≡ false
 other-key r k n = go (keyIs r k) refl where
   go : (b : Bool) → keyIs r k ≡ b → keyIs r k ≡ false
   go true e = absurd (n (ap markOf (sym (key-is r k e))))
   go false e = e
 
--- one more record, with its place marked
-mark : (seen : List ℕ) (rs : List Record) (r : Record) (h : ℕ) → Marked seen rs → h ≡ markOf (keyOf r) → h < 4096 → Marked (set seen h 1) (r ∷ rs)
-mark seen rs r h m q l = record { size = length-set seen h 1 ∙ m .size; absent = λ k z. go k z (eqb (markOf k) h) refl } where
-  go : (k : Key) → getD (set seen h 1) (markOf k) 0 ≡ 0 → (b : Bool) → eqb (markOf k) h ≡ b → isNothing (findIn (r ∷ rs) 0 k) ≡ true
+-- one more place marked: other records, where no key of another place comes in with them
+pub marked-by : (seen : List ℕ) (rs more : List Record) (h : ℕ) → Marked seen rs → h < 4096
+    → ((k : Key) → (markOf k ≡ h → ⊥) → isNothing (findIn rs 0 k) ≡ true → isNothing (findIn more 0 k) ≡ true) → Marked (set seen h 1) more
+marked-by seen rs more h m l f = record { size = length-set seen h 1 ∙ m .size; absent = λ k z. go k z (eqb (markOf k) h) refl } where
+  go : (k : Key) → getD (set seen h 1) (markOf k) 0 ≡ 0 → (b : Bool) → eqb (markOf k) h ≡ b → isNothing (findIn more 0 k) ≡ true
   go k z true e =
       let s = getD-set-same seen h 1 0 (omega (arith, m .size)) in
       let w = ap (λ (p : ℕ). getD (set seen h 1) p 0) (eqb-true (markOf k) h e) in
       absurd (omega arith)
   go k z false e =
       let n = eqb-false (markOf k) h e in
-      cons-none r rs k (other-key r k (λ p. n (p ∙ sym q))) (m .absent k (sym (getD-set-other seen h (markOf k) 1 0 n) ∙ z))
+      f k n (m .absent k (sym (getD-set-other seen h (markOf k) 1 0 n) ∙ z))
+
+-- one more record, with its place marked
+mark : (seen : List ℕ) (rs : List Record) (r : Record) (h : ℕ) → Marked seen rs → h ≡ markOf (keyOf r) → h < 4096 → Marked (set seen h 1) (r ∷ rs)
+mark seen rs r h m q l = marked-by seen rs (r ∷ rs) h m l (λ k n. cons-none r rs k (other-key r k (λ p. n (p ∙ sym q))))
 
 -- a key that stands twice in the slots from one on stands twice in all of them
 later-not : (t : List ℕ) (base m later : ℕ) → distinct (slotsAt t (base + slotSize * m) later) ≡ false → distinct (slotsAt t base (m + later)) ≡ false

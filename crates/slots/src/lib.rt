@@ -97,7 +97,7 @@ fn key_new(t: &[u8], base: usize, n: usize, key: Key, maybe: bool) -> bool
 }
 
 // A key's place in the filter of keys that were seen.
-fn mark_of(k: Key) -> usize
+pub fn mark_of(k: Key) -> usize
     ensures { λ r. ⌜ (r ≡ markOf k) × (r < filterSize) ⌝ }
 {
     let number = k.number % FILTER;

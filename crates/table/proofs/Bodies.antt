@@ -1,4 +1,4 @@
--- What a valid table tells of each body: its slots lie past the entries, within the table and apart from those of every other body, and its code is its own.
+-- What a table whose contents are right tells of each body: its slots lie past the entries, within the table and apart from those of every other body, and its code is its own.
 use mathlib.Core.Path.{_≡_, refl, sym, ap, _∙_}
 use mathlib.Core.List.{List}
 use mathlib.Core.Bool.{Bool, true, false, _&&_}
@@ -15,9 +15,9 @@ use Rattle.entries.specs.Entry.{entrySize, codeAt, slotsOf, placeOf}
 use Rattle.entries.proofs.Laws.{times, Form, form}
 use Rattle.entries.proofs.Codes.{found-below, found-code, found-own, found-one}
 use Rattle.table.specs.declared.Layout.{Layout}
-use Rattle.table.specs.Table.{table2, headSize, bodies, layoutOk, bodyHolds, bodiesOk, validAs, tableOk, bodyOf, entryOf}
+use Rattle.table.specs.Table.{table2, headSize, bodies, layoutOk, bodyHolds, bodiesOk, contentsOk, validAs, tableOk, bodyOf, entryOf}
 use Rattle.table.specs.Inner.{Known}
-use Rattle.table.proofs.Laws.{known-2, Entry, entry, lay-split, lay-own, lay-next, lay-room, Holds, holds, bodies-split, table}
+use Rattle.table.proofs.Laws.{known-2, Entry, entry, lay-split, lay-own, lay-next, lay-room, Holds, holds, bodies-split, laid, valid-split, table}
 
 below : (a b : ℕ) → a ≤ b → (a ≡ b → ⊥) → a < b
 below a b h n = go (leb (suc a) b) refl
@@ -70,18 +70,17 @@ module _ {L : Layout} (K : Known L) (t : List ℕ) where
 abbrev pub entryAt : Layout → ℕ → ℕ
 entryAt L b = headSize + L .entry * b
 
--- body b of a valid table of a layout
-pub record Body (L : Layout) (t : List ℕ) (b : ℕ) : Type 0 where
+-- body b of a table of a layout whose contents are right
+pub record Placed (L : Layout) (t : List ℕ) (b : ℕ) : Type 0 where
   pub entry-in : entryAt L b + L .entry ≤ headSize + L .entry * bodies t
   pub own-entry : Entry L t (entryAt L b) (placeOf t (entryAt L b))
   pub own-form : Form t (entryAt L b)
   pub past : headSize + L .entry * bodies t ≤ placeOf t (entryAt L b)
   pub inside : placeOf t (entryAt L b) + slotSize * slotsOf t (entryAt L b) ≤ length t
-  pub holds : Holds L t (entryAt L b)
 
-pub body-of : {L : Layout} (K : Known L) (t : List ℕ) → validAs L t ≡ true → (b : ℕ) → b < bodies t → Body L t b
-body-of {L} K t ok b h =
-    let w = table L t ok in
+pub placed-of : {L : Layout} (K : Known L) (t : List ℕ) → contentsOk L t ≡ true → (b : ℕ) → b < bodies t → Placed L t b
+placed-of {L} K t ok b h =
+    let w = laid L t ok in
     let at : ℕ = entryAt L b in
     let l = lay-at K t headSize (bodies t) (headSize + L .entry * bodies t) b (w .layout) h in
     let e : Entry L t at (placeOf t at) =
@@ -93,23 +92,48 @@ body-of {L} K t ok b h =
       own-form = form t at (e .formed);
       past = lay-past K t headSize (bodies t) (headSize + L .entry * bodies t) b (w .layout) h;
       inside = lay-room L t at (bodies t - b) (placeOf t at) (omega arith) l;
-      holds = holds L t at (bodies-at K t headSize (bodies t) b (w .valid) h);
+    }
+
+-- body b of a valid one
+pub record Body (L : Layout) (t : List ℕ) (b : ℕ) : Type 0 where
+  pub entry-in : entryAt L b + L .entry ≤ headSize + L .entry * bodies t
+  pub own-entry : Entry L t (entryAt L b) (placeOf t (entryAt L b))
+  pub own-form : Form t (entryAt L b)
+  pub past : headSize + L .entry * bodies t ≤ placeOf t (entryAt L b)
+  pub inside : placeOf t (entryAt L b) + slotSize * slotsOf t (entryAt L b) ≤ length t
+  pub holds : Holds L t (entryAt L b)
+
+pub body-of : {L : Layout} (K : Known L) (t : List ℕ) → validAs L t ≡ true → (b : ℕ) → b < bodies t → Body L t b
+body-of {L} K t ok b h =
+    let w = valid-split L t ok in
+    let p = placed-of K t (w .0) b h in
+    record {
+      entry-in = p .entry-in;
+      own-entry = p .own-entry;
+      own-form = p .own-form;
+      past = p .past;
+      inside = p .inside;
+      holds = holds L t (entryAt L b) (bodies-at K t headSize (bodies t) b (w .1) h);
     }
 
 -- TABLE 2
+
+-- the slots of a body end before those of a later one
+pub placed-before : (t : List ℕ) → contentsOk table2 t ≡ true → (b c : ℕ) → b < c → c < bodies t
+    → placeOf t (entryOf b) + slotSize * slotsOf t (entryOf b) ≤ placeOf t (entryOf c)
+placed-before t ok b c h k =
+    let at : ℕ = entryOf b in
+    let q : at + entrySize + entrySize * (c - b - 1) ≡ entryOf c = omega arith in
+    let l = lay-at known-2 t headSize (bodies t) (headSize + entrySize * bodies t) b (laid table2 t ok .layout) (omega arith) in
+    let r = lay-next table2 t at (bodies t - b) (placeOf t at) (omega arith) l in
+    omega (arith, ap (placeOf t) q, lay-past known-2 t (at + entrySize) (bodies t - b - 1) (placeOf t at + slotSize * slotsOf t at) (c - b - 1) r (omega arith))
 
 module _ (t : List ℕ) (ok : tableOk t ≡ true) where
   pub body-at : (b : ℕ) → b < bodies t → Body table2 t b
   body-at = body-of known-2 t ok
 
-  -- the slots of a body end before those of a later one
   pub before : (b c : ℕ) → b < c → c < bodies t → placeOf t (entryOf b) + slotSize * slotsOf t (entryOf b) ≤ placeOf t (entryOf c)
-  before b c h k =
-      let at : ℕ = entryOf b in
-      let q : at + entrySize + entrySize * (c - b - 1) ≡ entryOf c = omega arith in
-      let l = lay-at known-2 t headSize (bodies t) (headSize + entrySize * bodies t) b (table table2 t ok .layout) (omega arith) in
-      let r = lay-next table2 t at (bodies t - b) (placeOf t at) (omega arith) l in
-      omega (arith, ap (placeOf t) q, lay-past known-2 t (at + entrySize) (bodies t - b - 1) (placeOf t at + slotSize * slotsOf t at) (c - b - 1) r (omega arith))
+  before = placed-before t (valid-split table2 t ok .0)
 
   -- two bodies' slots do not meet
   pub apart : (b c : ℕ) → (b ≡ c → ⊥) → b < bodies t → c < bodies t

@@ -1,4 +1,4 @@
--- A table with the same head, codes, slots and places as a valid one is valid where each of its bodies is.
+-- A table with the same head, codes, slots and places as one whose contents are right is valid where each of its bodies is.
 use mathlib.Core.Path.{_≡_, refl, sym, ap, _∙_, subst}
 use mathlib.Core.List.{List}
 use mathlib.Core.Bool.{Bool, true, _&&_}
@@ -18,8 +18,8 @@ use Rattle.entries.specs.Entry.{entrySize, entryFixed, entryRest, requestSize, 
 use Rattle.entries.proofs.Same.{part-agree, zeros-agree, slots-agree, place-agree, form-agree, Rows, codes-rows}
 use Rattle.entries.proofs.Same.Rows.{none, row}
 use Rattle.bounds.specs.Bounds.{maxLength}
-use Rattle.table.specs.Table.{table2, headSize, bodies, abiOf, headOk, entryOk, layoutOk, agrees, bodyHolds, bodiesOk, validAs, tableOk, codesOf, bodyOf, entryOf}
-use Rattle.table.proofs.Laws.{entry, lay-split, head, table}
+use Rattle.table.specs.Table.{table2, headSize, bodies, abiOf, headOk, entryOk, layoutOk, agrees, bodyHolds, bodiesOk, contentsOk, validAs, tableOk, codesOf, bodyOf, entryOf}
+use Rattle.table.proofs.Laws.{entry, lay-split, head, laid, valid-split}
 
 -- what holds of the n + 1 entries from `at` on holds of the first, and of the n after it
 module _ (P : ℕ → Type 0) (at n : ℕ) (f : (b : ℕ) → b < suc n → P (at + entrySize * b)) where
@@ -41,28 +41,28 @@ pub record Own (u t : List ℕ) (at : ℕ) : Type 0 where
   pub kept : agrees u at (recordsAt u (placeOf t at) (slotsOf t at)) ≡ true
   pub rest : zeros u (at + entryRest) (at + entrySize) ≡ true
 
-module _ {u t : List ℕ} (s : Contents u t) (ok : tableOk t ≡ true) where
+module _ {u t : List ℕ} (s : Contents u t) (ok : contentsOk table2 t ≡ true) where
   room : headSize + entrySize * bodies t ≤ length t
-  room = head table2 t (table table2 t ok .head-ok) .room
+  room = head table2 t (laid table2 t ok .head-ok) .room
 
-  pub same-bodies : bodies u ≡ bodies t
-  same-bodies = same2 (s .top) (omega arith)
+  pub number : bodies u ≡ bodies t
+  number = same2 (s .top) (omega arith)
 
-  pub same-abi : abiOf u ≡ abiOf t
-  same-abi =
+  pub bank : abiOf u ≡ abiOf t
+  bank =
       let l = s .long in
       let r = room in
       part-agree (s .top) 8 13 (omega arith) 8 13 8 13 refl refl refl refl (omega arith) (omega arith)
 
-  pub same-head : headOk table2 u ≡ headOk table2 t
+  heading : headOk table2 u ≡ headOk table2 t
   unfolding headOk
-  same-head =
+  heading =
       let l = s .long in
       let r = room in
-      let n = same-bodies in
+      let n = number in
       let f = same2 (on (s .top) 2 2 (omega arith)) (omega arith) in
       let g = same4 (on (s .top) 4 4 (omega arith)) (omega arith) in
-      let a = same-abi in
+      let a = bank in
       let z = zeros-agree (s .top) 13 16 (omega arith) 13 16 13 16 refl refl refl refl (omega arith) (omega arith) in
       λ i.
       between headSize maxLength (l i)
@@ -100,19 +100,9 @@ module _ {u t : List ℕ} (s : Contents u t) (ok : tableOk t ≡ true) where
       let r = room in
       row (fewer (first Same at n a) requestSize (omega arith)) (omega arith) (omega arith) (rows (at + entrySize) n (omega arith) (later Same at n a))
 
-  pub same-codes : codesOf u ≡ codesOf t
-  same-codes =
-      ap (codesFrom entrySize u headSize) same-bodies ∙ codes-rows (rows headSize (bodies t) (omega arith) (s .entries)) (table table2 t ok .forms)
-
-  pub same-find : (code : List ℕ) → bodyOf u code ≡ bodyOf t code
-  same-find code = ap (λ (xs : List (List ℕ)). findCode xs 0 code) same-codes
-
-  module _ (b : ℕ) (h : b < bodies t) where
-    pub same-slots : slotsOf u (entryOf b) ≡ slotsOf t (entryOf b)
-    same-slots = slots-agree (s .entries b h) (omega arith)
-
-    pub same-place : placeOf u (entryOf b) ≡ placeOf t (entryOf b)
-    same-place = place-agree (s .entries b h) (omega arith)
+  pub codes : codesOf u ≡ codesOf t
+  codes =
+      ap (codesFrom entrySize u headSize) number ∙ codes-rows (rows headSize (bodies t) (omega arith) (s .entries)) (laid table2 t ok .forms)
 
   abbrev Valid : ℕ → Type 0
   Valid at = Same at × Own u t at
@@ -126,17 +116,46 @@ module _ {u t : List ℕ} (s : Contents u t) (ok : tableOk t ≡ true) where
       let k = slots-agree (a .0) (omega arith) in
       rw (p, k, a .1 .body, a .1 .kept) (bodies-same (at + entrySize) n (later Valid at n f))
 
-  -- valid where each body is
-  pub same-table : ((b : ℕ) → b < bodies t → Own u t (entryOf b)) → tableOk u ≡ true
-  unfolding validAs
-  same-table f =
-      let w = table table2 t ok in
+  -- its contents are right, and it is valid where each body is
+  pub same-contents : ((b : ℕ) → b < bodies t → zeros u (entryOf b + entryRest) (entryOf b + entrySize) ≡ true) → contentsOk table2 u ≡ true
+  same-contents f =
+      let w = laid table2 t ok in
       rw (
-        same-head,
+        heading,
         w .head-ok,
-        same-codes,
+        codes,
         w .distinct,
-        same-bodies,
-        layout-same headSize (bodies t) (headSize + entrySize * bodies t) (omega arith) (λ b h. (s .entries b h, f b h .rest)) (w .layout),
+        number,
+        layout-same headSize (bodies t) (headSize + entrySize * bodies t) (omega arith) (λ b h. (s .entries b h, f b h)) (w .layout),
       )
-      (bodies-same headSize (bodies t) (λ b h. (s .entries b h, f b h)))
+
+  pub same-valid : ((b : ℕ) → b < bodies t → Own u t (entryOf b)) → tableOk u ≡ true
+  unfolding validAs
+  same-valid f =
+      let c = same-contents (λ b h. f b h .rest) in
+      let v = ap (bodiesOk table2 u headSize) number ∙ bodies-same headSize (bodies t) (λ b h. (s .entries b h, f b h)) in
+      λ i. c i && v i
+
+-- of a valid one
+module _ {u t : List ℕ} (s : Contents u t) (ok : tableOk t ≡ true) where
+  right : contentsOk table2 t ≡ true
+  right = valid-split table2 t ok .0
+
+  pub same-bodies : bodies u ≡ bodies t
+  same-bodies = number s right
+
+  pub same-abi : abiOf u ≡ abiOf t
+  same-abi = bank s right
+
+  pub same-find : (code : List ℕ) → bodyOf u code ≡ bodyOf t code
+  same-find code = ap (λ (xs : List (List ℕ)). findCode xs 0 code) (codes s right)
+
+  module _ (b : ℕ) (h : b < bodies t) where
+    pub same-slots : slotsOf u (entryOf b) ≡ slotsOf t (entryOf b)
+    same-slots = slots-agree (s .entries b h) (omega arith)
+
+    pub same-place : placeOf u (entryOf b) ≡ placeOf t (entryOf b)
+    same-place = place-agree (s .entries b h) (omega arith)
+
+  pub same-table : ((b : ℕ) → b < bodies t → Own u t (entryOf b)) → tableOk u ≡ true
+  same-table = same-valid s right

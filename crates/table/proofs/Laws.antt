@@ -22,7 +22,7 @@ use Rattle.entries.specs.Entry.{entrySize, kept, slotsOf, placeOf, formOk, form
 use Rattle.entries.proofs.Laws.{times, Form, form}
 use Rattle.bounds.specs.Bounds.{maxBodies}
 use Rattle.table.specs.declared.Layout.{Layout}
-use Rattle.table.specs.Table.{table1, table2, headSize, bodies, abiOf, headOk, entryOk, layoutOk, agrees, recordsOf, linesHold, bodyHolds, bodiesOk, validAs}
+use Rattle.table.specs.Table.{table1, table2, headSize, bodies, abiOf, headOk, entryOk, layoutOk, agrees, recordsOf, linesHold, bodyHolds, bodiesOk, validAs, contentsOk}
 use Rattle.table.specs.Inner.{Known, sumsAgree}
 
 -- LAYOUTS
@@ -288,6 +288,21 @@ head L t e =
       room = leb-true (headSize + L .entry * bodies t) (length t) (g .1);
     }
 
+-- what right contents tell
+pub record Laid (L : Layout) (t : List ℕ) : Type 0 where
+  pub head-ok : headOk L t ≡ true
+  pub layout : layoutOk L t headSize (bodies t) (headSize + L .entry * bodies t) ≡ true
+  pub forms : formsOk (L .entry) t headSize (bodies t) ≡ true
+  pub distinct : distinctCodes (codesFrom (L .entry) t headSize (bodies t)) ≡ true
+
+pub laid : (L : Layout) (t : List ℕ) → contentsOk L t ≡ true → Laid L t
+laid L t e =
+    let l = layoutOk L t headSize (bodies t) (headSize + L .entry * bodies t) in
+    let d = distinctCodes (codesFrom (L .entry) t headSize (bodies t)) in
+    let a = both (headOk L t) (l && d) e in
+    let b = both l d (a .1) in
+    record { head-ok = a .0; layout = b .0; forms = lay-forms L t headSize (bodies t) (headSize + L .entry * bodies t) (b .0); distinct = b .1 }
+
 -- what a valid table tells
 pub record Table (L : Layout) (t : List ℕ) : Type 0 where
   pub head-ok : headOk L t ≡ true
@@ -296,37 +311,34 @@ pub record Table (L : Layout) (t : List ℕ) : Type 0 where
   pub distinct : distinctCodes (codesFrom (L .entry) t headSize (bodies t)) ≡ true
   pub valid : bodiesOk L t headSize (bodies t) ≡ true
 
-pub table : (L : Layout) (t : List ℕ) → validAs L t ≡ true → Table L t
+pub valid-split : (L : Layout) (t : List ℕ) → validAs L t ≡ true → (contentsOk L t ≡ true) × (bodiesOk L t headSize (bodies t) ≡ true)
 unfolding validAs
-table L t e =
-    let l = layoutOk L t headSize (bodies t) (headSize + L .entry * bodies t) in
-    let a = both (headOk L t) (l && (distinctCodes (codesFrom (L .entry) t headSize (bodies t)) && bodiesOk L t headSize (bodies t))) e in
-    let b = both l (distinctCodes (codesFrom (L .entry) t headSize (bodies t)) && bodiesOk L t headSize (bodies t)) (a .1) in
-    let c = both (distinctCodes (codesFrom (L .entry) t headSize (bodies t))) (bodiesOk L t headSize (bodies t)) (b .1) in
-    record {
-      head-ok = a .0;
-      layout = b .0;
-      forms = lay-forms L t headSize (bodies t) (headSize + L .entry * bodies t) (b .0);
-      distinct = c .0;
-      valid = c .1;
-    }
+valid-split L t e = both (contentsOk L t) (bodiesOk L t headSize (bodies t)) e
 
--- validAs, a way out of the code at a time; n is the number of bodies read
+pub table : (L : Layout) (t : List ℕ) → validAs L t ≡ true → Table L t
+table L t e =
+    let w = valid-split L t e in
+    let a = laid L t (w .0) in
+    record { head-ok = a .head-ok; layout = a .layout; forms = a .forms; distinct = a .distinct; valid = w .1 }
+
+-- contentsOk, a way out of the code at a time; n is the number of bodies read
 module _ (L : Layout) (t : List ℕ) where
-  pub table-head : headOk L t ≡ false → validAs L t ≡ false
-  unfolding validAs
-  table-head h = rw h
+  pub contents-head : headOk L t ≡ false → contentsOk L t ≡ false
+  contents-head h = rw h
 
   module _ (g : headOk L t ≡ true) (n : ℕ) (e : n ≡ bodies t) where
-    pub table-layout : layoutOk L t headSize n (headSize + L .entry * n) ≡ false → validAs L t ≡ false
-    unfolding validAs
-    table-layout h = rw (g, ← e, h)
+    pub contents-layout : layoutOk L t headSize n (headSize + L .entry * n) ≡ false → contentsOk L t ≡ false
+    contents-layout h = rw (g, ← e, h)
 
-    module _ (l : layoutOk L t headSize n (headSize + L .entry * n) ≡ true) where
-      pub table-codes : distinctCodes (codesFrom (L .entry) t headSize n) ≡ false → validAs L t ≡ false
-      unfolding validAs
-      table-codes h = rw (g, ← e, l, h)
+    pub contents-codes : layoutOk L t headSize n (headSize + L .entry * n) ≡ true → contentsOk L t ≡ distinctCodes (codesFrom (L .entry) t headSize n)
+    contents-codes l = rw (g, ← e, l)
 
-      pub table-bodies : distinctCodes (codesFrom (L .entry) t headSize n) ≡ true → validAs L t ≡ bodiesOk L t headSize n
-      unfolding validAs
-      table-bodies h = rw (g, ← e, l, h)
+-- validAs, likewise
+module _ (L : Layout) (t : List ℕ) where
+  pub table-contents : contentsOk L t ≡ false → validAs L t ≡ false
+  unfolding validAs
+  table-contents h = ap (λ (b : Bool). b && bodiesOk L t headSize (bodies t)) h
+
+  pub table-bodies : contentsOk L t ≡ true → (n : ℕ) → n ≡ bodies t → validAs L t ≡ bodiesOk L t headSize n
+  unfolding validAs
+  table-bodies h n e = (λ i. h i && bodiesOk L t headSize (sym e i))

@@ -85,11 +85,15 @@ unfoldable pub bodiesOk : Layout → List ℕ → ℕ → ℕ → Bool
 bodiesOk l t at zero = true
 bodiesOk l t at (suc n) = bodyHolds l t at && bodiesOk l t (at + l .entry) n
 
+-- head and entries are right, what the entries keep aside (document 02, Req 13: "a valid head and entries but for the kept totals")
+abbrev pub contentsOk : Layout → List ℕ → Bool
+contentsOk l t =
+    headOk l t && (layoutOk l t headSize (bodies t) (headSize + l .entry * bodies t)
+    && distinctCodes (codesFrom (l .entry) t headSize (bodies t)))
+
 -- "A table is valid when all that holds"
 unfoldable pub validAs : Layout → List ℕ → Bool
-validAs l t =
-    headOk l t && (layoutOk l t headSize (bodies t) (headSize + l .entry * bodies t)
-    && (distinctCodes (codesFrom (l .entry) t headSize (bodies t)) && bodiesOk l t headSize (bodies t)))
+validAs l t = contentsOk l t && bodiesOk l t headSize (bodies t)
 
 -- TABLE 2, the table of every call but conversion
 

@@ -11,7 +11,7 @@ ghost use Rattle.bounds.specs.Bounds.{maxBodies, maxLength, maxSlots};
 ghost use Rattle.record.specs.Slot.{slotSize};
 ghost use Rattle.slots.specs.Slots.{recordsAt};
 ghost use Rattle.entries.specs.Entry.{entrySize, slotsOf, placeOf};
-ghost use Rattle.table.specs.Table.{table1, table2, headSize, bodies, headOk, entryOk, layoutOk, linesHold, bodyHolds, bodiesOk, validAs, tableOk, bodyOf};
+ghost use Rattle.table.specs.Table.{table1, table2, headSize, bodies, headOk, entryOk, layoutOk, linesHold, bodyHolds, bodiesOk, validAs, tableOk, bodyOf, contentsOk};
 ghost use Rattle.table.specs.Inner.{Known, sumsAgree};
 
 pub const HEAD: usize = 16;
@@ -193,10 +193,10 @@ fn bodies_ok(t: &[u8], n: usize, l: Layout) -> bool
     true
 }
 
-// Whether any bytes at all are a valid table of this layout.
-pub fn valid_as(t: &[u8], l: Layout) -> bool
+// Whether head and entries of any bytes at all are right, what the entries keep aside.
+pub fn contents_ok(t: &[u8], l: Layout) -> bool
     requires { ⌜ Known l ⌝ }
-    ensures { λ r. ⌜ r ≡ validAs l (now (t .entry)) ⌝ }
+    ensures { λ r. ⌜ r ≡ contentsOk l (now (t .entry)) ⌝ }
 {
     if !head_ok(t, l) {
         return false;
@@ -205,9 +205,18 @@ pub fn valid_as(t: &[u8], l: Layout) -> bool
     if !layout_ok(t, n, l) {
         return false;
     }
-    if !entries::codes_distinct(t, HEAD, l.entry, n) {
+    entries::codes_distinct(t, HEAD, l.entry, n)
+}
+
+// Whether any bytes at all are a valid table of this layout.
+pub fn valid_as(t: &[u8], l: Layout) -> bool
+    requires { ⌜ Known l ⌝ }
+    ensures { λ r. ⌜ r ≡ validAs l (now (t .entry)) ⌝ }
+{
+    if !contents_ok(t, l) {
         return false;
     }
+    let n = body_count(t);
     bodies_ok(t, n, l)
 }
 

@@ -1,0 +1,59 @@
+-- One body under repair (document 02, Req 13): "Slot by slot, it keeps a record that is valid by itself and whose key hasn't been kept earlier in that body,
+-- blanks the others, moves the kept ones up in order"; and what the report says of it.
+use Prim.Native.Nat.{ℕ, zero, suc, _+_}
+use mathlib.Core.Bool.{Bool, _&&_, not, cond}
+use mathlib.Core.List.{List, [], _∷_, _++_}
+use lib.Dec.{eqb}
+use Rattle.record.specs.declared.Record.{Record}
+use Rattle.record.specs.Slot.{slotSize, recordAt, keyOf}
+use Rattle.ranges.specs.Ranges.{zeros, isNothing}
+use Rattle.slots.specs.Slots.{slotsAt, findIn}
+use Rattle.body.specs.Body.{slotOk}
+use Rattle.packing.specs.Packing.{chosen}
+
+-- WHAT IS KEPT
+
+-- the slot is kept, after the records `seen` were
+unfoldable pub keeps : List ℕ → ℕ → List Record → Bool
+keeps t at seen = slotOk t at && isNothing (findIn seen 0 (keyOf (recordAt t at)))
+
+abbrev pub flag : Bool → ℕ
+flag b = cond b 1 0
+
+-- the flags of the n slots from `at` on, 1 for a kept one, after the records `seen` were kept
+unfoldable pub keepsFrom : List ℕ → ℕ → ℕ → List Record → List ℕ
+keepsFrom t at zero seen = []
+keepsFrom t at (suc n) seen =
+    flag (keeps t at seen) ∷ keepsFrom t (at + slotSize) n (seen ++ cond (keeps t at seen) (recordAt t at ∷ []) [])
+
+-- the flags of a body's n slots
+abbrev pub keepsAt : List ℕ → ℕ → ℕ → List ℕ
+keepsAt t base n = keepsFrom t base n []
+
+-- the records that are kept, in order
+abbrev pub keptAt : List ℕ → ℕ → ℕ → List Record
+keptAt t base n = chosen (slotsAt t base n) (keepsAt t base n)
+
+-- WHAT IS REPORTED
+
+-- "A slot already all zero isn't blanked": any other that isn't kept is
+unfoldable pub blanks : List ℕ → ℕ → ℕ → Bool
+blanks t at f = not (eqb f 1) && not (zeros t at (at + slotSize))
+
+-- "the old place of each blanked slot", of the slots from `at` on with these flags
+unfoldable pub blankedFrom : List ℕ → ℕ → List ℕ → List ℕ
+blankedFrom t at [] = []
+blankedFrom t at (f ∷ fs) = cond (blanks t at f) (at ∷ []) [] ++ blankedFrom t (at + slotSize) fs
+
+-- "count of moved records": those kept that come to stand in another slot. The first flag is slot i's, and its record, if kept, comes to slot `to`
+unfoldable pub movedFrom : ℕ → ℕ → List ℕ → ℕ
+movedFrom i to [] = 0
+movedFrom i to (f ∷ fs) = cond (eqb f 1) (flag (not (eqb i to)) + movedFrom (i + 1) (to + 1) fs) (movedFrom (i + 1) to fs)
+
+abbrev pub moved : List ℕ → ℕ
+moved fs = movedFrom 0 0 fs
+
+-- numbers written one after the other, each by its bytes
+unfoldable pub each : (ℕ → List ℕ) → List ℕ → List ℕ
+each bytes [] = []
+each bytes (v ∷ vs) = bytes v ++ each bytes vs
