@@ -5,7 +5,8 @@
  * 1, and CRASH_HOW what happens there.
  *
  *   kill    the program is killed; a write has by then written half its bytes
- *   power   the same, and what was not synced is lost: bytes written, names made or renamed, bytes cut off come back
+ *   power   the same, and what was not synced is lost: bytes written, names made or renamed, bytes cut off come back. Where the program makes
+ *           fewer calls, the power is lost when it ends: what it answered has to be there nevertheless
  *   fail    the call fails as on a full disk or a bad one; a write has by then written half its bytes
  *
  * Calls counted are those that change files: open with O_CREAT, write, ftruncate, rename, unlink, fsync and fdatasync. CRASH_COUNT names a file
@@ -66,17 +67,6 @@ __attribute__((constructor)) static void begin(void)
     unsetenv("LD_PRELOAD");
 }
 
-__attribute__((destructor)) static void end(void)
-{
-    char text[32];
-    if (count == NULL)
-        return;
-    int fd = (int)raw(SYS_openat, AT_FDCWD, (long)count, O_WRONLY | O_CREAT | O_TRUNC, 0644);
-    int length = snprintf(text, sizeof text, "%ld\n", calls);
-    if (fd >= 0 && raw(SYS_write, fd, (long)text, length, 0) == length)
-        close(fd);
-}
-
 static struct known *of(int fd)
 {
     for (int i = 0; i < FILES; i++)
@@ -108,6 +98,19 @@ static void lose(void)
         if (one->had_old)
             raw(SYS_renameat2, AT_FDCWD, (long)one->old, AT_FDCWD, (long)one->to);
     }
+}
+
+__attribute__((destructor)) static void end(void)
+{
+    char text[32];
+    if (strcmp(how, "power") == 0 && at > calls)
+        lose();
+    if (count == NULL)
+        return;
+    int fd = (int)raw(SYS_openat, AT_FDCWD, (long)count, O_WRONLY | O_CREAT | O_TRUNC, 0644);
+    int length = snprintf(text, sizeof text, "%ld\n", calls);
+    if (fd >= 0 && raw(SYS_write, fd, (long)text, length, 0) == length)
+        close(fd);
 }
 
 /* Counts a call; 1 where it is to fail. */
@@ -171,10 +174,11 @@ int open64(const char *name, int flags, ...)
 
 int close(int fd)
 {
-    /* A file's bytes may still be lost after it is closed, but this program syncs every file that it writes before it closes it. */
+    /* What is not synced may be lost after the file is closed too, so a second descriptor of it is kept. */
     struct known *file = fd >= 0 ? of(fd) : NULL;
-    if (file != NULL)
-        file->fd = -1;
+    struct stat own;
+    if (file != NULL && fstat(fd, &own) == 0)
+        file->fd = file->new || own.st_size > file->lasting ? fcntl(fd, F_DUPFD_CLOEXEC, 100) : -1;
     return (int)raw(SYS_close, fd, 0, 0, 0);
 }
 

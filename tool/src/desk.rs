@@ -39,7 +39,7 @@ impl Desk {
         Ok(Desk { place, _lock: lock, table: Vec::new(), log: None })
     }
 
-    /// Makes a call. When it is back, entry and table are on disk. Where it fails, the table is as before.
+    /// Makes a call. When it is back, entry and table are on disk. Where it fails, the table is as before, unless the fault says otherwise.
     pub fn take(&mut self, call: &Call) -> Result<Answer, Fault> {
         self.take_with(call, |_| Ok(())).map(|(answer, ())| answer)
     }
@@ -64,7 +64,8 @@ impl Desk {
                 return Err(fault);
             }
             self.table = taken.table;
-            sync_folder(&self.place.folder)?;
+            let unsure = |fault| Fault::File(format!("the table has this call, but may lose it with the power: {fault}"));
+            sync_folder(&self.place.folder).map_err(unsure)?;
         }
         self.log = Some(log);
         Ok((taken.answer, made))
