@@ -7,6 +7,7 @@
  *   kill    the program is killed; a write has by then written half its bytes
  *   power   the same, and what was not synced is lost: bytes written, names made or renamed, bytes cut off come back. Where the program makes
  *           fewer calls, the power is lost when it ends: what it answered has to be there nevertheless
+ *   part    the same, but renames last that were not synced, while new names and bytes don't
  *   fail    the call fails as on a full disk or a bad one; a write has by then written half its bytes
  *
  * Calls counted are those that change files: open with O_CREAT, write, ftruncate, rename, unlink, fsync and fdatasync. CRASH_COUNT names a file
@@ -75,6 +76,11 @@ static struct known *of(int fd)
     return NULL;
 }
 
+static int loses(void)
+{
+    return strcmp(how, "power") == 0 || strcmp(how, "part") == 0;
+}
+
 /* Undoes what was not synced, the latest first. */
 static void lose(void)
 {
@@ -92,7 +98,7 @@ static void lose(void)
         if (file->new)
             raw(SYS_unlinkat, AT_FDCWD, (long)file->name, 0, 0);
     }
-    while (renamed_count-- > 0) {
+    while (strcmp(how, "power") == 0 && renamed_count-- > 0) {
         struct renamed *one = &renames[renamed_count];
         raw(SYS_renameat2, AT_FDCWD, (long)one->to, AT_FDCWD, (long)one->from);
         if (one->had_old)
@@ -103,7 +109,7 @@ static void lose(void)
 __attribute__((destructor)) static void end(void)
 {
     char text[32];
-    if (strcmp(how, "power") == 0 && at > calls)
+    if (loses() && at > calls)
         lose();
     if (count == NULL)
         return;
@@ -120,7 +126,7 @@ static int now(void)
         return 0;
     if (strcmp(how, "fail") == 0)
         return 1;
-    if (strcmp(how, "power") == 0)
+    if (loses())
         lose();
     raise(SIGKILL);
     return 0;

@@ -8,6 +8,9 @@ use std::time::{Duration, Instant};
 use crate::desk::{BODIES, Cut, Random, Step, calls_of, explained, flow, folder, number, run, step, valid};
 use hondivole::{Edition, Kind, MOST_OUTCOME_BYTES, Table};
 
+/// The ways of tests/tool/crash.c.
+const HOW: [&str; 4] = ["kill", "power", "part", "fail"];
+
 fn opened(folder: &Path) -> PathBuf {
     let table = folder.join("desk.table");
     for end in ["", ".log", ".new", ".old"] {
@@ -82,7 +85,7 @@ fn at_every_call_on_files() {
     let words: Vec<_> = flow.words.iter().map(String::as_str).collect();
     let calls = calls_of(&words, &folder.join("count"));
     assert!(calls > 7, "{calls}");
-    for how in ["kill", "power", "fail"] {
+    for how in HOW {
         for at in 1..=calls + 1 {
             table = opened(&folder);
             let now = seen.made(&table, &before, &flow, Cut::At(at, how));
@@ -112,7 +115,7 @@ fn opening_at_every_call_on_files() {
     };
     let calls = calls_of(&words, &folder.join("count"));
     assert!(calls > 7, "{calls}");
-    for how in ["kill", "power", "fail"] {
+    for how in HOW {
         for at in 1..=calls + 1 {
             gone();
             let output = run(&words, Cut::At(at, how));
@@ -159,7 +162,7 @@ fn at_random_moments() {
                 outside.made(&table, &now, &step, Cut::After(time))
             }
             other => {
-                let how = ["kill", "power", "fail"][other as usize % 3];
+                let how = HOW[other as usize % HOW.len()];
                 inside.made(&table, &now, &step, Cut::At(1 + random.below(12), how))
             }
         };
