@@ -23,7 +23,7 @@ const LINE: usize = 32;
 const MOST: usize = 1 << 20;
 
 /// No entry has more bytes, and so no torn one.
-pub const MOST_ENTRY: u64 = (MOST + 2 * LINE) as u64;
+const MOST_ENTRY: u64 = (MOST + 2 * LINE) as u64;
 
 /// One call.
 #[derive(Clone, Debug, PartialEq, Eq)]
@@ -146,9 +146,14 @@ impl Entries {
         Ok(Next::Whole(Box::new(entry)))
     }
 
-    /// How many bytes stand behind the whole entries.
-    pub fn left(&self) -> io::Result<u64> {
-        Ok(self.from.get_ref().metadata()?.len().saturating_sub(self.end))
+    /// How many bytes stand behind the whole entries, once one that isn't was met: what an entry that was torn left. `None` where a whole entry
+    /// follows on them, or they are too many: the log is damaged then.
+    pub fn torn(&self) -> io::Result<Option<u64>> {
+        let file = self.from.get_ref();
+        let size = file.metadata()?.len();
+        let left = size.saturating_sub(self.end);
+        let damaged = left > MOST_ENTRY || (left > 0 && last_from_the_end(file, size)?.is_some());
+        Ok((!damaged).then_some(left))
     }
 
     /// So many bytes, or what is left.
@@ -157,6 +162,26 @@ impl Entries {
         (&mut self.from).take(count as u64).read_to_end(&mut bytes)?;
         Ok(bytes)
     }
+}
+
+/// The entry that a log of this size ends with, and its length; `None` where it ends with none.
+fn last_from_the_end(mut file: &File, size: u64) -> io::Result<Option<(Entry, u64)>> {
+    let Some(at) = size.checked_sub(LINE as u64) else {
+        return Ok(None);
+    };
+    let mut line = [0; LINE];
+    file.seek(SeekFrom::Start(at))?;
+    file.read_exact(&mut line)?;
+    let whole = line_says(&line, "ended").map(|(length, _)| (length + 2 * LINE) as u64);
+    let Some((length, from)) = whole.and_then(|length| Some((length, size.checked_sub(length)?))) else {
+        return Ok(None);
+    };
+    let mut entries = Entries { from: BufReader::new(file.try_clone()?), end: 0 };
+    entries.from.seek(SeekFrom::Start(from))?;
+    Ok(match entries.next()? {
+        Next::Whole(entry) => Some((*entry, length)),
+        _ => None,
+    })
 }
 
 /// A log that entries are added to. Whoever has it holds the table's lock.
@@ -196,7 +221,7 @@ impl Log {
 
     /// The last whole entry and its length, and where it ends: from the log's end, and from its beginning where the end is torn.
     fn last(&mut self, size: u64) -> io::Result<(Option<(Entry, u64)>, u64)> {
-        if let Some(last) = self.last_from_the_end(size)? {
+        if let Some(last) = last_from_the_end(&self.file, size)? {
             return Ok((Some(last), size));
         }
         let mut entries = Entries { from: BufReader::new(self.file.try_clone()?), end: 0 };
@@ -209,25 +234,6 @@ impl Log {
                 Next::End | Next::Torn => return Ok((last, entries.end)),
             }
         }
-    }
-
-    fn last_from_the_end(&mut self, size: u64) -> io::Result<Option<(Entry, u64)>> {
-        let Some(at) = size.checked_sub(LINE as u64) else {
-            return Ok(None);
-        };
-        let mut line = [0; LINE];
-        self.file.seek(SeekFrom::Start(at))?;
-        self.file.read_exact(&mut line)?;
-        let whole = line_says(&line, "ended").map(|(length, _)| (length + 2 * LINE) as u64);
-        let Some((length, from)) = whole.and_then(|length| Some((length, size.checked_sub(length)?))) else {
-            return Ok(None);
-        };
-        let mut entries = Entries { from: BufReader::new(self.file.try_clone()?), end: 0 };
-        entries.from.seek(SeekFrom::Start(from))?;
-        Ok(match entries.next()? {
-            Next::Whole(entry) => Some((*entry, length)),
-            _ => None,
-        })
     }
 
     /// Adds a call, and is back once it is on disk.

@@ -78,6 +78,8 @@ fn logged(place: &Place, table: u64) -> Result<(u64, Option<Entry>), Fault> {
             Next::End | Next::Torn => break,
         }
     }
+    let damaged = || Fault::file(&place.log, format!("from byte {} on this is no log", entries.end));
+    entries.torn().map_err(|error| Fault::at(&place.log, &error))?.ok_or_else(damaged)?;
     // As every change has it: what is torn, and a call whose table did not reach the disk, count for nothing.
     match last {
         Some(last) if last.after == table => Ok((last.number, Some(last))),

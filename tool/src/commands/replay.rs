@@ -9,7 +9,7 @@ use crate::desk::{self, Desk};
 use crate::digest::digest;
 use crate::fault::Fault;
 use crate::json::number;
-use crate::log::{Entries, Entry, MOST_ENTRY, Next};
+use crate::log::{Entries, Entry, Next};
 use crate::say::Say;
 use crate::words;
 
@@ -56,10 +56,8 @@ fn replayed(log: &Path) -> Result<Replayed, Fault> {
         before = std::mem::replace(&mut table, left);
         calls += 1;
     }
-    let torn = entries.left().map_err(|error| Fault::at(log, &error))?;
-    if calls == 0 || torn > MOST_ENTRY {
-        return Err(Fault::file(log, format!("from byte {} on this is no log", entries.end)));
-    }
+    let torn = entries.torn().map_err(|error| Fault::at(log, &error))?.filter(|_| calls > 0);
+    let torn = torn.ok_or_else(|| Fault::file(log, format!("from byte {} on this is no log", entries.end)))?;
     if own.is_some_and(|own| own != digest(&table) && own == digest(&before)) && calls > 1 {
         return Ok(Replayed { table: before, calls: calls - 1, torn });
     }
