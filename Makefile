@@ -14,7 +14,7 @@ ARCHIVE ?= target/staticlib/libhondivole.a
 VERSION := $(shell sed -n 's/^\#define HONDIVOLE_VERSION "\(.*\)"/\1/p' include/hondivole.h)
 MACHINE := $(shell uname -m)
 ifeq ($(MACHINE),x86_64)
-TOOL ?= tool/target/release/hondivole
+TOOL ?= target/cargo/release/hondivole
 endif
 NAME := hondivole-$(VERSION)-x86_64
 TREE := target/dist/$(NAME)
@@ -29,7 +29,7 @@ all: $(TOOL)
 $(ARCHIVE):
 	./library
 
-tool/target/release/hondivole: $(ARCHIVE) $(wildcard tool/src/*.rs tool/src/commands/*.rs bindings/rust/src/*.rs)
+target/cargo/release/hondivole: $(ARCHIVE) $(wildcard tool/src/*.rs tool/src/commands/*.rs bindings/rust/src/*.rs)
 	cd tool && cargo --offline build --release
 
 # Where the archive will be found once installed is all that is filled in.

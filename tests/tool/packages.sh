@@ -48,6 +48,6 @@ said make -s dist ARCHIVE="$archive"
 [ "$first" = "$(sha256sum < "target/dist/${dist##*/}.tar.gz")" ] || { echo "make dist packs another file the second time"; exit 1; }
 if command -v dpkg-deb > /dev/null 2>&1; then
   said make -s deb ARCHIVE="$archive"
-  dpkg-deb --contents target/dist/hondivole_*_amd64.deb | grep -q usr/lib/libhondivole.a
+  dpkg-deb --contents target/dist/hondivole_*_amd64.deb | grep usr/lib/libhondivole.a > "$work/said"
 fi
 echo "installed, packed, linked by pkg-config from C and Rust"
