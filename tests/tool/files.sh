@@ -118,6 +118,13 @@ is 1 "$tool" flow m "$root/examples/field.xml" --message m.xml --values values -
 holds absent m.xml
 is 0 "$tool" flow m "$run" --message m.xml --values values --value identificativo_flusso_BT=BT-238444
 holds same m.xml "$root/examples/messages/run.xml"
+cp m before
+ln -s m.log to-log
+for out in m ./m.log m.lock m.new to-log; do
+  is 2 "$tool" flow m "$run" --message "$out" --values values --value identificativo_flusso_BT=BT-238444
+  holds same m before
+done
+is 0 "$tool" check m
 
 # Journals.
 printf '# 3 March\nmandato 2021 12 1 100.00\n\n' > j
@@ -152,6 +159,7 @@ is 1 "$tool" open n --abi 01234 471:4 471:4
 holds out_has "refused, 9"
 holds absent n
 holds absent n.log
+holds absent n.lock
 
 # Too long, cut short, nothing in it, a folder, nothing at all.
 is 0 "$tool" open big --abi 01234 1:512 2:172

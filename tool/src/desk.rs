@@ -8,7 +8,7 @@ use crate::digest::digest;
 use crate::disk::{self, Draft, MOST_TABLE_BYTES, sync_folder};
 use crate::fault::Fault;
 use crate::log::{FOUND, Log};
-use crate::place::Place;
+use crate::place::{Place, with};
 use crate::say::Say;
 
 /// A table that this process alone may change.
@@ -30,6 +30,15 @@ impl Desk {
         Ok(Desk { place, _lock: lock, table, log: None })
     }
 
+    /// Makes a new table by a call that needs none. One that is refused leaves no file.
+    pub fn make(path: &Path, call: &Call, say: Say) -> Result<Answer, Fault> {
+        Place::of_new(path)?;
+        match call.apply(&[]) {
+            Some(taken) if taken.answer.code != 0 => Ok(taken.answer),
+            _ => Desk::of_new(path, say)?.take(call),
+        }
+    }
+
     /// Takes the lock of a table that is to be made.
     pub fn of_new(path: &Path, say: Say) -> Result<Desk, Fault> {
         let place = Place::of_new(path)?;
@@ -48,7 +57,7 @@ impl Desk {
     pub fn take_with<T>(&mut self, call: &Call, first: impl FnOnce(&Answer) -> Result<T, Fault>) -> Result<(Answer, T), Fault> {
         let taken = call.apply(&self.table).ok_or_else(|| Fault::Use(format!("'{}' is no call", call.line())))?;
         let made = first(&taken.answer)?;
-        // Neither what is no table nor a table that is not made has a history.
+        // What is no table has no history.
         if taken.answer.code == 1 || taken.table.is_empty() {
             return Ok((taken.answer, made));
         }
@@ -69,6 +78,14 @@ impl Desk {
         }
         self.log = Some(log);
         Ok((taken.answer, made))
+    }
+
+    /// Whether a path names the table or a file beside it that is this program's.
+    pub fn owns(&self, path: &Path) -> bool {
+        let Place { table, log, lock, .. } = &self.place;
+        let own = [table.clone(), log.clone(), lock.clone(), with(table, ".new")];
+        let drafts = [path.to_path_buf(), with(path, ".new")];
+        drafts.iter().any(|draft| Place::of(draft).is_ok_and(|place| own.contains(&place.table)))
     }
 
     /// Puts a table there that comes from a log: its calls are logged already.
@@ -96,15 +113,15 @@ impl Desk {
 /// Takes the lock, and says so where it has to wait.
 fn locked(place: &Place, say: Say) -> Result<File, Fault> {
     let lock = OpenOptions::new().append(true).create(true).open(&place.lock);
-    let lock = lock.map_err(|error| Fault::at(&place.lock, &error))?;
+    let lock = lock.map_err(|error| Fault::file(&place.lock, error))?;
     match lock.try_lock() {
         Ok(()) => Ok(lock),
         Err(TryLockError::WouldBlock) => {
             say.progress(&format!("{}: waiting for another process", place.table.display()));
-            lock.lock().map_err(|error| Fault::at(&place.lock, &error))?;
+            lock.lock().map_err(|error| Fault::file(&place.lock, error))?;
             Ok(lock)
         }
-        Err(TryLockError::Error(error)) => Err(Fault::at(&place.lock, &error)),
+        Err(TryLockError::Error(error)) => Err(Fault::file(&place.lock, error)),
     }
 }
 

@@ -14,8 +14,8 @@ pub const MOST_TABLE_BYTES: u64 = 65_792;
 /// A file's bytes, and at most one more than the limit: that one tells whoever judges them that there are too many.
 pub fn read(path: &Path, limit: u64) -> Result<Vec<u8>, Fault> {
     let mut bytes = Vec::new();
-    let file = File::open(path).map_err(|error| Fault::at(path, &error))?;
-    file.take(limit + 1).read_to_end(&mut bytes).map_err(|error| Fault::at(path, &error))?;
+    let file = File::open(path).map_err(|error| Fault::file(path, error))?;
+    file.take(limit + 1).read_to_end(&mut bytes).map_err(|error| Fault::file(path, error))?;
     Ok(bytes)
 }
 
@@ -30,7 +30,7 @@ impl Draft {
     /// Writes and syncs it, with owner and permissions of the file that it will replace.
     pub fn write(target: &Path, bytes: &[u8], like: Option<&Metadata>) -> Result<Draft, Fault> {
         let draft = Draft { draft: with(target, ".new"), target: target.into(), renamed: false };
-        draft.fill(bytes, like).map_err(|error| Fault::at(&draft.draft, &error))?;
+        draft.fill(bytes, like).map_err(|error| Fault::file(&draft.draft, error))?;
         Ok(draft)
     }
 
@@ -54,7 +54,7 @@ impl Draft {
 
     /// Renames it over the file that it replaces. It lasts once the folder is synced.
     pub fn rename(mut self) -> Result<(), Fault> {
-        fs::rename(&self.draft, &self.target).map_err(|error| Fault::at(&self.target, &error))?;
+        fs::rename(&self.draft, &self.target).map_err(|error| Fault::file(&self.target, error))?;
         self.renamed = true;
         Ok(())
     }
@@ -70,5 +70,5 @@ impl Drop for Draft {
 
 /// Syncs a folder, so that names in it last.
 pub fn sync_folder(folder: &Path) -> Result<(), Fault> {
-    File::open(folder).and_then(|folder| folder.sync_all()).map_err(|error| Fault::at(folder, &error))
+    File::open(folder).and_then(|folder| folder.sync_all()).map_err(|error| Fault::file(folder, error))
 }

@@ -1,7 +1,6 @@
 //! Why a command ended without an answer of the library.
 
 use std::fmt;
-use std::io;
 use std::path::Path;
 
 /// What went wrong before the library was asked, or around it.
@@ -14,12 +13,7 @@ pub enum Fault {
 }
 
 impl Fault {
-    /// A file that the system refuses, with its name and the system's words.
-    pub fn at(path: &Path, error: &io::Error) -> Fault {
-        Fault::file(path, error)
-    }
-
-    /// A file with what is wrong with it.
+    /// A file with what is wrong with it, in the system's words where the system refuses it.
     pub fn file(path: &Path, what: impl fmt::Display) -> Fault {
         Fault::File(format!("{}: {what}", path.display()))
     }

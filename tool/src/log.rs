@@ -119,7 +119,7 @@ pub struct Entries {
 impl Entries {
     /// Reads a log from its beginning.
     pub fn of(path: &Path) -> Result<Entries, Fault> {
-        let file = File::open(path).map_err(|error| Fault::at(path, &error))?;
+        let file = File::open(path).map_err(|error| Fault::file(path, error))?;
         Ok(Entries { from: BufReader::new(file), end: 0 })
     }
 
@@ -203,13 +203,13 @@ impl Log {
     pub fn open(place: &Place, table: u64) -> Result<Log, Fault> {
         let path = place.log.clone();
         let file = OpenOptions::new().read(true).append(true).create(true).open(&path);
-        let file = file.map_err(|error| Fault::at(&path, &error))?;
+        let file = file.map_err(|error| Fault::file(&path, error))?;
         let mut log = Log { folder: place.folder.clone(), file, next: 1, end: 0, added: None, path };
-        let size = log.file.metadata().map_err(|error| Fault::at(&log.path, &error))?.len();
-        let (last, end) = log.last(size).map_err(|error| Fault::at(&log.path, &error))?;
+        let size = log.file.metadata().map_err(|error| Fault::file(&log.path, error))?.len();
+        let (last, end) = log.last(size).map_err(|error| Fault::file(&log.path, error))?;
         (log.next, log.end) = settled(last.as_ref(), end, size, table).map_err(|what| Fault::file(&log.path, what))?;
         if log.end < size {
-            log.cut(log.end).map_err(|error| Fault::at(&log.path, &error))?;
+            log.cut(log.end).map_err(|error| Fault::file(&log.path, error))?;
         }
         Ok(log)
     }
@@ -243,7 +243,7 @@ impl Log {
         if let Err(error) = self.file.write_all(&bytes).and_then(|()| self.file.sync_data()) {
             // What is left of it would be cut off by the next call in any case.
             let _ = self.cut(self.end);
-            return Err(Fault::at(&self.path, &error));
+            return Err(Fault::file(&self.path, error));
         }
         if self.end == 0 {
             sync_folder(&self.folder)?;

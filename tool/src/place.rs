@@ -25,8 +25,8 @@ pub struct Place {
 impl Place {
     /// The place of a table that is there.
     pub fn of_table(path: &Path) -> Result<Place, Fault> {
-        let table = fs::canonicalize(path).map_err(|error| Fault::at(path, &error))?;
-        if !fs::metadata(&table).map_err(|error| Fault::at(path, &error))?.is_file() {
+        let table = fs::canonicalize(path).map_err(|error| Fault::file(path, error))?;
+        if !fs::metadata(&table).map_err(|error| Fault::file(path, error))?.is_file() {
             return Err(Fault::file(path, "this is no file"));
         }
         Place::beside(table)
@@ -37,9 +37,17 @@ impl Place {
         if fs::symlink_metadata(path).is_ok() {
             return Err(Fault::file(path, "there is such a file already"));
         }
+        Place::of(path)
+    }
+
+    /// The place of a path, whether there is something or not.
+    pub fn of(path: &Path) -> Result<Place, Fault> {
+        if let Ok(there) = fs::canonicalize(path) {
+            return Place::beside(there);
+        }
         let name = path.file_name().ok_or_else(|| Fault::file(path, "this is no file's name"))?;
         let parent = path.parent().filter(|parent| !parent.as_os_str().is_empty()).unwrap_or(Path::new("."));
-        let folder = fs::canonicalize(parent).map_err(|error| Fault::at(parent, &error))?;
+        let folder = fs::canonicalize(parent).map_err(|error| Fault::file(parent, error))?;
         Place::beside(folder.join(name))
     }
 

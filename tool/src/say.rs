@@ -17,7 +17,8 @@ impl Say {
     pub fn answer(&self, words: &str, json: &Json) -> Result<(), Fault> {
         let mut out = io::stdout().lock();
         let said = if self.json { writeln!(out, "{json}") } else { writeln!(out, "{words}") };
-        said.and_then(|()| out.flush()).map_err(|error| Fault::File(format!("standard output: {error}")))
+        let unheard = |error| Fault::File(format!("standard output: {error}: the answer could not be told, but it stands"));
+        said.and_then(|()| out.flush()).map_err(unheard)
     }
 
     /// Says on standard error where a longer run is. Nobody has to read it.

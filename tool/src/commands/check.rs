@@ -31,7 +31,7 @@ fn run(mut args: Args, say: Say) -> Result<bool, Fault> {
     // Table and log are read while nobody changes them; where there is no lock file, nobody ever did.
     let lock = File::open(&place.lock).ok();
     if let Some(lock) = &lock {
-        lock.lock_shared().map_err(|error| Fault::at(&place.lock, &error))?;
+        lock.lock_shared().map_err(|error| Fault::file(&place.lock, error))?;
     }
     let table = desk::look(&path)?;
     if Table::over(&table).totals("") == Err(Refusal::TableNotValid) {
@@ -67,7 +67,7 @@ fn logged(place: &Place, table: u64) -> Result<(u64, Option<Entry>), Fault> {
     let mut entries = Entries::of(&place.log)?;
     let (mut last, mut one_before): (Option<Entry>, Option<Entry>) = (None, None);
     loop {
-        match entries.next().map_err(|error| Fault::at(&place.log, &error))? {
+        match entries.next().map_err(|error| Fault::file(&place.log, error))? {
             Next::Whole(entry) => {
                 let (number, digest) = last.as_ref().map_or((0, digest(&[])), |last| (last.number, last.after));
                 if entry.number != number + 1 || entry.before != digest {
@@ -79,7 +79,7 @@ fn logged(place: &Place, table: u64) -> Result<(u64, Option<Entry>), Fault> {
         }
     }
     let damaged = || Fault::file(&place.log, format!("from byte {} on this is no log", entries.end));
-    entries.torn().map_err(|error| Fault::at(&place.log, &error))?.ok_or_else(damaged)?;
+    entries.torn().map_err(|error| Fault::file(&place.log, error))?.ok_or_else(damaged)?;
     // As every change has it: what is torn, and a call whose table did not reach the disk, count for nothing.
     match last {
         Some(last) if last.after == table => Ok((last.number, Some(last))),

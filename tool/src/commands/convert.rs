@@ -24,7 +24,7 @@ fn run(mut args: Args, say: Say) -> Result<bool, Fault> {
     let (old, path) = (args.path("OLD")?, args.path("TABLE")?);
     args.end()?;
     let call = Call { words: vec!["convert".into()], bytes: desk::look(&old)? };
-    let answer = Desk::of_new(&path, say)?.take(&call)?;
+    let answer = Desk::make(&path, &call, say)?;
     let refusal = answer.refusal().map(|refusal| (refusal, refusal.to_string()));
     let text = match &refusal {
         None => format!("{}: converted, {}", path.display(), words::count(answer.number(0) as usize, "byte")),

@@ -56,6 +56,9 @@ fn run(mut args: Args, say: Say) -> Result<bool, Fault> {
     // All are read before the first is taken: a name that was mistyped stops none halfway.
     let flows = files.iter().map(|file| disk::read(file, MOST_FLOW_BYTES)).collect::<Result<Vec<_>, _>>()?;
     let mut desk = Desk::of_table(&path, say)?;
+    if message.as_ref().is_some_and(|(out, _)| desk.owns(out)) {
+        return Err(args.wrong("--message names the table or a file beside it that is the table's"));
+    }
     let mut all = true;
     for (i, (file, flow)) in files.iter().zip(flows).enumerate() {
         if files.len() > 1 {

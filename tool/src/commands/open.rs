@@ -30,8 +30,7 @@ fn run(mut args: Args, say: Say) -> Result<bool, Fault> {
         body_of(&body).ok_or_else(|| args.wrong(&format!("'{body}' is no BODY:SLOTS")))?;
         call.push(body);
     }
-    let mut desk = Desk::of_new(&path, say)?;
-    let answer = desk.take(&Call::of(call.clone()))?;
+    let answer = Desk::make(&path, &Call::of(call.clone()), say)?;
     let refusal = answer.refusal().map(|refusal| (refusal, refusal.to_string()));
     let text = match &refusal {
         None => {

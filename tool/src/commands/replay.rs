@@ -51,12 +51,12 @@ fn replayed(log: &Path) -> Result<Replayed, Fault> {
     let own = own.map(|table| digest(&table));
     let mut entries = Entries::of(log)?;
     let (mut table, mut before, mut calls) = (Vec::new(), Vec::new(), 0);
-    while let Next::Whole(entry) = entries.next().map_err(|error| Fault::at(log, &error))? {
+    while let Next::Whole(entry) = entries.next().map_err(|error| Fault::file(log, error))? {
         let left = again(&entry, &table, calls).map_err(|what| Fault::file(log, format!("entry {}: {what}", entry.number)))?;
         before = std::mem::replace(&mut table, left);
         calls += 1;
     }
-    let torn = entries.torn().map_err(|error| Fault::at(log, &error))?.filter(|_| calls > 0);
+    let torn = entries.torn().map_err(|error| Fault::file(log, error))?.filter(|_| calls > 0);
     let torn = torn.ok_or_else(|| Fault::file(log, format!("from byte {} on this is no log", entries.end)))?;
     if own.is_some_and(|own| own != digest(&table) && own == digest(&before)) && calls > 1 {
         return Ok(Replayed { table: before, calls: calls - 1, torn });
