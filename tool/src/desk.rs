@@ -1,0 +1,131 @@
+//! A table file under its lock: calls are logged, then the table is replaced, then the answer is given.
+
+use std::fs::{self, File, Metadata, OpenOptions, TryLockError};
+use std::path::Path;
+
+use crate::call::{Answer, Call};
+use crate::digest::digest;
+use crate::disk::{self, Draft, MOST_TABLE_BYTES, sync_folder};
+use crate::fault::Fault;
+use crate::log::{FOUND, Log};
+use crate::place::{Place, with};
+use crate::say::Say;
+
+/// A table that this process alone may change.
+pub struct Desk {
+    place: Place,
+    /// Closing it gives the lock back, whichever way the process ends.
+    _lock: File,
+    /// The file's bytes; none where there is no file yet.
+    table: Vec<u8>,
+    log: Option<Log>,
+}
+
+impl Desk {
+    /// Takes the lock of a table that is there, and reads it.
+    pub fn of_table(path: &Path, say: Say) -> Result<Desk, Fault> {
+        let place = Place::of_table(path)?;
+        let lock = locked(&place, say)?;
+        let table = disk::read(&place.table, MOST_TABLE_BYTES)?;
+        Ok(Desk { place, _lock: lock, table, log: None })
+    }
+
+    /// Makes a new table by a call that needs none. One that is refused leaves no file.
+    pub fn make(path: &Path, call: &Call, say: Say) -> Result<Answer, Fault> {
+        Place::of_new(path)?;
+        match call.apply(&[]) {
+            Some(taken) if taken.answer.code != 0 => Ok(taken.answer),
+            _ => Desk::of_new(path, say)?.take(call),
+        }
+    }
+
+    /// Takes the lock of a table that is to be made.
+    pub fn of_new(path: &Path, say: Say) -> Result<Desk, Fault> {
+        let place = Place::of_new(path)?;
+        let lock = locked(&place, say)?;
+        // Another process may have made it before it gave the lock back.
+        Place::of_new(path)?;
+        Ok(Desk { place, _lock: lock, table: Vec::new(), log: None })
+    }
+
+    /// Makes a call. When it is back, entry and table are on disk. Where it fails, the table is as before, unless the fault says otherwise.
+    pub fn take(&mut self, call: &Call) -> Result<Answer, Fault> {
+        self.take_with(call, |_| Ok(())).map(|(answer, ())| answer)
+    }
+
+    /// Makes a call, and something that its answer is needed for and that may fail, before anything is changed.
+    pub fn take_with<T>(&mut self, call: &Call, first: impl FnOnce(&Answer) -> Result<T, Fault>) -> Result<(Answer, T), Fault> {
+        let taken = call.apply(&self.table).ok_or_else(|| Fault::Use(format!("'{}' is no call", call.line())))?;
+        let made = first(&taken.answer)?;
+        // What is no table has no history.
+        if taken.answer.code == 1 || taken.table.is_empty() {
+            return Ok((taken.answer, made));
+        }
+        let before = digest(&self.table);
+        let mut log = match self.log.take() {
+            Some(log) => log,
+            None => self.begun(before)?,
+        };
+        log.add(call, &taken.answer, before, digest(&taken.table))?;
+        if taken.table != self.table {
+            if let Err(fault) = self.replaced(&taken.table) {
+                log.undo();
+                return Err(fault);
+            }
+            self.table = taken.table;
+            let unsure = |fault| Fault::File(format!("the table has this call, but may lose it with the power: {fault}"));
+            sync_folder(&self.place.folder).map_err(unsure)?;
+        }
+        self.log = Some(log);
+        Ok((taken.answer, made))
+    }
+
+    /// Whether a path names the table or a file beside it that is this program's.
+    pub fn owns(&self, path: &Path) -> bool {
+        let Place { table, log, lock, .. } = &self.place;
+        let own = [table.clone(), log.clone(), lock.clone(), with(table, ".new")];
+        let drafts = [path.to_path_buf(), with(path, ".new")];
+        drafts.iter().any(|draft| Place::of(draft).is_ok_and(|place| own.contains(&place.table)))
+    }
+
+    /// Puts a table there that comes from a log: its calls are logged already.
+    pub fn put(&mut self, table: &[u8]) -> Result<(), Fault> {
+        self.replaced(table)?;
+        sync_folder(&self.place.folder)
+    }
+
+    /// The log, with the table as its first entry where the table was there before it.
+    fn begun(&self, table: u64) -> Result<Log, Fault> {
+        let mut log = Log::open(&self.place, table)?;
+        if log.is_empty() && !self.table.is_empty() {
+            let found = Call { words: vec![FOUND.into()], bytes: self.table.clone() };
+            log.add(&found, &Answer::default(), digest(&[]), table)?;
+        }
+        Ok(log)
+    }
+
+    fn replaced(&self, table: &[u8]) -> Result<(), Fault> {
+        let like: Option<Metadata> = fs::metadata(&self.place.table).ok();
+        Draft::write(&self.place.table, table, like.as_ref())?.rename()
+    }
+}
+
+/// Takes the lock, and says so where it has to wait.
+fn locked(place: &Place, say: Say) -> Result<File, Fault> {
+    let lock = OpenOptions::new().append(true).create(true).open(&place.lock);
+    let lock = lock.map_err(|error| Fault::file(&place.lock, error))?;
+    match lock.try_lock() {
+        Ok(()) => Ok(lock),
+        Err(TryLockError::WouldBlock) => {
+            say.progress(&format!("{}: waiting for another process", place.table.display()));
+            lock.lock().map_err(|error| Fault::file(&place.lock, error))?;
+            Ok(lock)
+        }
+        Err(TryLockError::Error(error)) => Err(Fault::file(&place.lock, error)),
+    }
+}
+
+/// The bytes of a table that is only looked at. No lock is needed: a table's file is never changed, but replaced.
+pub fn look(path: &Path) -> Result<Vec<u8>, Fault> {
+    disk::read(&Place::of_table(path)?.table, MOST_TABLE_BYTES)
+}

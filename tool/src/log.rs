@@ -1,0 +1,333 @@
+//! The log beside a table: one entry for each call, each on disk before its table is.
+//!
+//! An entry is text around the call's bytes, so that it can be read as it stands. Its first and its last line have 32 bytes and say length and
+//! digest of what is between them: the last entry is found from the log's end, and one that was torn is known.
+
+use std::fs::{File, OpenOptions};
+use std::io::{self, BufReader, Read, Seek, SeekFrom, Write};
+use std::path::{Path, PathBuf};
+
+use crate::call::{Answer, Call};
+use crate::digest::digest;
+use crate::disk::sync_folder;
+use crate::fault::Fault;
+use crate::place::Place;
+
+/// The name of the entry that a log begins with where the table was there before it.
+pub const FOUND: &str = "found";
+
+/// The bytes of an entry's first and of its last line.
+const LINE: usize = 32;
+
+/// More bytes than any call's entry has between these lines.
+const MOST: usize = 1 << 20;
+
+/// No entry has more bytes, and so no torn one.
+const MOST_ENTRY: u64 = (MOST + 2 * LINE) as u64;
+
+/// One call.
+#[derive(Clone, Debug, PartialEq, Eq)]
+pub struct Entry {
+    /// Counted from 1.
+    pub number: u64,
+    /// When it was written, by the clock; nothing depends on it.
+    pub at: String,
+    /// The call.
+    pub call: Call,
+    /// The digest of the table that it was made on.
+    pub before: u64,
+    /// The digest of the table that it left.
+    pub after: u64,
+    /// Its answer.
+    pub answer: Answer,
+}
+
+impl Entry {
+    /// The entry's bytes.
+    pub fn bytes(&self) -> Vec<u8> {
+        let mut inner = format!("number {}\nat {}\ncall {}\n", self.number, self.at, self.call.line());
+        inner += &format!("before {:016x}\nafter {:016x}\nanswer {}", self.before, self.after, self.answer.code);
+        for number in &self.answer.numbers {
+            inner += &format!(" {number}");
+        }
+        for row in &self.answer.rows {
+            inner += &format!("\nrow {:032x}", u128::from_be_bytes(*row));
+        }
+        inner += &format!("\nbytes {}\n", self.call.bytes.len());
+        let mut inner = inner.into_bytes();
+        inner.extend(&self.call.bytes);
+        inner.push(b'\n');
+        let line = |word: &str| format!("{word} {:08} {:016x}\n", inner.len(), digest(&inner));
+        [line("entry").as_bytes(), &inner, line("ended").as_bytes()].concat()
+    }
+
+    /// The entry between its two lines.
+    fn of_inner(inner: &[u8]) -> Option<Entry> {
+        let mut rest = inner;
+        let number = value(&mut rest, "number")?.parse().ok()?;
+        let at = value(&mut rest, "at")?.to_string();
+        let words = Call::words_of(value(&mut rest, "call")?)?;
+        let before = u64::from_str_radix(value(&mut rest, "before")?, 16).ok()?;
+        let after = u64::from_str_radix(value(&mut rest, "after")?, 16).ok()?;
+        let mut numbers = value(&mut rest, "answer")?.split(' ').map(|number| number.parse().ok());
+        let code = numbers.next()??;
+        let numbers = numbers.collect::<Option<Vec<u64>>>()?;
+        let mut rows = Vec::new();
+        while let Some(row) = value(&mut rest, "row") {
+            rows.push(u128::from_str_radix(row, 16).ok()?.to_be_bytes());
+        }
+        let length: usize = value(&mut rest, "bytes")?.parse().ok()?;
+        let bytes = rest.strip_suffix(b"\n").filter(|bytes| bytes.len() == length)?.to_vec();
+        Some(Entry { number, at, call: Call { words, bytes }, before, after, answer: Answer { code, numbers, rows } })
+    }
+}
+
+/// What stands behind a name on the next line; where another name stands there, the line stays.
+fn value<'r>(rest: &mut &'r [u8], name: &str) -> Option<&'r str> {
+    let end = rest.iter().position(|byte| *byte == b'\n')?;
+    let (line, more) = (std::str::from_utf8(&rest[..end]).ok()?, &rest[end + 1..]);
+    let value = line.strip_prefix(name)?.strip_prefix(' ')?;
+    *rest = more;
+    Some(value)
+}
+
+/// Length and digest that a first or last line says.
+fn line_says(line: &[u8], word: &str) -> Option<(usize, u64)> {
+    let text = std::str::from_utf8(line).ok()?.strip_suffix('\n')?.strip_prefix(word)?.strip_prefix(' ')?;
+    let (length, sum) = text.split_once(' ')?;
+    let length = length.parse().ok().filter(|length| *length <= MOST)?;
+    Some((length, u64::from_str_radix(sum, 16).ok()?))
+}
+
+/// What stands next in a log.
+pub enum Next {
+    /// A whole entry.
+    Whole(Box<Entry>),
+    /// Nothing: the log ends.
+    End,
+    /// Bytes that are no whole entry.
+    Torn,
+}
+
+/// A log read from its beginning.
+pub struct Entries {
+    from: BufReader<File>,
+    /// How many bytes whole entries have had so far.
+    pub end: u64,
+}
+
+impl Entries {
+    /// Reads a log from its beginning.
+    pub fn of(path: &Path) -> Result<Entries, Fault> {
+        let file = File::open(path).map_err(|error| Fault::file(path, error))?;
+        Ok(Entries { from: BufReader::new(file), end: 0 })
+    }
+
+    /// What stands next.
+    pub fn next(&mut self) -> io::Result<Next> {
+        let first = self.some(LINE)?;
+        if first.is_empty() {
+            return Ok(Next::End);
+        }
+        let Some((length, sum)) = line_says(&first, "entry") else {
+            return Ok(Next::Torn);
+        };
+        let rest = self.some(length + LINE)?;
+        let Some((inner, last)) = rest.split_at_checked(length) else {
+            return Ok(Next::Torn);
+        };
+        if line_says(last, "ended") != Some((length, sum)) || digest(inner) != sum {
+            return Ok(Next::Torn);
+        }
+        let Some(entry) = Entry::of_inner(inner) else {
+            return Ok(Next::Torn);
+        };
+        self.end += (length + 2 * LINE) as u64;
+        Ok(Next::Whole(Box::new(entry)))
+    }
+
+    /// How many bytes stand behind the whole entries, once one that isn't was met: what an entry that was torn left. `None` where a whole entry
+    /// follows on them, or they are too many: the log is damaged then.
+    pub fn torn(&self) -> io::Result<Option<u64>> {
+        let file = self.from.get_ref();
+        let size = file.metadata()?.len();
+        let left = size.saturating_sub(self.end);
+        let damaged = left > MOST_ENTRY || (left > 0 && last_from_the_end(file, size)?.is_some());
+        Ok((!damaged).then_some(left))
+    }
+
+    /// So many bytes, or what is left.
+    fn some(&mut self, count: usize) -> io::Result<Vec<u8>> {
+        let mut bytes = Vec::new();
+        (&mut self.from).take(count as u64).read_to_end(&mut bytes)?;
+        Ok(bytes)
+    }
+}
+
+/// The entry that a log of this size ends with, and its length; `None` where it ends with none.
+fn last_from_the_end(mut file: &File, size: u64) -> io::Result<Option<(Entry, u64)>> {
+    let Some(at) = size.checked_sub(LINE as u64) else {
+        return Ok(None);
+    };
+    let mut line = [0; LINE];
+    file.seek(SeekFrom::Start(at))?;
+    file.read_exact(&mut line)?;
+    let whole = line_says(&line, "ended").map(|(length, _)| (length + 2 * LINE) as u64);
+    let Some((length, from)) = whole.and_then(|length| Some((length, size.checked_sub(length)?))) else {
+        return Ok(None);
+    };
+    let mut entries = Entries { from: BufReader::new(file.try_clone()?), end: 0 };
+    entries.from.seek(SeekFrom::Start(from))?;
+    Ok(match entries.next()? {
+        Next::Whole(entry) => Some((*entry, length)),
+        _ => None,
+    })
+}
+
+/// A log that entries are added to. Whoever has it holds the table's lock.
+pub struct Log {
+    path: PathBuf,
+    folder: PathBuf,
+    file: File,
+    /// The number of the next entry.
+    next: u64,
+    /// Where the next entry begins.
+    end: u64,
+    /// Where the last entry that was added begins.
+    added: Option<u64>,
+}
+
+impl Log {
+    /// Opens the log of a table of this digest, and settles what a crash left: an entry that was torn, and one whose table did not reach the
+    /// disk, are cut off, for neither call was answered.
+    pub fn open(place: &Place, table: u64) -> Result<Log, Fault> {
+        let path = place.log.clone();
+        let file = OpenOptions::new().read(true).append(true).create(true).open(&path);
+        let file = file.map_err(|error| Fault::file(&path, error))?;
+        let mut log = Log { folder: place.folder.clone(), file, next: 1, end: 0, added: None, path };
+        let size = log.file.metadata().map_err(|error| Fault::file(&log.path, error))?.len();
+        let (last, end) = log.last(size).map_err(|error| Fault::file(&log.path, error))?;
+        (log.next, log.end) = settled(last.as_ref(), end, size, table).map_err(|what| Fault::file(&log.path, what))?;
+        if log.end < size {
+            log.cut(log.end).map_err(|error| Fault::file(&log.path, error))?;
+        }
+        Ok(log)
+    }
+
+    /// Whether no call is logged.
+    pub fn is_empty(&self) -> bool {
+        self.end == 0
+    }
+
+    /// The last whole entry and its length, and where it ends: from the log's end, and from its beginning where the end is torn.
+    fn last(&mut self, size: u64) -> io::Result<(Option<(Entry, u64)>, u64)> {
+        if let Some(last) = last_from_the_end(&self.file, size)? {
+            return Ok((Some(last), size));
+        }
+        let mut entries = Entries { from: BufReader::new(self.file.try_clone()?), end: 0 };
+        entries.from.rewind()?;
+        let mut last = None;
+        loop {
+            let before = entries.end;
+            match entries.next()? {
+                Next::Whole(entry) => last = Some((*entry, entries.end - before)),
+                Next::End | Next::Torn => return Ok((last, entries.end)),
+            }
+        }
+    }
+
+    /// Adds a call, and is back once it is on disk.
+    pub fn add(&mut self, call: &Call, answer: &Answer, before: u64, after: u64) -> Result<(), Fault> {
+        let entry = Entry { number: self.next, at: crate::time::now(), call: call.clone(), before, after, answer: answer.clone() };
+        let bytes = entry.bytes();
+        if let Err(error) = self.file.write_all(&bytes).and_then(|()| self.file.sync_data()) {
+            // What is left of it would be cut off by the next call in any case.
+            let _ = self.cut(self.end);
+            return Err(Fault::file(&self.path, error));
+        }
+        if self.end == 0 {
+            sync_folder(&self.folder)?;
+        }
+        self.added = Some(self.end);
+        (self.next, self.end) = (self.next + 1, self.end + bytes.len() as u64);
+        Ok(())
+    }
+
+    /// Takes the call that was added last off again: its table could not be written. Where this fails too, the next call does it.
+    pub fn undo(&mut self) {
+        if let Some(end) = self.added.take()
+            && self.cut(end).is_ok()
+        {
+            (self.next, self.end) = (self.next - 1, end);
+        }
+    }
+
+    fn cut(&self, end: u64) -> io::Result<()> {
+        self.file.set_len(end)?;
+        self.file.sync_data()
+    }
+}
+
+/// The number of the next entry and where it begins, by the table that is there: the one that the last whole entry left, or the one that it
+/// was made on. Any other is not this log's.
+fn settled(last: Option<&(Entry, u64)>, end: u64, size: u64, table: u64) -> Result<(u64, u64), &'static str> {
+    if size - end > MOST_ENTRY {
+        return Err("the log is damaged: see 'hondivole check', and 'hondivole replay' for what stands before");
+    }
+    match last {
+        None => Ok((1, 0)),
+        Some((entry, _)) if entry.after == table => Ok((entry.number + 1, end)),
+        Some((entry, length)) if entry.before == table && end == size && entry.call.name() != FOUND => {
+            Ok((entry.number, end - length))
+        }
+        _ => Err(
+            "this log doesn't end with the table that is there: give the table back that it ends with ('hondivole replay'), or \
+                  move the log away",
+        ),
+    }
+}
+
+#[cfg(test)]
+mod tests {
+    use super::*;
+
+    fn entry(number: u64, before: u64, after: u64) -> Entry {
+        let call = Call { words: vec!["flow".into(), "1".into()], bytes: b"<a>\nended\xff</a>\n".to_vec() };
+        let answer = Answer { code: 0, numbers: vec![2, 1, 0], rows: vec![[1; 16], [0; 16]] };
+        Entry { number, at: "2021-03-01T09:30:30Z".into(), call, before, after, answer }
+    }
+
+    #[test]
+    fn entries_go_both_ways() {
+        let entry = entry(3, 0xabc, 0xdef);
+        let bytes = entry.bytes();
+        let (first, rest) = bytes.split_at(LINE);
+        let (inner, last) = rest.split_at(rest.len() - LINE);
+        assert_eq!(Entry::of_inner(inner), Some(entry));
+        assert_eq!(line_says(first, "entry"), Some((inner.len(), digest(inner))));
+        assert_eq!(line_says(last, "ended"), Some((inner.len(), digest(inner))));
+    }
+
+    /// Of a log of three entries, cut at many bytes, those that are whole are found, from the end and from the beginning.
+    #[test]
+    fn cut_at_many_bytes() {
+        let path = std::env::temp_dir().join(format!("hondivole-log-{}", std::process::id()));
+        let whole: Vec<_> = [entry(1, 0, 1), entry(2, 1, 2), entry(3, 2, 3)].iter().map(Entry::bytes).collect();
+        let all = whole.concat();
+        for cut in (0..=all.len()).filter(|cut| cut % 5 == 0 || cut % whole[0].len() == 0) {
+            std::fs::write(&path, &all[..cut]).unwrap();
+            let entries = cut / whole[0].len();
+            let place = Place { table: path.clone(), log: path.clone(), lock: path.clone(), folder: std::env::temp_dir() };
+            let log = Log::open(&place, entries as u64).unwrap();
+            assert_eq!((log.next, log.end), (entries as u64 + 1, (entries * whole[0].len()) as u64));
+            assert_eq!(std::fs::metadata(&path).unwrap().len(), log.end);
+        }
+        // The last call's table did not reach the disk; then a table of another history.
+        std::fs::write(&path, &all).unwrap();
+        let place = Place { table: path.clone(), log: path.clone(), lock: path.clone(), folder: std::env::temp_dir() };
+        assert!(Log::open(&place, 1).is_err());
+        let log = Log::open(&place, 2).unwrap();
+        assert_eq!((log.next, log.end), (3, (2 * whole[0].len()) as u64));
+        std::fs::remove_file(&path).unwrap();
+    }
+}
