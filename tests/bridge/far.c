@@ -189,7 +189,8 @@ uint64_t hondivole_journal(const uint8_t *table, size_t table_len, const uint8_t
         abort();
     memcpy(both, body, body_len);
     memcpy(both + body_len, movements, movements_len);
-    struct answer answer = forward(&call, table, both, none, 0, none);
+    const uint8_t *lent[BUFFERS] = {table, both, none};
+    struct answer answer = carry(&call, lent, none, none);
     free(both);
     return answer.code;
 }
