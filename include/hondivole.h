@@ -4,9 +4,10 @@
  * Hondivole: the order tables of a treasury house's order desk.
  *
  * Six functions open an order table, convert one of the old form, take a body's flow of payment and collection orders, take the bank's
- * notices of execution and reversal, and report a body's totals. A seventh checks the bank's cash journal against a body's executed lines.
- * Two answer questions about dates. Three write the outcome message of a flow for the school, read one, and write again what was read.
- * Each answers with a code: 0, or the number of a refusal in the list below. A thirteenth shows the field that a flow was refused for.
+ * notices of execution and reversal, and report a body's totals. A seventh checks the bank's cash journal against a body's executed lines,
+ * an eighth repairs a damaged table. Two answer questions about dates. Three write the outcome message of a flow for the school, read one,
+ * and write again what was read. Each answers with a code: 0, or the number of a refusal in the list below. A fourteenth shows the field that
+ * a flow was refused for.
  * Each checks its own inputs: tables, flows, messages, journals, requests, codes and numbers may be any bytes and any values. Each writes
  * all its results on every path. What stands below them, written in C and not proved, says codes in words and lays out a request.
  * None reads or writes anything but the buffers and results it is lent, and none keeps anything from one call to the next, so that
@@ -39,7 +40,7 @@
 extern "C" {
 #endif
 
-/* The codes: of calls (1 to 10, 16, 17, 20 to 23, 27 to 33, 40, 41) and of orders (11 to 19). */
+/* The codes: of calls (1 to 10, 16, 17, 20 to 23, 27 to 35, 40, 41) and of orders (11 to 19). */
 enum hondivole_code {
     HONDIVOLE_DONE = 0,                 /* nothing is refused */
     HONDIVOLE_TABLE_NOT_VALID = 1,      /* the table isn't valid */
@@ -72,6 +73,8 @@ enum hondivole_code {
     HONDIVOLE_OTHER_CENTS = 31,         /* journal: other cents than the line's */
     HONDIVOLE_LISTED_BEFORE = 32,       /* journal: the line is listed before */
     HONDIVOLE_LINE_MISSING = 33,        /* journal: an executed line is missing */
+    HONDIVOLE_CONTENTS_NOT_VALID = 34,  /* salvage: the table's head or entries aren't valid */
+    HONDIVOLE_REPORT_TOO_SHORT = 35,    /* salvage: the report doesn't fit */
     HONDIVOLE_BUFFER_TOO_SHORT = 40,    /* the buffer is shorter than the message or its values */
     HONDIVOLE_VALUES_WRONG = 41         /* the outcome bytes aren't this flow's, or a caller's value has a wrong form */
 };
@@ -115,6 +118,10 @@ enum {
 #define HONDIVOLE_MOVEMENT_BYTES 16u
 #define HONDIVOLE_MOST_MOVEMENTS 4096u
 
+/* The bytes of a repair's report, of so many bodies and blanked slots, and those that are enough for any table. */
+#define HONDIVOLE_REPORT_BYTES(bodies, blanked) (2u * (bodies) + 4u * (blanked))
+#define HONDIVOLE_MOST_REPORT_BYTES 2740u
+
 /* The outcome bytes that are enough for any flow: 64 orders of 16 bytes. */
 #define HONDIVOLE_MOST_OUTCOME_BYTES 1024u
 
@@ -136,6 +143,7 @@ enum {
 #define HONDIVOLE_NOTICE_STACK 8192u
 #define HONDIVOLE_TOTALS_STACK 8192u
 #define HONDIVOLE_JOURNAL_STACK 32768u
+#define HONDIVOLE_SALVAGE_STACK 16384u
 #define HONDIVOLE_FIELD_AT_STACK 8192u
 #define HONDIVOLE_MESSAGE_WRITE_STACK 49152u
 #define HONDIVOLE_MESSAGE_READ_STACK 73728u
@@ -229,6 +237,19 @@ uint64_t hondivole_journal(const uint8_t *table, size_t table_len, const uint8_t
                            size_t movements_len);
 
 /*
+ * Repairs a table that every call answers with 1, as far as its head and entries are valid but for the cents that the entries keep. Of each
+ * body's slots, in order, it keeps those whose record is valid by itself and has a key (kind, esercizio, number) that hasn't been kept
+ * earlier in that body; it blanks the others, moves the kept ones up to the body's first slots in their order, and sets the kept cents anew.
+ * It answers 0 with *blanked, how many slots were blanked; a slot that was all zero isn't blanked. The table is then valid, and a valid one
+ * comes out the same. The report, whose bytes past it stay, says what was lost: first for each body, in the order of the entries, two bytes
+ * with how many of its kept records stand in another slot now; then for each blanked slot, in the order of the table, four bytes with the
+ * place in the table where it stood; numbers have the highest byte first. Or it answers 34 when the head or an entry isn't valid, or else 35
+ * when the report is shorter than HONDIVOLE_REPORT_BYTES of the bodies and what would be blanked; *blanked is then 0, and neither table nor
+ * report is changed. HONDIVOLE_MOST_REPORT_BYTES are enough for any table.
+ */
+uint64_t hondivole_salvage(uint8_t *table, size_t table_len, uint8_t *report, size_t report_len, uint64_t *blanked);
+
+/*
  * Shows the field that a flow was refused for with code 5: where the name and the text stand, in the flow, of the element whose `<` stands
  * at the place. *name and *text are places counted from 0, *name_len and *text_len are lengths in bytes; all four are 0 where no element
  * stands at the place. A text is shown as it stands in the flow, its references not replaced.
@@ -319,6 +340,8 @@ static inline const char *hondivole_code_text(uint64_t code)
     case HONDIVOLE_OTHER_CENTS: return "the journal lists a line with other cents";
     case HONDIVOLE_LISTED_BEFORE: return "the journal lists a line that it listed before";
     case HONDIVOLE_LINE_MISSING: return "an executed line is missing in the journal";
+    case HONDIVOLE_CONTENTS_NOT_VALID: return "the table's head or entries aren't valid";
+    case HONDIVOLE_REPORT_TOO_SHORT: return "the buffer is shorter than the report";
     default: return "no code of the order desk";
     }
 }

@@ -22,6 +22,10 @@ uint64_t all(uint8_t *table, size_t length, const uint8_t *flow, uint64_t *numbe
     code += hondivole_execute(table, length, flow, 0, HONDIVOLE_MANDATO, 2021, 1, 1, 2021, 3, 3, numbers);
     code += hondivole_reverse(table, length, flow, 0, HONDIVOLE_REVERSALE, 2021, 1, 1, 2021, 3, 3, numbers);
     code += hondivole_totals(table, length, flow, 0, numbers, numbers + 1, numbers + 2, balance);
+    code += hondivole_journal(table, length, flow, 0, flow, HONDIVOLE_MOVEMENT_BYTES * HONDIVOLE_MOST_MOVEMENTS);
+    code += hondivole_salvage(table, HONDIVOLE_TABLE_BYTES(1, 1), table + HONDIVOLE_TABLE_BYTES(1, 1), HONDIVOLE_REPORT_BYTES(1, 1), numbers);
+    code += hondivole_first_target_day(2021, 4, 2, numbers, numbers + 1, numbers + 2) + HONDIVOLE_MOST_REPORT_BYTES;
+    code += hondivole_days_between(2021, 4, 2, 2021, 4, 6, balance);
     hondivole_field_at(flow, 0, 0, numbers, numbers + 1, numbers + 2, numbers + 3);
     code += hondivole_message_write(1, flow, 0, flow, 0, flow, 0, flow, 0, flow, 0, flow, 0, flow, 0, flow, 0, flow, 0, flow, 0, flow, 0, table, length,
                                     numbers);

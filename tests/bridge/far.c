@@ -195,6 +195,14 @@ uint64_t hondivole_journal(const uint8_t *table, size_t table_len, const uint8_t
     return answer.code;
 }
 
+uint64_t hondivole_salvage(uint8_t *table, size_t table_len, uint8_t *report, size_t report_len, uint64_t *blanked)
+{
+    struct call call = {.function = SALVAGE, .lengths = {table_len, 0, report_len}};
+    struct answer answer = forward(&call, table, none, report);
+    *blanked = answer.results[0];
+    return answer.code;
+}
+
 void hondivole_field_at(const uint8_t *flow, size_t flow_len, uint64_t place, uint64_t *name, uint64_t *name_len, uint64_t *text,
                         uint64_t *text_len)
 {

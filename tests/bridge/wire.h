@@ -21,6 +21,7 @@ enum function {
     REVERSE,
     TOTALS,
     JOURNAL,
+    SALVAGE,
     FIELD_AT,
     FIRST_TARGET_DAY,
     DAYS_BETWEEN,
@@ -32,7 +33,7 @@ enum function {
 
 /*
  * A call's buffers: the table, or what a call on a message writes; the input, which is the request, the old table, the flow, the message or
- * the body's code; the outcomes, which a flow writes and a message is written from; and the caller's nine values for a message.
+ * the body's code; the outcomes, which a flow writes and a message is written from, or a repair's report; and the caller's nine values for a message.
  */
 enum buffer { TABLE, INPUT, OUTCOMES, FIRST_VALUE, VALUES = 9, BUFFERS = FIRST_VALUE + VALUES };
 
@@ -58,8 +59,8 @@ struct answer {
 };
 
 static const char *const function_names[FUNCTIONS] = {"hondivole_open", "hondivole_convert", "hondivole_flow", "hondivole_execute",
-                                                      "hondivole_reverse", "hondivole_totals", "hondivole_journal", "hondivole_field_at",
-                                                      "hondivole_first_target_day", "hondivole_days_between", "hondivole_message_write",
-                                                      "hondivole_message_read", "hondivole_message_rewrite"};
+                                                      "hondivole_reverse", "hondivole_totals", "hondivole_journal", "hondivole_salvage",
+                                                      "hondivole_field_at", "hondivole_first_target_day", "hondivole_days_between",
+                                                      "hondivole_message_write", "hondivole_message_read", "hondivole_message_rewrite"};
 
 #endif

@@ -27,6 +27,7 @@ static uint8_t table[HONDIVOLE_MOST_TABLE_BYTES], old[HONDIVOLE_MOST_TABLE_BYTES
 static uint8_t flow[HONDIVOLE_MOST_FLOW_BYTES + 1];
 static size_t flow_len;
 static uint8_t message[HONDIVOLE_MOST_MESSAGE_BYTES], again[HONDIVOLE_MOST_MESSAGE_BYTES], values[HONDIVOLE_MOST_VALUES_BYTES];
+static uint8_t report[HONDIVOLE_MOST_REPORT_BYTES];
 static uint64_t code, results[5], message_len;
 static int64_t balance;
 static uint8_t request[HONDIVOLE_REQUEST_BYTES(16)];
@@ -148,6 +149,7 @@ static void call_journal(void)
 {
     code = hondivole_journal(table, table_len, body, sizeof body, table, 0);
 }
+static void call_salvage(void) { code = hondivole_salvage(table, table_len, report, sizeof report, &results[0]); }
 static void call_field_at(void)
 {
     hondivole_field_at(flow, flow_len, 0, &results[0], &results[1], &results[2], &results[3]);
@@ -286,6 +288,14 @@ int main(void)
     make_old();
     hold("convert", call_convert, 0, HONDIVOLE_CONVERT_STACK);
     hold("totals of the converted table", call_totals, 0, HONDIVOLE_TOTALS_STACK);
+    /* Two bodies' entries end at 112: the first slot's third byte, and a byte of the last slot, which is empty. */
+    table[112 + 3] = 1;
+    table[table_len - 1] = 1;
+    hold("salvage of two slots", call_salvage, 0, HONDIVOLE_SALVAGE_STACK);
+    hold("salvage of a valid table", call_salvage, 0, HONDIVOLE_SALVAGE_STACK);
+    hold("totals of the repaired table", call_totals, 0, HONDIVOLE_TOTALS_STACK);
+    table[3] = 1;
+    hold("salvage of a damaged head", call_salvage, 34, HONDIVOLE_SALVAGE_STACK);
     say(wrong ? "a call answered otherwise\n" : "each call is made on the stack that the header states\n");
     return wrong;
 }

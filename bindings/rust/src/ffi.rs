@@ -1,4 +1,4 @@
-//! The thirteen C functions as `include/hondivole.h` declares them.
+//! The fourteen C functions as `include/hondivole.h` declares them.
 //!
 //! All but [`hondivole_field_at`] answer with a code (0, or the number of a [`Refusal`](crate::Refusal)); each writes all its results on every path.
 //!
@@ -119,6 +119,13 @@ unsafe extern "C" {
         movements: *const u8,
         movements_len: usize,
     ) -> u64;
+
+    /// Repairs a damaged table: see [`Table::salvage`](crate::Table::salvage).
+    ///
+    /// # Safety
+    ///
+    /// Each pointer is good for its length, the last for one number; all three can be written, and no two of them overlap.
+    pub fn hondivole_salvage(table: *mut u8, table_len: usize, report: *mut u8, report_len: usize, blanked: *mut u64) -> u64;
 
     /// Where the name and the text of the element at a place stand: see [`field_at`](crate::field_at).
     ///

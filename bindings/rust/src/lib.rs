@@ -4,6 +4,7 @@
 //! ([`Table::flow`]); each order is accepted or refused. The bank notifies executions and reversals of lines ([`Table::execute`],
 //! [`Table::reverse`]), and a body's [`Totals`] can be asked for at any time ([`Table::totals`]). Whatever is refused comes back as a
 //! [`Refusal`]. What became of a flow's orders is told to the body in an outcome message ([`write_message`], [`read_message`]).
+//! A table that a disk fault has damaged can be repaired ([`Table::salvage`]).
 //!
 //! ```
 //! use hondivole::{Date, Edition, Kind, Notice, Refusal, Table};
@@ -41,6 +42,7 @@ mod field;
 mod flow;
 mod message;
 mod refusal;
+mod salvage;
 mod table;
 
 pub use date::Date;
@@ -50,6 +52,7 @@ pub use message::{
     Entry, Given, MOST_VALUES_BYTES, MOST_WRITTEN_BYTES, Message, MessageValues, read_message, rewrite_message, write_message,
 };
 pub use refusal::{Cause, Refusal};
+pub use salvage::{MOST_REPORT_BYTES, Salvage};
 pub use table::{Movement, Notice, Table, Totals, request};
 
 /// The outcome bytes of the most orders a flow can hold: 64 of 16 bytes.

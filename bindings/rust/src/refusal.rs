@@ -150,6 +150,10 @@ pub enum Refusal {
     ListedBefore,
     /// 33: an executed line is missing in a journal.
     LineMissing,
+    /// 34: a table can't be repaired, since its head or entries aren't valid.
+    ContentsNotValid,
+    /// 35: a repair's report doesn't fit into its buffer. ([`Table::salvage`](crate::Table::salvage) lends enough, and never gets it.)
+    ReportTooShort,
 }
 
 impl Refusal {
@@ -195,6 +199,8 @@ impl Refusal {
             Refusal::OtherCents => 31,
             Refusal::ListedBefore => 32,
             Refusal::LineMissing => 33,
+            Refusal::ContentsNotValid => 34,
+            Refusal::ReportTooShort => 35,
         }
     }
 
@@ -249,6 +255,8 @@ impl Refusal {
             31 => Refusal::OtherCents,
             32 => Refusal::ListedBefore,
             33 => Refusal::LineMissing,
+            34 => Refusal::ContentsNotValid,
+            35 => Refusal::ReportTooShort,
             _ => return None,
         };
         Some(Err(refusal))
@@ -298,6 +306,8 @@ impl fmt::Display for Refusal {
             Refusal::OtherCents => "the journal lists a line with other cents",
             Refusal::ListedBefore => "the journal lists a line that it listed before",
             Refusal::LineMissing => "an executed line is missing in the journal",
+            Refusal::ContentsNotValid => "the table's head or entries aren't valid",
+            Refusal::ReportTooShort => "the buffer is shorter than the report",
         })
     }
 }
@@ -314,7 +324,7 @@ mod tests {
         assert_eq!(Refusal::of_code(24, 0, 0), None);
         assert_eq!(Refusal::of_code(5, 7, 5), None);
         let mut sentences = std::collections::HashSet::new();
-        for code in (1..=23).chain(27..=33).chain(40..=41) {
+        for code in (1..=23).chain(27..=35).chain(40..=41) {
             let refusal = Refusal::of_code(code, 7, 1).unwrap().unwrap_err();
             assert_eq!(u64::from(refusal.code()), code);
             assert!(sentences.insert(refusal.to_string()));
@@ -324,7 +334,7 @@ mod tests {
     #[test]
     fn the_header_says_the_same() {
         let header = include_str!("../../../include/hondivole.h");
-        for code in (1..=23).chain(27..=33).chain(40..=41).filter(|code| *code != 5) {
+        for code in (1..=23).chain(27..=35).chain(40..=41).filter(|code| *code != 5) {
             let sentence = Refusal::from_code(code, 0, 0).unwrap().to_string();
             assert!(header.contains(&format!("return \"{sentence}\";")), "{sentence}");
         }

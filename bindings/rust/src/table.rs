@@ -390,6 +390,11 @@ impl<B: AsMut<[u8]>> Table<B> {
         self.notify(notice, ffi::hondivole_reverse)
     }
 
+    /// The table's bytes, for a call that changes them.
+    pub(crate) fn bytes_mut(&mut self) -> &mut [u8] {
+        self.bytes.as_mut()
+    }
+
     fn notify(&mut self, notice: &Notice, function: NoticeFunction) -> Result<u64, Refusal> {
         let table = self.bytes.as_mut();
         let mut cents = 0;

@@ -4,7 +4,7 @@ use std::fmt::{self, Write};
 
 use reference::message::{GIVEN, ReadAnswer, WriteAnswer};
 use reference::table::{HEAD, SLOT, number_at};
-use reference::{FlowAnswer, Form, Notice, NoticeAnswer, Totals};
+use reference::{FlowAnswer, Form, Notice, NoticeAnswer, SalvageAnswer, Totals};
 
 /// A table and calls on it, one after another.
 #[derive(Clone, PartialEq, Eq)]
@@ -33,6 +33,13 @@ pub enum Call {
         /// The table 1.
         old: Vec<u8>,
         /// The length of the lent buffer.
+        room: usize,
+    },
+    /// Repairs a damaged table, which is the case's table from here on, with a report of `room` bytes.
+    Salvage {
+        /// The damaged table.
+        damaged: Vec<u8>,
+        /// The length of the report.
         room: usize,
     },
     /// Takes a flow with an outcome buffer of `room` bytes.
@@ -122,6 +129,8 @@ pub enum Answer {
     Read(ReadAnswer),
     /// The code of a journal.
     Journal(u64),
+    /// The answer to a repair.
+    Salvage(SalvageAnswer),
 }
 
 impl Answer {
@@ -134,6 +143,7 @@ impl Answer {
             Answer::Totals(answer) => answer.code,
             Answer::Write(answer) => answer.code,
             Answer::Read(answer) => answer.code,
+            Answer::Salvage(answer) => answer.code,
         }
     }
 }
@@ -144,6 +154,7 @@ impl Case {
         let calls = self.calls.iter().map(|call| match call {
             Call::Open { request, room } => 16 + request.len() + digits(*room as u64),
             Call::Convert { old, room } => 16 + old.len() + digits(*room as u64),
+            Call::Salvage { damaged, room } => 16 + damaged.len() + digits(*room as u64),
             Call::Flow { edition, flow, room } => 16 + flow.len() + digits(*edition) + digits(*room as u64),
             Call::Execute { body, notice } | Call::Reverse { body, notice } => {
                 let (year, month, day) = notice.date;
@@ -214,6 +225,9 @@ impl fmt::Debug for Call {
         match self {
             Call::Open { request, room } => write!(to, "Call::Open {{ request: {}, room: {room} }}", literal(request)),
             Call::Convert { old, room } => write!(to, "Call::Convert {{ old: {}, room: {room} }}", literal(old)),
+            Call::Salvage { damaged, room } => {
+                write!(to, "Call::Salvage {{ damaged: {}, room: {room} }}", literal(damaged))
+            }
             Call::Flow { edition, flow, room } => {
                 write!(to, "Call::Flow {{ edition: {edition}, flow: {}, room: {room} }}", literal(flow))
             }
@@ -264,6 +278,9 @@ impl fmt::Display for Call {
                 write!(to, "open in {room} bytes, request of {} bytes {}", request.len(), quoted(request))
             }
             Call::Convert { old, room } => write!(to, "convert into {room} bytes, old {}", table_text(old, Form::One)),
+            Call::Salvage { damaged, room } => {
+                write!(to, "repair, with {room} bytes of report, a {}", table_text(damaged, Form::Two))
+            }
             Call::Flow { edition, flow, room } => {
                 write!(to, "flow of edition {edition}, {} bytes, room {room}:\n{}", flow.len(), text(flow))
             }

@@ -22,6 +22,8 @@ pub enum Theme {
     Opening,
     /// A conversion of a table 1, whole or damaged, and calls on what it leaves.
     Conversion,
+    /// Tables after disk faults, one after another, each repaired, and calls on what that leaves.
+    Salvage,
     /// A fresh table and a long row of calls for all its bodies.
     Sequence,
     /// Messages written, read and written again.
@@ -31,13 +33,14 @@ pub enum Theme {
 }
 
 /// The themes of an ordinary run, each with its share.
-const SHARES: [(Theme, usize); 8] = [
+const SHARES: [(Theme, usize); 9] = [
     (Theme::WholeFlow, 16),
     (Theme::DamagedFlow, 42),
     (Theme::DamagedTable, 20),
     (Theme::Notices, 8),
     (Theme::Opening, 12),
     (Theme::Conversion, 6),
+    (Theme::Salvage, 12),
     (Theme::Sequence, 4),
     (Theme::Messages, 24),
 ];
@@ -95,23 +98,57 @@ pub fn case(random: &mut Random, theme: Theme) -> Case {
             calls.extend((0..random.below(4)).map(|_| call(random, &table)));
             Case { table: Vec::new(), calls }
         }
+        Theme::Salvage => salvage(random),
         Theme::Sequence => sequence(random),
         Theme::Messages => messages::case(random),
         Theme::Fuzz => fuzz(random),
     }
 }
 
-/// A fresh table for several bodies, opened or converted, and a long row of calls. Each call is chosen after the table that the calls before have left.
+/// Damaged tables, each repaired, and now and then a call on what a repair has left.
+fn salvage(random: &mut Random) -> Case {
+    let mut calls = Vec::new();
+    for _ in 0..24 + random.below(17) {
+        let table = tables::to_be_damaged(random);
+        let damaged = tables::after_fault(random, &table, true);
+        let mut left = damaged.clone();
+        let needed = 2 * table.bodies.len() + 4 * reference::salvage(&mut left, &mut [0; 2_740]).blanked as usize;
+        let room = match random.weighted(&[50, 15, 15, 10, 10]) {
+            0 => needed,
+            1 => needed.saturating_sub(1),
+            2 => needed + 1 + random.below(8),
+            3 => 2_740,
+            _ => random.below(needed + 1),
+        };
+        calls.push(Call::Salvage { damaged, room });
+        if random.percent(15) {
+            calls.push(call(random, &Table::decode(&left).unwrap_or(table)));
+        }
+    }
+    Case { table: Vec::new(), calls }
+}
+
+/// A fresh table for several bodies, opened, converted or repaired, and a long row of calls. Each call is chosen after the table that the calls
+/// before have left.
 pub fn sequence(random: &mut Random) -> Case {
     let mut opened = tables::empty(random, 5, 6);
     let room = opened.length();
-    let mut calls = if random.percent(25) {
+    let beginning = random.weighted(&[60, 22, 18]);
+    if beginning > 0 {
         tables::fill_all(random, &mut opened);
-        vec![Call::Convert { old: opened.encode_as(Form::One), room }]
-    } else {
-        vec![Call::Open { request: tables::request(&opened), room }]
-    };
+    }
     let mut table = opened.encode();
+    let first = match beginning {
+        0 => Call::Open { request: tables::request(&opened), room },
+        1 => Call::Convert { old: opened.encode_as(Form::One), room },
+        _ => {
+            let damaged = tables::after_fault(random, &opened, false);
+            table.clone_from(&damaged);
+            reference::salvage(&mut table, &mut [0; 2_740]);
+            Call::Salvage { damaged, room: 2_740 }
+        }
+    };
+    let mut calls = vec![first];
     for _ in 0..10 + random.below(50) {
         let now = Table::decode(&table).expect("calls leave a valid table");
         let call = call(random, &now);
@@ -300,6 +337,7 @@ fn fuzz(random: &mut Random) -> Case {
             Call::Totals { body },
             Call::Open { request, room: table.len() },
             Call::Convert { old: table.clone(), room: table.len() + 16 },
+            Call::Salvage { damaged: table.clone(), room },
             Call::Read { edition: 1, message: table.clone(), room: 3_152 },
             Call::Rewrite { edition: 2, message: table.clone(), room: 100 },
         ];
@@ -323,6 +361,7 @@ fn fuzz(random: &mut Random) -> Case {
             Call::Flow { flow, .. } => (flow, 16),
             Call::Open { request, .. } => (request, 4),
             Call::Convert { old, .. } => (old, 4),
+            Call::Salvage { damaged, .. } => (damaged, 4),
             Call::Execute { body, .. } | Call::Reverse { body, .. } | Call::Totals { body } => (body, 2),
             Call::Write { flow, outcomes, values, .. } => match random.below(4) {
                 0 | 1 => (flow, 6),

@@ -1,7 +1,7 @@
 //! Two engines on one case: every answer, every outcome byte, every table byte, and every byte around the buffers.
 
 use reference::message::{GIVEN, Given, ReadAnswer, WriteAnswer};
-use reference::{FlowAnswer, NoticeAnswer, Totals};
+use reference::{FlowAnswer, NoticeAnswer, SalvageAnswer, Totals};
 
 use crate::case::{Answer, Call, Case};
 use crate::engine::Engine;
@@ -56,7 +56,7 @@ pub struct Served {
     pub answer: Answer,
     /// The outcome buffer after a flow; empty for other calls.
     pub outcomes: Vec<u8>,
-    /// The lent buffer after a call on a message: the message or the values; empty for other calls.
+    /// The lent buffer after a call on a message or a repair: the message, the values or the report; empty for other calls.
     pub written: Vec<u8>,
 }
 
@@ -68,6 +68,7 @@ fn input_of(call: &Call) -> &[u8] {
         Call::Execute { body, .. } | Call::Reverse { body, .. } | Call::Totals { body } => body,
         Call::Read { message, .. } | Call::Rewrite { message, .. } => message,
         Call::Journal { movements, .. } => movements,
+        Call::Salvage { .. } => &[],
     }
 }
 
@@ -101,6 +102,9 @@ impl Yard {
     pub fn serve(&mut self, engine: &dyn Engine, table: &mut Vec<u8>, call: &Call) -> Result<Served, String> {
         if let Call::Open { room, .. } | Call::Convert { room, .. } = call {
             *table = noise(*room);
+        }
+        if let Call::Salvage { damaged, .. } = call {
+            table.clone_from(damaged);
         }
         self.put(table, call);
         let answer = self.call(engine, call);
@@ -148,7 +152,7 @@ impl Yard {
         let (outcomes, written) = match call {
             Call::Flow { room, .. } => (noise(*room), 0),
             Call::Write { outcomes, room, .. } => (outcomes.clone(), *room),
-            Call::Read { room, .. } | Call::Rewrite { room, .. } => (Vec::new(), *room),
+            Call::Read { room, .. } | Call::Rewrite { room, .. } | Call::Salvage { room, .. } => (Vec::new(), *room),
             _ => (Vec::new(), 0),
         };
         self.outcomes.put(&outcomes, place);
@@ -206,21 +210,22 @@ impl Yard {
                 Answer::Write(WriteAnswer { code, length: first.number() })
             }
             Call::Journal { body, .. } => Answer::Journal(engine.journal(lent, body, given)),
+            Call::Salvage { .. } => {
+                let code = engine.salvage(lent, self.written.bytes_mut(), first.number_mut());
+                Answer::Salvage(SalvageAnswer { code, blanked: first.number() })
+            }
         }
     }
 
     /// The first byte that was written outside what was lent: beside which buffer, and how far from its beginning.
     fn stray(&self, call: &Call) -> Option<(&'static str, isize)> {
         let [first, second, third, fourth, fifth] = &self.results;
-        // Only a call on messages has a buffer to write, and none of these has a table.
-        let written = if is_read(call) || matches!(call, Call::Write { .. }) {
-            ("written buffer", &self.written)
-        } else {
-            ("table", &self.table)
-        };
+        // Only a repair and calls on messages have a buffer to write, and messages have no table.
+        let on_message = is_read(call) || matches!(call, Call::Write { .. });
+        let (table, written) = (("table", &self.table), ("written buffer", &self.written));
         let pens = [
-            written,
-            ("input", self.input(call)),
+            if on_message { written } else { table },
+            if matches!(call, Call::Salvage { .. }) { written } else { ("input", self.input(call)) },
             ("outcome buffer", &self.outcomes),
             ("first result", first),
             ("second result", second),

@@ -77,6 +77,13 @@ pub trait Engine {
 
     /// Checks a cash journal's movements.
     fn journal(&self, table: &[u8], body: &[u8], movements: &[u8]) -> u64;
+
+    /// Repairs a damaged table. An engine that has no repair of its own answers as the reference does.
+    fn salvage(&self, table: &mut [u8], report: &mut [u8], blanked: &mut u64) -> u64 {
+        let answer = reference::salvage(table, report);
+        *blanked = answer.blanked;
+        answer.code
+    }
 }
 
 /// The reference as an engine.
@@ -314,6 +321,7 @@ impl Engine for Library {
             )
         }
     }
+
     fn journal(&self, table: &[u8], body: &[u8], movements: &[u8]) -> u64 {
         // SAFETY: the pointers and lengths are those of slices.
         unsafe {
@@ -326,5 +334,10 @@ impl Engine for Library {
                 movements.len(),
             )
         }
+    }
+
+    fn salvage(&self, table: &mut [u8], report: &mut [u8], blanked: &mut u64) -> u64 {
+        // SAFETY: the pointers and lengths are those of slices and of a number that don't overlap.
+        unsafe { hondivole::ffi::hondivole_salvage(table.as_mut_ptr(), table.len(), report.as_mut_ptr(), report.len(), blanked) }
     }
 }

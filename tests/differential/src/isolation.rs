@@ -11,7 +11,12 @@ use crate::engine::Engine;
 pub fn owner(table: &Table, call: &Call) -> Option<usize> {
     let place = |code: &[u8]| table.bodies.iter().position(|body| body.code == code);
     match call {
-        Call::Open { .. } | Call::Convert { .. } | Call::Write { .. } | Call::Read { .. } | Call::Rewrite { .. } => None,
+        Call::Open { .. }
+        | Call::Convert { .. }
+        | Call::Salvage { .. }
+        | Call::Write { .. }
+        | Call::Read { .. }
+        | Call::Rewrite { .. } => None,
         Call::Execute { body, notice } | Call::Reverse { body, notice } => {
             if target::day(notice.date) == target::Day::Open {
                 place(body)
@@ -34,15 +39,13 @@ pub fn owner(table: &Table, call: &Call) -> Option<usize> {
 
 impl Yard {
     /// Tries one row of calls on a fresh table three ways: as it stands, body after body in contents order, and each body alone. The
-    /// case begins with an opening or a conversion; nothing is tried when that is refused.
+    /// case begins with an opening, a conversion or a repair; nothing is tried when that is refused.
     pub fn isolated(&mut self, engine: &dyn Engine, case: &Case) -> Option<Difference> {
         let (opening, calls) = case.calls.split_first()?;
         let mut fresh = Vec::new();
         let opened = self.serve(engine, &mut fresh, opening).ok()?;
-        if !matches!(opening, Call::Open { .. } | Call::Convert { .. })
-            || opened.answer.code() != 0
-            || calls.iter().any(|call| matches!(call, Call::Open { .. } | Call::Convert { .. }))
-        {
+        let begins = |call: &Call| matches!(call, Call::Open { .. } | Call::Convert { .. } | Call::Salvage { .. });
+        if !begins(opening) || opened.answer.code() != 0 || calls.iter().any(begins) {
             return None;
         }
         let contents = Table::decode(&fresh)?;

@@ -10,7 +10,7 @@ use differential::random::Random;
 use differential::stray::Stray;
 use differential::told::Told;
 use differential::wrong::{FAULTS, Wrong};
-use differential::{Case, Difference, Engine, Lend, Reference, Yard, shrink, sweep};
+use differential::{Call, Case, Difference, Engine, Lend, Reference, Yard, shrink, sweep};
 
 const USAGE: &str = "\
 differential: gives the same cases to the reference and to the library and compares every answer and every byte
@@ -209,7 +209,7 @@ fn try_all(run: &Run, tried: &dyn Engine) -> ExitCode {
     if let Some(file) = &run.tell {
         yard.tell(Told::new(std::fs::File::create(file).expect("the file of --tell can be written")));
     }
-    let (mut tries, mut calls, mut rows) = (0u64, 0u64, 0u64);
+    let (mut tries, mut calls, mut rows, mut damaged) = (0u64, 0u64, 0u64, 0u64);
     for (index, theme, case) in cases_of(run) {
         if run.seconds.is_some_and(|seconds| start.elapsed() >= Duration::from_secs(seconds)) {
             break;
@@ -219,6 +219,7 @@ fn try_all(run: &Run, tried: &dyn Engine) -> ExitCode {
         TRIED.store(tries, Ordering::Relaxed);
         calls += case.calls.len() as u64;
         rows += u64::from(theme == Some(Theme::Sequence));
+        damaged += case.calls.iter().filter(|call| matches!(call, Call::Salvage { .. })).count() as u64;
         if run.show {
             println!("case {index} ({})\n{case}{case:?}", name(theme));
             continue;
@@ -231,7 +232,7 @@ fn try_all(run: &Run, tried: &dyn Engine) -> ExitCode {
     }
     let seconds = start.elapsed().as_secs_f64();
     println!(
-        "{calls} calls, {rows} rows of calls also tried body after body and each body alone, {:.0} cases a second",
+        "{calls} calls, {damaged} of them repairs, {rows} rows of calls also tried body after body and each body alone, {:.0} cases a second",
         tries as f64 / seconds
     );
     println!("differential: {tries} cases, 0 differences");

@@ -42,6 +42,7 @@ fn weight(case: &Case) -> (usize, usize, u128) {
     let calls = case.calls.iter().map(|call| match call {
         Call::Open { request, room } => (plain(request), *room as u128),
         Call::Convert { old, room } => (plain(old), *room as u128),
+        Call::Salvage { damaged, room } => (plain(damaged), *room as u128),
         Call::Flow { edition, flow, room } => (plain(flow), u128::from(*edition) + *room as u128),
         Call::Execute { body, notice } | Call::Reverse { body, notice } => {
             let (year, month, day) = notice.date;
@@ -192,6 +193,7 @@ impl<F: FnMut(&Case) -> bool> Search<F> {
                 Call::Flow { .. } => self.shorten_flow(index),
                 Call::Execute { .. } | Call::Reverse { .. } => self.shorten_notice(index),
                 Call::Convert { .. } => self.shorten_conversion(index),
+                Call::Salvage { .. } => self.shorten_salvage(index),
                 Call::Totals { .. } | Call::Journal { .. } => {}
                 Call::Write { .. } => {
                     self.shorten_room(index);
@@ -205,6 +207,7 @@ impl<F: FnMut(&Case) -> bool> Search<F> {
             self.drop_bytes(|case| match &mut case.calls[index] {
                 Call::Open { request, .. } => request,
                 Call::Convert { old, .. } => old,
+                Call::Salvage { damaged, .. } => damaged,
                 Call::Flow { flow, .. } | Call::Write { flow, .. } => flow,
                 Call::Execute { body, .. } | Call::Reverse { body, .. } | Call::Totals { body } => body,
                 Call::Read { message, .. } | Call::Rewrite { message, .. } => message,
@@ -291,6 +294,45 @@ impl<F: FnMut(&Case) -> bool> Search<F> {
         }
     }
 
+    /// The damaged table with fewer bodies and slots and more zeros.
+    fn shorten_salvage(&mut self, index: usize) {
+        let damaged_of = |case: &Case| match &case.calls[index] {
+            Call::Salvage { damaged, .. } => damaged.clone(),
+            _ => Vec::new(),
+        };
+        let with = |case: &mut Case, table: Vec<u8>| {
+            if let Call::Salvage { damaged, .. } = &mut case.calls[index] {
+                *damaged = table;
+            }
+        };
+        let mut body = 0;
+        while body < count_of_bodies(&damaged_of(&self.best)) && !self.is_over() {
+            let shorter = without_body(&damaged_of(&self.best), body);
+            if !shorter.is_some_and(|table| self.change(|case| with(case, table))) {
+                body += 1;
+            }
+        }
+        for body in 0..count_of_bodies(&damaged_of(&self.best)) {
+            let mut slot = 0;
+            while let Some(table) = without_slot(&damaged_of(&self.best), body, slot)
+                && !self.is_over()
+            {
+                if !self.change(|case| with(case, table)) {
+                    slot += 1;
+                }
+            }
+        }
+        for size in [SLOT, 8, 1] {
+            let length = damaged_of(&self.best).len();
+            for from in (0..length).step_by(size) {
+                let mut table = damaged_of(&self.best);
+                table[from..(from + size).min(length)].fill(0);
+                self.change(|case| with(case, table));
+            }
+        }
+        self.shorten_room(index);
+    }
+
     fn shorten_flow(&mut self, index: usize) {
         self.shorten_markup(index);
         let Call::Flow { flow, .. } = &self.best.calls[index] else { return };
@@ -304,11 +346,15 @@ impl<F: FnMut(&Case) -> bool> Search<F> {
         }
     }
 
-    /// The buffer that a call on a message writes.
+    /// The buffer that a call on a message or a repair writes.
     fn shorten_room(&mut self, index: usize) {
-        for smaller in [0, 1, 16, 176, 2_000] {
+        for smaller in [0, 1, 4, 8, 16, 176, 2_000] {
             self.change(|case| {
-                if let Call::Write { room, .. } | Call::Read { room, .. } | Call::Rewrite { room, .. } = &mut case.calls[index] {
+                if let Call::Write { room, .. }
+                | Call::Read { room, .. }
+                | Call::Rewrite { room, .. }
+                | Call::Salvage { room, .. } = &mut case.calls[index]
+                {
                     *room = smaller;
                 }
             });
@@ -357,7 +403,7 @@ impl<F: FnMut(&Case) -> bool> Search<F> {
             Call::Flow { flow, .. } => *flow = new,
             Call::Write { edition, flow, outcomes, .. } => {
                 // Outcome bytes that are this flow's stay so.
-                if refitted(*edition, flow, outcomes).as_ref() == Some(outcomes) {
+                if refitted(*edition, flow, outcomes).is_some_and(|fitting| outcomes.starts_with(&fitting)) {
                     *outcomes = refitted(*edition, &new, outcomes).unwrap_or_default();
                 }
                 *flow = new;

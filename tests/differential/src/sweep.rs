@@ -58,7 +58,12 @@ pub fn cases() -> impl Iterator<Item = Case> {
     let with_flow = move |flow| Case { table: bytes.clone(), calls: vec![Call::Flow { edition: 1, flow, room: 16 }] };
     let flows =
         dates().chain(times()).chain(numbers()).chain(characters()).chain(sequences()).chain(bytes_of_a_flow()).map(with_flow);
-    bytes_of_a_table().chain(bytes_of_a_request()).chain(bytes_of_an_old_table()).chain(flows).chain(messages::sweep())
+    bytes_of_a_table()
+        .chain(bits_of_a_damaged_table())
+        .chain(bytes_of_a_request())
+        .chain(bytes_of_an_old_table())
+        .chain(flows)
+        .chain(messages::sweep())
 }
 
 /// Every byte with every value in its place.
@@ -80,6 +85,16 @@ fn bytes_of_a_table() -> impl Iterator<Item = Case> {
     ];
     // One kind of call in turn: each of them looks at the whole table.
     replaced(table().encode()).enumerate().map(move |(index, table)| Case { table, calls: vec![calls[index % 7 % 4].clone()] })
+}
+
+/// Each bit of a table changed, and the table repaired.
+fn bits_of_a_damaged_table() -> impl Iterator<Item = Case> {
+    let bytes = table().encode();
+    (0..8 * bytes.len()).map(move |bit| {
+        let mut damaged = bytes.clone();
+        damaged[bit / 8] ^= 1 << (bit % 8);
+        Case { table: Vec::new(), calls: vec![Call::Salvage { damaged, room: 8 }] }
+    })
 }
 
 fn bytes_of_a_request() -> impl Iterator<Item = Case> {

@@ -329,6 +329,96 @@ fn together(random: &mut Random, table: &mut Vec<u8>, form: Form, first_slot: us
     }
 }
 
+/// A valid table that a disk fault is to damage: mostly small ones, with many used slots.
+pub fn to_be_damaged(random: &mut Random) -> Table {
+    let mut table = match random.weighted(&[90, 9, 1]) {
+        0 => empty(random, 4, 8),
+        1 => empty(random, 16, 12),
+        _ => empty(random, 2, 300),
+    };
+    for body in &mut table.bodies {
+        let count = if random.percent(40) { body.slots } else { random.below(body.slots + 1) };
+        fill(random, body, count);
+    }
+    table
+}
+
+/// The bytes of a table after a disk fault: slots lost, copied, moved or changed in some places, kept totals too; head and entries are
+/// hit now and then where `contents` says so.
+pub fn after_fault(random: &mut Random, table: &Table, contents: bool) -> Vec<u8> {
+    let mut bytes = table.encode();
+    let first_slot = HEAD + ENTRY * table.bodies.len();
+    for _ in 0..[1, 1, 2, 3, 1 + random.below(8)][random.below(5)] {
+        slot_fault(random, &mut bytes, first_slot);
+    }
+    if random.percent(30) {
+        let kept = HEAD + ENTRY * random.below(table.bodies.len()) + 24;
+        match random.below(3) {
+            0 => bytes[kept..kept + 16].iter_mut().for_each(|byte| *byte = random.byte()),
+            1 => bytes[kept..kept + 16].rotate_left(8),
+            _ => bytes[kept + random.below(16)] ^= 1 << random.below(8),
+        }
+    }
+    if contents && random.percent(12) {
+        if random.percent(80) {
+            let place = random.below(first_slot);
+            bytes[place] = if random.percent(50) { bytes[place] ^ (1 << random.below(8)) } else { random.byte() };
+        } else {
+            let length = *random.pick(&[0, first_slot - 1, bytes.len() - 1, bytes.len() + 1, bytes.len() + SLOT]);
+            bytes.resize(length, 0);
+        }
+    }
+    bytes
+}
+
+/// One thing that a fault does to slots.
+fn slot_fault(random: &mut Random, bytes: &mut [u8], first_slot: usize) {
+    let slots = (bytes.len() - first_slot) / SLOT;
+    let used: Vec<usize> = (0..slots).map(|slot| first_slot + SLOT * slot).filter(|&at| bytes[at] != 0).collect();
+    let any = first_slot + SLOT * random.below(slots);
+    let slot = if used.is_empty() || random.percent(15) { any } else { *random.pick(&used) };
+    let &(from, length) = random.pick(&SLOT_FIELDS);
+    let place = slot + from + random.below(length);
+    match random.below(13) {
+        0 | 1 => bytes[place] ^= 1 << random.below(8),
+        2 => bytes[place] = random.byte(),
+        3 => edge(random, bytes, first_slot, slot, from),
+        // A hole, which is no damage that is reported; a slot of kind 0 that isn't empty.
+        4 => bytes[slot..slot + SLOT].fill(0),
+        5 => bytes[slot] = 0,
+        6 => {
+            bytes[slot..slot + SLOT].fill(0);
+            bytes[slot + 1 + random.below(SLOT - 1)] = 1;
+        }
+        // A record again in another slot, as it is, or valid and with another date, or the first of the two damaged.
+        7..=9 => {
+            bytes.copy_within(slot..slot + SLOT, any);
+            match random.below(3) {
+                0 => bytes[any + 15] = 1 + random.below(28) as u8,
+                1 => bytes[slot.min(any) + 3] = 1,
+                _ => {}
+            }
+        }
+        // Two slots that change places, also from one body to another.
+        10 => {
+            for at in 0..SLOT {
+                bytes.swap(slot + at, any + at);
+            }
+        }
+        // A stretch that crosses slots, lost.
+        11 => {
+            let end = bytes.len().min(place + *random.pick(&[16, 96, 512]));
+            let value = *random.pick(&[0, 0xFF, 1]);
+            bytes[place..end].fill(value);
+        }
+        // An annulled order with an executed line.
+        _ => {
+            bytes[slot + 1] = 2;
+            bytes[slot + 24] = 2;
+        }
+    }
+}
+
 /// A valid table, and the bytes of one like it that is written rightly but breaks one rule, or is just inside it.
 pub fn beyond(random: &mut Random) -> (Table, Vec<u8>) {
     let before = valid(random);

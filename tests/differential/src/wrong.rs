@@ -4,7 +4,7 @@
 
 use reference::message::{self, Given};
 use reference::table::{ENTRY, HEAD, SLOT, number_at};
-use reference::{Form, Notice, State, Table, markup};
+use reference::{Form, Notice, Order, State, Table, markup};
 
 use crate::engine::{Engine, Reference};
 
@@ -55,10 +55,20 @@ pub enum Fault {
     LinesPassedOver,
     /// What is written again is what was read.
     RewrittenAsRead,
+    /// Of two records of one key a repair keeps the later.
+    LaterCopyKept,
+    /// A repair reports slots of zeros among the blanked.
+    ZerosReported,
+    /// A repair leaves what the entries keep.
+    TotalsLeft,
+    /// A repair counts the kept records as moved.
+    KeptCalledMoved,
+    /// A report that doesn't fit is begun.
+    ReportBegun,
 }
 
 /// All of them.
-pub const FAULTS: [Fault; 22] = [
+pub const FAULTS: [Fault; 27] = [
     Fault::CodesAsIntegers,
     Fault::StaleAmounts,
     Fault::AnnulloByNumber,
@@ -81,6 +91,11 @@ pub const FAULTS: [Fault; 22] = [
     Fault::WrittenBeforeRoom,
     Fault::LinesPassedOver,
     Fault::RewrittenAsRead,
+    Fault::LaterCopyKept,
+    Fault::ZerosReported,
+    Fault::TotalsLeft,
+    Fault::KeptCalledMoved,
+    Fault::ReportBegun,
 ];
 
 /// The reference with one fault.
@@ -154,6 +169,18 @@ fn settled(table: &[u8]) -> Option<Vec<u8>> {
     }
     old.extend(&table[HEAD + ENTRY * bodies..]);
     Some(Table::decode_as(&old, Form::One)?.encode())
+}
+
+/// The places of a table's slots, body after body, as its entries count them.
+fn slots_of(table: &[u8]) -> Vec<Vec<usize>> {
+    let Some(contents) = Table::contents(table) else { return Vec::new() };
+    let mut place = HEAD + ENTRY * contents.bodies.len();
+    let bodies = contents.bodies.iter().map(|body| {
+        let slots = (0..body.slots).map(|slot| place + SLOT * slot).collect();
+        place += SLOT * body.slots;
+        slots
+    });
+    bodies.collect()
 }
 
 fn integer(code: &[u8]) -> Option<u64> {
@@ -343,5 +370,42 @@ impl Engine for Wrong {
     fn journal(&self, table: &[u8], body: &[u8], movements: &[u8]) -> u64 {
         let code = Reference.journal(&self.mended(table), &self.code(table, body), movements);
         if self.0 == Fault::JournalListsTwice && code == 32 { 0 } else { code }
+    }
+
+    fn salvage(&self, table: &mut [u8], report: &mut [u8], blanked: &mut u64) -> u64 {
+        let before = table.to_vec();
+        let slots = slots_of(table);
+        if self.0 == Fault::LaterCopyKept {
+            let key = |table: &[u8], at: usize| Order::alone(&table[at..at + SLOT]).map(|order| order.key());
+            for places in &slots {
+                for (index, &first) in places.iter().enumerate() {
+                    let again = places[index + 1..].iter().rev().find(|&&again| key(table, first) == key(table, again));
+                    if let (Some(_), Some(&again)) = (key(table, first), again) {
+                        (0..SLOT).for_each(|at| table.swap(first + at, again + at));
+                    }
+                }
+            }
+        }
+        let code = Reference.salvage(table, report, blanked);
+        match self.0 {
+            Fault::LaterCopyKept if code != 0 => table.copy_from_slice(&before),
+            Fault::ZerosReported if code == 0 => {
+                let zeros = |at: &&usize| before[**at..**at + SLOT].iter().all(|&byte| byte == 0);
+                *blanked += slots.iter().flatten().filter(zeros).count() as u64;
+            }
+            Fault::TotalsLeft if code == 0 => {
+                let pairs = table[HEAD..].chunks_mut(ENTRY).zip(before[HEAD..].chunks(ENTRY)).take(slots.len());
+                pairs.for_each(|(entry, old)| entry[24..40].copy_from_slice(&old[24..40]));
+            }
+            Fault::KeptCalledMoved if code == 0 => {
+                for (body, places) in slots.iter().enumerate() {
+                    let kept = places.iter().filter(|&&at| table[at] != 0).count() as u16;
+                    report[2 * body..2 * body + 2].copy_from_slice(&kept.to_be_bytes());
+                }
+            }
+            Fault::ReportBegun if code == 35 && report.len() > 1 => report[..2].fill(0),
+            _ => {}
+        }
+        code
     }
 }

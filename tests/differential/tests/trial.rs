@@ -8,13 +8,14 @@ use differential::random::Random;
 use differential::wrong::{FAULTS, Fault, Wrong};
 use differential::{Call, Case, Engine, Reference, Yard, shrink, sweep};
 
-const THEMES: [Theme; 9] = [
+const THEMES: [Theme; 10] = [
     Theme::WholeFlow,
     Theme::DamagedFlow,
     Theme::DamagedTable,
     Theme::Notices,
     Theme::Opening,
     Theme::Conversion,
+    Theme::Salvage,
     Theme::Sequence,
     Theme::Messages,
     Theme::Fuzz,
@@ -80,8 +81,8 @@ fn every_code_is_reached() {
             }
         }
     }
-    // No call answers 24 to 26, or 34 to 39.
-    let given = |code: &usize| !(24..27).contains(code) && !(34..40).contains(code);
+    // No call answers 24 to 26, or 36 to 39.
+    let given = |code: &usize| !(24..27).contains(code) && !(36..40).contains(code);
     assert!((0..42).filter(given).all(|code| reached[code] > 0), "times each code was answered: {reached:?}");
     for causes in [causes, read_causes] {
         assert!(causes.iter().all(|&times| times > 0), "times each cause was answered: {causes:?}");
@@ -112,7 +113,7 @@ fn the_defect_of_the_tender_is_made_short() {
     let mut fails = |case: &Case| yard.compare(&Reference, &wrong, case).is_some();
     let found = cases_of(Theme::Sequence, 500).find(&mut fails).expect("sequences have both bodies");
     let short = shrink::shortest(&found, Duration::from_secs(20), &mut fails);
-    assert!(short.calls.len() <= 2 && short.cost() < 800, "{short:?}");
+    assert!(short.calls.len() <= 2 && short.cost() < 900, "{short:?}");
 }
 
 /// An engine that lets one body's orders fill another body's slots is found by the interleavings alone.

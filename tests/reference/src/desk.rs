@@ -1,4 +1,4 @@
-//! The seven calls.
+//! The calls on a table.
 
 use crate::fields::{self, FlowOrder, Operation};
 use crate::table::{Body, Form, Kind, Line, Order, State, Table, number_at};

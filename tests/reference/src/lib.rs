@@ -18,11 +18,13 @@ pub mod desk;
 pub mod fields;
 pub mod markup;
 pub mod message;
+pub mod salvage;
 pub mod structure;
 pub mod table;
 pub mod target;
 
 pub use desk::{FlowAnswer, Notice, NoticeAnswer, Totals, convert, execute, flow, journal, open, request, reverse, totals};
+pub use salvage::{SalvageAnswer, salvage};
 pub use table::{Body, Date, Form, Kind, Line, Order, State, Table};
 
 /// The editions of a flow.

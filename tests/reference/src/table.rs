@@ -178,7 +178,17 @@ impl Order {
         slot
     }
 
-    /// The record in a slot that is not empty.
+    /// What sets the record apart from the others of its body.
+    pub fn key(&self) -> (Kind, u16, u32) {
+        (self.kind, self.esercizio, self.number)
+    }
+
+    /// The record that a slot's bytes are, looked at alone; `None` when they are none.
+    pub fn alone(slot: &[u8]) -> Option<Order> {
+        Order::decode(slot).filter(|order| order.encode() == slot)
+    }
+
+    /// The record in a slot that is not empty; zeros and lines that aren't there are not looked at.
     fn decode(slot: &[u8]) -> Option<Order> {
         let kind = match slot[0] {
             1 => Kind::Mandato,
@@ -301,6 +311,27 @@ impl Table {
             bytes.resize(end, 0);
         }
         bytes
+    }
+
+    /// The bodies of these bytes without their orders, where head and entries are valid; what the entries keep of totals and what the slots
+    /// hold is not looked at.
+    pub fn contents(bytes: &[u8]) -> Option<Table> {
+        let (head, mut rest) = bytes.split_at_checked(HEAD)?;
+        let mut bodies = Vec::new();
+        for _ in 0..number_at(head, 0, 2) {
+            let entry;
+            (entry, rest) = rest.split_at_checked(ENTRY)?;
+            let code = entry[1..17].get(..usize::from(entry[0]))?.to_vec();
+            bodies.push(Body { code, slots: number_at(entry, 18, 2) as usize, orders: Vec::new() });
+        }
+        let table = Table { abi: head[8..13].try_into().ok()?, bodies };
+        if !table.stands() || table.length() != bytes.len() {
+            return None;
+        }
+        let first_slot = HEAD + ENTRY * table.bodies.len();
+        let mut without_totals = bytes[..first_slot].to_vec();
+        without_totals[HEAD..].chunks_mut(ENTRY).for_each(|entry| entry[24..40].fill(0));
+        (without_totals == table.encode()[..first_slot]).then_some(table)
     }
 
     /// The table that these bytes are; `None` when they are no valid table.
