@@ -1,5 +1,5 @@
 -- The values of a flow that stands: its header and its orders are within the bounds of their forms.
-use mathlib.Core.Path.{_≡_, refl, sym, ap, _∙_}
+use mathlib.Core.Path.{_≡_, refl, sym, ap, subst, _∙_}
 use mathlib.Core.Logic.{_⊎_, ⊎-elim}
 use mathlib.Core.List.{List, [], _∷_, _++_, map}
 use mathlib.Core.Bool.{Bool, true, false, _&&_}
@@ -39,10 +39,11 @@ use Rattle.rows.specs.declared.Next.{Next}
 use Rattle.rows.specs.declared.Next.the-variants.{Named, Done}
 use Rattle.rows.specs.Table.{table}
 use Rattle.rows.specs.Kept.{keptFrom, nextOf}
+use Rattle.rows.specs.Replaces.{replaces, rowsFor}
 use Rattle.children.proofs.Laws.{Lies}
 use Rattle.rows.proofs.Laws.{next-at, next-done}
 use Rattle.structure.specs.Structure.{Range, ranges, allKept, keptHolds, fitsAt}
-use Rattle.structure.proofs.Laws.{HeldIn, fits-parts, all-next, order-last}
+use Rattle.structure.proofs.Laws.{HeldIn, fits-parts, all-next, order-last, versante-rows}
 use Rattle.standing.specs.Readings.{Bad, Place, Nowhere, textOf, fieldsIn, fieldsBy, fieldsAt, badOr, firstBad}
 use Rattle.standing.proofs.Readings.{orBad, bad-append}
 use Rattle.order.specs.declared.Line.{Line}
@@ -54,7 +55,7 @@ use Rattle.editions.specs.declared.Edition.the-variants.{Oil, Opi}
 use Rattle.header.specs.Header.{Header, rootOf, testataOf, headerIn}
 use Rattle.header.specs.Heading.{fourThen, rootRows}
 use Rattle.header.proofs.Laws.{nested}
-use Rattle.orders.proofs.Laws.{one, held-at, those-at, those-done, those-other, those-one, those-all, found, found-some, shaped-inside, Standing, order-held, order-at, orders-end, standing, lines-length}
+use Rattle.orders.proofs.Laws.{one, held-at, those-at, those-done, those-other, those-one, those-all, found, found-some, mandato-rows, reversale-rows, rows-other, shaped-inside, shaped-other, line-other, Standing, order-held, order-at, orders-end, standing, lines-length}
 use Rattle.flow.specs.Flow.{headerOf, flowOrders}
 use Rattle.bounds.specs.Bounds.{maxCents}
 use Rattle.flow.proofs.Laws.{Stood}
@@ -148,11 +149,19 @@ field-at {rs} d p s n i f t w = go (nextOf (keptFrom p s i)) refl
         (k .child .after, record { stands = rw (o .text) (text-stands d s k f h (a .0)); on = record { filled = o .on; fields = a .1 }; later = o .later; texts = o .texts })
 
 -- the rows of what a named child holds
-well-inside : (rs : List Range) (d : ℕ) (s : List ℕ) (k : Kept) (p : Parent) → k .holds ≡ Rows p → Shaped rs (suc d) s k → standsIn (suc d) s k ≡ true → Well rs d p s 0 (whiteAt s (k .child .gt + 1))
+well-inside : (rs : List Range) (d : ℕ) (s : List ℕ) (k : Kept) (p : Parent) → k .holds ≡ Rows p → Shaped rs (suc d) s k → standsIn (suc d) s k ≡ true
+    → Well rs d (rowsFor p s (k .child .gt + 1)) s 0 (whiteAt s (k .child .gt + 1))
 unfolding fieldsAt
 well-inside rs d s k p h w e =
     let i = whiteAt s (k .child .gt + 1) in
-    record { filled = shaped-inside rs d s k p h w .filled; fields = each-stands d s (keptFrom p s i) (nowhere (firstBad (fieldsBy (λ q a. fieldsAt d q s a) s (keptFrom p s i))) (rw h at e)) }
+    let q = rowsFor p s (k .child .gt + 1) in
+    record { filled = shaped-inside rs d s k p h w .filled; fields = each-stands d s (keptFrom q s i) (nowhere (firstBad (fieldsBy (λ q a. fieldsAt d q s a) s (keptFrom q s i))) (rw h at e)) }
+
+-- of all but an order
+well-other : (rs : List Range) (d : ℕ) (s : List ℕ) (k : Kept) (p : Parent) → (length rs ≡ 5 → ⊥) → k .holds ≡ Rows p → Shaped rs (suc d) s k → standsIn (suc d) s k ≡ true → Well rs d p s 0 (whiteAt s (k .child .gt + 1))
+well-other rs d s k p f h w e =
+    let r : ranges (table p) ≡ rs = rw h at (w .rows) in
+    subst (λ (q : Parent). Well rs d q s 0 (whiteAt s (k .child .gt + 1))) (rows-other p s (k .child .gt + 1) (λ z. f (ap length (sym r) ∙ z))) (well-inside rs d s k p h w e)
 
 -- LINES
 abbrev LineOk : Line → Type 0
@@ -166,13 +175,13 @@ record LineTable (q : Parent) : Type 0 where
   first : IsText q 0 Progressivo
   second : IsText q 1 Importo
 
-line-ok : (s : List ℕ) (k : Kept) (q : Parent) → LineTable q → k .holds ≡ Rows q → Shaped lineRows 2 s k → standsIn 2 s k ≡ true → LineOk (lineOf s k)
+line-ok : (r : Bool) (s : List ℕ) (k : Kept) (q : Parent) → LineTable q → k .holds ≡ Rows q → Shaped (lineRows r) 2 s k → standsIn 2 s k ≡ true → LineOk (lineOf s k)
 unfolding lineOf fieldStands
-line-ok s k q t h w e =
+line-ok r s k q t h w e =
     let i = whiteAt s (k .child .gt + 1) in
-    let a = field-at 1 q s 0 i Progressivo (t .first) (well-inside lineRows 1 s k q h w e) in
+    let a = field-at 1 q s 0 i Progressivo (t .first) (well-other (lineRows r) 1 s k q (line-other r) h w e) in
     let b = field-at 1 q s 1 (a .0) Importo (t .second) (a .1 .on) in
-    rw (shaped-inside lineRows 1 s k q h w .named, a .1 .texts 1 (omega arith)) (cents-ok (textIn 1 s (keptFrom q s (a .0))) (b .1 .stands))
+    rw (shaped-other (lineRows r) 1 s k q (line-other r) h w .named, a .1 .texts 1 (omega arith)) (cents-ok (textIn 1 s (keptFrom q s (a .0))) (b .1 .stands))
 
 -- the parents that are orders: what their rows hold, the last of them lines of the parent q
 record OrderTable (p q : Parent) : Type 0 where
@@ -183,13 +192,14 @@ record OrderTable (p q : Parent) : Type 0 where
   fourth : IsText p 3 Importo
   lines : (h : Holds) → HeldIn (table p) 4 h → h ≡ Rows q
   line : LineTable q
-  same : ranges (table q) ≡ lineRows
+  replacing : Bool
+  same : ranges (table q) ≡ lineRows replacing
 
-mandato : OrderTable Mandato InformazioniBeneficiario
-mandato = record { rows = refl; first = only; second = only; third = only; fourth = only; lines = only; line = record { first = only; second = only }; same = refl }
+mandato : (r : Bool) → OrderTable (Mandato r) (InformazioniBeneficiario r)
+mandato r = record { rows = refl; first = only; second = only; third = only; fourth = only; lines = only; line = record { first = only; second = only }; replacing = r; same = refl }
 
-reversale : OrderTable Reversale InformazioniVersante
-reversale = record { rows = refl; first = only; second = only; third = only; fourth = only; lines = only; line = record { first = only; second = only }; same = refl }
+reversale : (r : Bool) → OrderTable (Reversale r) (InformazioniVersante r)
+reversale r = record { rows = refl; first = only; second = only; third = only; fourth = only; lines = only; line = record { first = only; second = only }; replacing = r; same = versante-rows r }
 
 -- each line of an order, wherever it is asked for
 lines-ok : (n : ℕ) (p q : Parent) (s : List ℕ) (i : ℕ) → length s - i < n → OrderTable p q
@@ -214,8 +224,8 @@ lines-ok (suc n) p q s i h t r f e j = go (nextOf (keptFrom p s i)) refl (lines-
         let c = all-next p s i k x (standsIn 2 s) e in
         let z : k .row ≡ 4 = eqb-true (k .row) 4 (a .0) in
         let y : k .holds ≡ Rows q = t .lines (k .holds) (rw z at (held-at p s i k x)) in
-        let w : Shaped lineRows 2 s k = record { within = omega arith; rows = rw y (t .same); holds = b .0 } in
-        rw (next-at p s i k x .rest) (pick k (keptFrom p s (k .child .after)) j (line-ok s k q (t .line) y w (c .0)) (ih (k .child .after) (omega arith) t (a .1) (b .1) (c .1)))
+        let w : Shaped (lineRows (t .replacing)) 2 s k = record { within = omega arith; rows = rw y (t .same); holds = b .0 } in
+        rw (next-at p s i k x .rest) (pick k (keptFrom p s (k .child .after)) j (line-ok (t .replacing) s k q (t .line) y w (c .0)) (ih (k .child .after) (omega arith) t (a .1) (b .1) (c .1)))
 
 -- of the eight places those of the lines
 lines-there : (ls : List Line) (n : ℕ) → length ls ≡ n → n ≤ 8 → take n (eight ls) ≡ ls
@@ -246,15 +256,17 @@ module _ (s : List ℕ) (p q : Parent) (t : OrderTable p q) (i j1 j2 j3 j4 : ℕ
         amounts = λ j. rw w (l j);
       }
 
-order-ok : (s : List ℕ) (k : Kept) (p q : Parent) → OrderTable p q → k .holds ≡ Rows p → (1 ≤ kindOf (Rows p)) × (kindOf (Rows p) ≤ 2) → Shaped orderRows 3 s k → standsIn 3 s k ≡ true → OrderOk (ordinativo (orderOf s k))
+order-ok : (s : List ℕ) (k : Kept) (o p q : Parent) → OrderTable p q → k .holds ≡ Rows o → rowsFor o s (k .child .gt + 1) ≡ p → (1 ≤ kindOf (Rows o)) × (kindOf (Rows o) ≤ 2)
+    → Shaped orderRows 3 s k → standsIn 3 s k ≡ true → OrderOk (ordinativo (orderOf s k))
 unfolding orderOf
-order-ok s k p q t h v w e =
+order-ok s k o p q t h z v w e =
     let i = whiteAt s (k .child .gt + 1) in
-    let a = field-at 2 p s 0 i TipoOperazione (t .first) (well-inside orderRows 2 s k p h w e) in
+    let u = subst (λ (x : Parent). Well orderRows 2 x s 0 i) z (well-inside orderRows 2 s k o h w e) in
+    let a = field-at 2 p s 0 i TipoOperazione (t .first) u in
     let b = field-at 2 p s 1 (a .0) Numero (t .second) (a .1 .on) in
     let c = field-at 2 p s 2 (b .0) Data (t .third) (b .1 .on) in
     let d = field-at 2 p s 3 (c .0) Importo (t .fourth) (c .1 .on) in
-    rw (shaped-inside orderRows 2 s k p h w .named, h) (order-by s p q t i (a .0) (b .0) (c .0) (d .0) (a .1) (b .1) (c .1) (d .1) (kindOf (Rows p)) v)
+    rw (shaped-inside orderRows 2 s k o h w .named, h, z) (order-by s p q t i (a .0) (b .0) (c .0) (d .0) (a .1) (b .1) (c .1) (d .1) (kindOf (Rows o)) v)
 
 -- ORDERS, as the walk goes
 pub record Sound (p : Parent) (s : List ℕ) (i : ℕ) : Type 0 where
@@ -271,8 +283,8 @@ sound-next p s i k h e =
     let r = those-at isOrder p s i k e in
     let b = r .every (standsIn 3 s) (h .fields) in (
       ⊎-elim
-          (λ m. order-ok s k Mandato InformazioniBeneficiario mandato (sym m) (omega arith) (a .shaped) (b .0))
-          (λ m. order-ok s k Reversale InformazioniVersante reversale (sym m) (omega arith) (a .shaped) (b .0))
+          (λ m. order-ok s k (Mandato (m .0)) _ _ (mandato _) (sym (m .1)) (mandato-rows (m .0) s (k .child .gt + 1)) (omega arith) (a .shaped) (b .0))
+          (λ m. order-ok s k (Reversale (m .0)) _ _ (reversale _) (sym (m .1)) (reversale-rows (m .0) s (k .child .gt + 1)) (omega arith) (a .shaped) (b .0))
           (order-held (k .holds) (r .is)),
       record { standing = a .on; fields = b .1 },
     )
@@ -414,7 +426,7 @@ nest-at s i w = go (nextOf (keptFrom FlussoOpi s i)) refl
           k,
           record {
             own = n .own;
-            inner = well-inside (ranges (table TestataFlusso)) 2 s k TestataFlusso (n .holds) (n .shaped) (a .0);
+            inner = well-other (ranges (table TestataFlusso)) 2 s k TestataFlusso (λ x. omega arith) (n .holds) (n .shaped) (a .0);
             on = record { filled = o .on; fields = a .1 };
             later = o .later;
             texts = o .texts;

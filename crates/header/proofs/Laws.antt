@@ -21,8 +21,8 @@ use Rattle.rows.specs.Kept.{keptFrom, nextOf}
 use Rattle.structure.specs.Structure.{Range, ranges, keptHolds, fitsAt}
 use Rattle.structure.proofs.Laws.{HeldIn, all-next}
 use Rattle.orders.specs.Shape.{Shaped, Filled}
-use Rattle.orders.specs.Orders.{those, ofRow, inRow, textOfNext, textIn, valueOf, insideOf, inside, ordersOf, holdsOrder, isOrder, ordersIn}
-use Rattle.orders.proofs.Laws.{one, held-at, those-at, those-other, row-one, Found, found-some, found, Inside, shaped-inside, Standing}
+use Rattle.orders.specs.Orders.{those, ofRow, inRow, textOfNext, textIn, valueOf, insideOf, heldFor, inside, ordersOf, holdsOrder, isOrder, ordersIn}
+use Rattle.orders.proofs.Laws.{one, held-at, those-at, those-other, row-one, Found, found-some, found, Inside, shaped-other, Standing}
 use Rattle.editions.specs.declared.Edition.{Edition}
 use Rattle.editions.specs.declared.Edition.the-variants.{Oil, Opi}
 use Rattle.header.specs.declared.Span.{Span}
@@ -107,7 +107,7 @@ nested s i k f e =
     let h : k .holds ≡ Rows TestataFlusso = ⊎-elim sym (λ x. absurd x) (rw r at (held-at FlussoOpi s i k e)) in
     let w = all-next FlussoOpi s i k e (keptHolds (λ q b. fitsAt 3 q s b) s) (f .each) in
     let v : Shaped (ranges (table TestataFlusso)) 3 s k = record { within = omega arith; rows = rw h; holds = w .0 } in
-    let n = shaped-inside (ranges (table TestataFlusso)) 2 s k TestataFlusso h v in
+    let n = shaped-other (ranges (table TestataFlusso)) 2 s k TestataFlusso (λ x. omega arith) h v in
     let z : nextOf (inRow 0 (keptFrom FlussoOpi s i)) ≡ Named k = ap nextOf (row-one 0 FlussoOpi s i k e r) in
     record { holds = h; shaped = v; inner = n; own = rw z (n .named) }
 
@@ -154,7 +154,7 @@ testata-within n Opi s i = next (nextOf (inRow 0 (keptFrom FlussoOpi s i)))
     held k (Rows q) = row-within n q s (whiteAt s (k .child .gt + 1))
 
     next : (w : Next) → Inner s (spanOf (nextOf (inRow n (insideNext s w))))
-    next (Named k) = held k (k .holds)
+    next (Named k) = held k (heldFor s k (k .holds))
     next Done = (omega arith, omega arith)
 
 pub heading-header : (e : Edition) (s : List ℕ) (i : ℕ) → headerBy s (headingFrom e s i) ≡ headerIn e s (keptFrom (rootOf e) s i)

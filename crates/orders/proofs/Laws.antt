@@ -1,5 +1,5 @@
 -- Laws of the named children by rows, of lines and of orders.
-use mathlib.Core.Path.{_≡_, refl, sym, ap, _∙_}
+use mathlib.Core.Path.{_≡_, refl, sym, ap, subst, _∙_}
 use mathlib.Core.Logic.{_⊎_, inl, inr, ⊎-elim}
 use mathlib.Core.List.{List, [], _∷_}
 use mathlib.Core.Bool.{Bool, true, false}
@@ -30,7 +30,7 @@ use Rattle.codes.specs.Codes.{tipoOperazione}
 use Rattle.digits.specs.Digits.{esercizio, numero, importo, progressivo}
 use Rattle.dates.specs.Dates.{dataOf}
 use Rattle.rows.specs.declared.Parent.{Parent}
-use Rattle.rows.specs.declared.Parent.the-variants.{FlussoOrdinativi, Mandato, Reversale, InformazioniBeneficiario, InformazioniVersante, Beneficiario, Versante, MessaggiEsito, TestataMessaggio, EsitoReversali, EsitoMandati, ErroriReversali, ErroriMandati, FlussoOpi, TestataFlusso}
+use Rattle.rows.specs.declared.Parent.the-variants.{FlussoOrdinativi, Mandato, Reversale, InformazioniBeneficiario, InformazioniVersante, SostituzioneMandato, SostituzioneReversale, Beneficiario, Versante, MessaggiEsito, TestataMessaggio, EsitoReversali, EsitoMandati, ErroriReversali, ErroriMandati, FlussoOpi, TestataFlusso}
 use Rattle.rows.specs.declared.Holds.{Holds}
 use Rattle.rows.specs.declared.Holds.the-variants.{Text, Rows}
 use Rattle.rows.specs.declared.Kept.{Kept}
@@ -38,15 +38,17 @@ use Rattle.rows.specs.declared.Next.{Next}
 use Rattle.rows.specs.declared.Next.the-variants.{Named, Done}
 use Rattle.rows.specs.Table.{table}
 use Rattle.rows.specs.Kept.{keptFrom, nextOf}
+use Rattle.rows.specs.Replaces.{replaces, asReplacing, rowsFor}
 use Rattle.children.proofs.Laws.{Lies}
 use Rattle.rows.proofs.Laws.{next-at, next-done}
 use Rattle.structure.specs.Structure.{Range, ranges, allKept, keptHolds, fitsAt}
-use Rattle.structure.proofs.Laws.{HeldIn, fits-parts, once-done, once-next, all-next, order-last, kept-held}
+use Rattle.structure.proofs.Laws.{HeldIn, fits-parts, once-done, once-next, all-next, order-last, kept-held, kept-row, versante-rows}
+use Rattle.order.specs.declared.NamedLine.{NamedLine}
 use Rattle.order.specs.declared.Line.{Line}
 use Rattle.order.specs.declared.Order.{Order}
-use Rattle.orders.specs.Shape.{rangesOf, orderRows, lineRows, Shaped, Filled}
 use Rattle.order.specs.Ordinativo.{noName, noLine}
-use Rattle.orders.specs.Orders.{those, ofRow, inRow, textIn, inside, operationOf, valueOf, dateOf, lineBy, lineOf, linesOf, eight, linesIn, kindOf, orderBy, orderOf, ordersOf, holdsOrder, isOrder, ordersIn}
+use Rattle.orders.specs.Shape.{rangesOf, orderRows, lineRows, namedRows, isReplacing, lineRowsOf, Shaped, Filled}
+use Rattle.orders.specs.Orders.{those, ofRow, inRow, textIn, inside, operationOf, valueOf, dateOf, namedBy, namedOf, namedIn, lineBy, lineOf, linesOf, eight, linesIn, kindOf, orderBy, orderOf, ordersOf, holdsOrder, isOrder, ordersIn}
 
 no-next : {k : Kept} {A : Type 0} → Done ≡ Named k → A
 no-next e = let z : _≡_ {A = ℕ} 0 1 = cc in absurd (omega arith)
@@ -54,13 +56,18 @@ no-next e = let z : _≡_ {A = ℕ} 0 1 = cc in absurd (omega arith)
 no-kind : {A : Type 0} → _≡_ {A = Bool} false true → A
 no-kind e = let z : _≡_ {A = ℕ} 0 1 = cc in absurd (omega arith)
 
+-- WHICH ROWS CONTENT HAS: none but an order's parent is told whether it replaces others
 -- an order's row 4 holds lines
-held-line : (p : Parent) (h : Holds) → ranges (table p) ≡ orderRows → HeldIn (table p) 4 h → rangesOf h ≡ lineRows
+held-line : (p : Parent) (h : Holds) → ranges (table p) ≡ orderRows → HeldIn (table p) 4 h → rangesOf h ≡ lineRowsOf h
 held-line FlussoOrdinativi h e w = let z : _≡_ {A = ℕ} 6 5 = ap length e in absurd (omega arith)
-held-line Mandato h e w = sym (⊎-elim (λ e. ap rangesOf e) (λ e. absurd e) w)
-held-line Reversale h e w = sym (⊎-elim (λ e. ap rangesOf e) (λ e. absurd e) w)
-held-line InformazioniBeneficiario h e w = absurd w
-held-line InformazioniVersante h e w = absurd w
+held-line (Mandato r) h e w = ⊎-elim (λ e. rw (← e) refl) (λ e. absurd e) w
+held-line (Reversale r) h e w = ⊎-elim (λ e. rw (← e) (versante-rows r)) (λ e. absurd e) w
+held-line (InformazioniBeneficiario true) h e w = absurd w
+held-line (InformazioniBeneficiario false) h e w = absurd w
+held-line (InformazioniVersante true) h e w = absurd w
+held-line (InformazioniVersante false) h e w = absurd w
+held-line SostituzioneMandato h e w = absurd w
+held-line SostituzioneReversale h e w = absurd w
 held-line Beneficiario h e w = absurd w
 held-line Versante h e w = absurd w
 held-line TestataMessaggio h e w = let z : _≡_ {A = ℕ} 9 5 = ap length e in absurd (omega arith)
@@ -68,6 +75,107 @@ held-line EsitoReversali h e w = let z : _≡_ {A = ℕ} 9 5 = ap length e in ab
 held-line EsitoMandati h e w = let z : _≡_ {A = ℕ} 9 5 = ap length e in absurd (omega arith)
 held-line FlussoOpi h e w = absurd w
 held-line TestataFlusso h e w = absurd w
+
+-- row 3 of a line of an order that replaces others holds the line that it names
+held-named : (p : Parent) (h : Holds) → isReplacing p ≡ true → HeldIn (table p) 3 h → rangesOf h ≡ namedRows
+held-named FlussoOrdinativi h e w = no-kind e
+held-named (Mandato r) h e w = no-kind e
+held-named (Reversale r) h e w = no-kind e
+held-named (InformazioniBeneficiario true) h e w = ⊎-elim (λ e. rw (← e) refl) (λ e. absurd e) w
+held-named (InformazioniBeneficiario false) h e w = no-kind e
+held-named (InformazioniVersante true) h e w = ⊎-elim (λ e. rw (← e) refl) (λ e. absurd e) w
+held-named (InformazioniVersante false) h e w = no-kind e
+held-named SostituzioneMandato h e w = no-kind e
+held-named SostituzioneReversale h e w = no-kind e
+held-named Beneficiario h e w = no-kind e
+held-named Versante h e w = no-kind e
+held-named MessaggiEsito h e w = no-kind e
+held-named TestataMessaggio h e w = no-kind e
+held-named EsitoReversali h e w = no-kind e
+held-named EsitoMandati h e w = no-kind e
+held-named ErroriReversali h e w = no-kind e
+held-named ErroriMandati h e w = no-kind e
+held-named FlussoOpi h e w = no-kind e
+held-named TestataFlusso h e w = no-kind e
+
+told-rows : (p : Parent) (b : Bool) → ranges (table (asReplacing p b)) ≡ ranges (table p)
+told-rows FlussoOrdinativi b = refl
+told-rows (Mandato r) b = refl
+told-rows (Reversale r) b = refl
+told-rows (InformazioniBeneficiario r) b = refl
+told-rows (InformazioniVersante r) b = refl
+told-rows SostituzioneMandato b = refl
+told-rows SostituzioneReversale b = refl
+told-rows Beneficiario b = refl
+told-rows Versante b = refl
+told-rows MessaggiEsito b = refl
+told-rows TestataMessaggio b = refl
+told-rows EsitoReversali b = refl
+told-rows EsitoMandati b = refl
+told-rows ErroriReversali b = refl
+told-rows ErroriMandati b = refl
+told-rows FlussoOpi b = refl
+told-rows TestataFlusso b = refl
+
+told-kind : (p : Parent) (b : Bool) → kindOf (Rows (asReplacing p b)) ≡ kindOf (Rows p)
+told-kind FlussoOrdinativi b = refl
+told-kind (Mandato r) b = refl
+told-kind (Reversale r) b = refl
+told-kind (InformazioniBeneficiario r) b = refl
+told-kind (InformazioniVersante r) b = refl
+told-kind SostituzioneMandato b = refl
+told-kind SostituzioneReversale b = refl
+told-kind Beneficiario b = refl
+told-kind Versante b = refl
+told-kind MessaggiEsito b = refl
+told-kind TestataMessaggio b = refl
+told-kind EsitoReversali b = refl
+told-kind EsitoMandati b = refl
+told-kind ErroriReversali b = refl
+told-kind ErroriMandati b = refl
+told-kind FlussoOpi b = refl
+told-kind TestataFlusso b = refl
+
+told-other : (p : Parent) (b : Bool) → (length (ranges (table p)) ≡ 5 → ⊥) → asReplacing p b ≡ p
+told-other FlussoOrdinativi b f = refl
+told-other (Mandato r) b f = absurd (f refl)
+told-other (Reversale r) b f = absurd (f refl)
+told-other (InformazioniBeneficiario r) b f = refl
+told-other (InformazioniVersante r) b f = refl
+told-other SostituzioneMandato b f = refl
+told-other SostituzioneReversale b f = refl
+told-other Beneficiario b f = refl
+told-other Versante b f = refl
+told-other MessaggiEsito b f = refl
+told-other TestataMessaggio b f = refl
+told-other EsitoReversali b f = refl
+told-other EsitoMandati b f = refl
+told-other ErroriReversali b f = refl
+told-other ErroriMandati b f = refl
+told-other FlussoOpi b f = refl
+told-other TestataFlusso b f = refl
+
+module _ (p : Parent) (s : List ℕ) (at : ℕ) where
+  pub rows-alike : ranges (table (rowsFor p s at)) ≡ ranges (table p)
+  unfolding rowsFor
+  rows-alike = told-rows p _
+
+  pub kind-alike : kindOf (Rows (rowsFor p s at)) ≡ kindOf (Rows p)
+  unfolding rowsFor
+  kind-alike = told-kind p _
+
+  pub rows-other : (length (ranges (table p)) ≡ 5 → ⊥) → rowsFor p s at ≡ p
+  unfolding rowsFor
+  rows-other f = told-other p _ f
+
+module _ (r : Bool) (s : List ℕ) (at : ℕ) where
+  pub mandato-rows : rowsFor (Mandato r) s at ≡ Mandato (replaces s (keptFrom (Mandato r) s (whiteAt s at)))
+  unfolding rowsFor
+  mandato-rows = refl
+
+  pub reversale-rows : rowsFor (Reversale r) s at ≡ Reversale (replaces s (keptFrom (Reversale r) s (whiteAt s at)))
+  unfolding rowsFor
+  reversale-rows = refl
 
 pub held-at : (p : Parent) (s : List ℕ) (i : ℕ) (k : Kept) → nextOf (keptFrom p s i) ≡ Named k → HeldIn (table p) (k .row) (k .holds)
 held-at p s i k e = kept-held p s i k (keptFrom p s (k .child .after)) (next-at p s i k e .rest)
@@ -136,6 +244,22 @@ module _ (n : ℕ) (p : Parent) (s : List ℕ) (i : ℕ) (k : Kept) (e : nextOf 
   pub row-one : k .row ≡ n → inRow n (keptFrom p s i) ≡ k ∷ inRow n (keptFrom p s (k .child .after))
   row-one f = those-one (ofRow n) p s i k e (eq-eqb _ _ f)
 
+-- a row that the parent has not
+none-by : (m n : ℕ) (p : Parent) (s : List ℕ) (i : ℕ) → length s - i < m → length (ranges (table p)) ≤ n → inRow n (keptFrom p s i) ≡ []
+none-by zero n p s i h l = absurd (omega arith)
+none-by (suc m) n p s i h l = go (nextOf (keptFrom p s i)) refl (none-by m n p s)
+  where
+    go : (w : Next) → nextOf (keptFrom p s i) ≡ w → ((j : ℕ) → length s - j < m → length (ranges (table p)) ≤ n → inRow n (keptFrom p s j) ≡ []) → inRow n (keptFrom p s i) ≡ []
+    go Done e ih = those-done (ofRow n) p s i e
+    go (Named k) e ih =
+        let a = next-at p s i k e in
+        let y = a .lies in
+        let r = kept-row p s i k (keptFrom p s (k .child .after)) (a .rest) in
+        row-other n p s i k e (λ z. omega arith) ∙ ih (k .child .after) (omega arith) l
+
+pub no-row : (n : ℕ) (p : Parent) (s : List ℕ) (i : ℕ) → length (ranges (table p)) ≤ n → inRow n (keptFrom p s i) ≡ []
+no-row n p s i l = none-by (suc (length s - i)) n p s i (omega arith) l
+
 -- FIELDS ONE AFTER THE OTHER
 abbrev pub one : Range
 one = record { least = 1; most = 1 }
@@ -179,17 +303,38 @@ pub record Inside (rs : List Range) (d : ℕ) (s : List ℕ) (k : Kept) (p : Par
 pub shaped-some : (r : Range) (rs : List Range) (d : ℕ) (s : List ℕ) (k : Kept) (f : Form) → k .holds ≡ Text f → Shaped (r ∷ rs) d s k → ⊥
 shaped-some r rs d s k f e h = let z : [] ≡ r ∷ rs = rw e at (h .rows) in let y : _≡_ {A = ℕ} 0 1 = cc in omega arith
 
-pub shaped-inside : (rs : List Range) (d : ℕ) (s : List ℕ) (k : Kept) (p : Parent) → k .holds ≡ Rows p → Shaped rs (suc d) s k → Inside rs d s k p
+pub shaped-inside : (rs : List Range) (d : ℕ) (s : List ℕ) (k : Kept) (p : Parent) → k .holds ≡ Rows p → Shaped rs (suc d) s k → Inside rs d s k (rowsFor p s (k .child .gt + 1))
 unfolding inside
 shaped-inside rs d s k p e h =
-    let r : ranges (table p) ≡ rs = rw e at (h .rows) in
-    let b = fits-parts d p s (k .child .gt + 1) (rw e at (h .holds)) in
+    let q = rowsFor p s (k .child .gt + 1) in
+    let r : ranges (table q) ≡ rs = rows-alike p s (k .child .gt + 1) ∙ (rw e at (h .rows)) in
+    let b = fits-parts d q s (k .child .gt + 1) (rw e at (h .holds)) in
     let w = h .within in
     record {
       rows = r;
       filled = record { within = run-within isWhite s (k .child .gt + 1) (omega arith); rows = rw r at (b .0); each = b .1 };
       named = rw e;
     }
+
+-- of all but an order
+pub shaped-other : (rs : List Range) (d : ℕ) (s : List ℕ) (k : Kept) (p : Parent) → (length rs ≡ 5 → ⊥) → k .holds ≡ Rows p → Shaped rs (suc d) s k → Inside rs d s k p
+shaped-other rs d s k p f e h =
+    let r : ranges (table p) ≡ rs = rw e at (h .rows) in
+    subst (λ (q : Parent). Inside rs d s k q) (rows-other p s (k .child .gt + 1) (λ z. f (ap length (sym r) ∙ z))) (shaped-inside rs d s k p e h)
+
+-- of a line
+pub line-other : (r : Bool) → length (lineRows r) ≡ 5 → ⊥
+line-other true z = omega arith
+line-other false z = omega arith
+
+line-shape : {h : Holds} (s : List ℕ) (k : Kept) → k .holds ≡ h → Shaped (lineRowsOf (k .holds)) 2 s k → Shaped (lineRowsOf h) 2 s k
+line-shape s k e w = record { within = w .within; rows = w .rows ∙ ap lineRowsOf e; holds = w .holds }
+
+pub line-some : (s : List ℕ) (k : Kept) (f : Form) → k .holds ≡ Text f → Shaped (lineRowsOf (k .holds)) 2 s k → ⊥
+line-some s k f e w = shaped-some one (drop 1 (lineRows false)) 2 s k f e (line-shape s k e w)
+
+pub line-shaped : (s : List ℕ) (k : Kept) (p : Parent) → k .holds ≡ Rows p → Shaped (lineRowsOf (k .holds)) 2 s k → Inside (lineRows (isReplacing p)) 1 s k p
+line-shaped s k p e w = shaped-other (lineRows (isReplacing p)) 1 s k p (line-other (isReplacing p)) e (line-shape s k e w)
 
 -- LINES, while they are walked: so many are in place, those from i on are to come
 pub record Lining (p : Parent) (s : List ℕ) (from : ℕ) (each : List Line) (count i : ℕ) : Type 0 where
@@ -261,7 +406,7 @@ module _ (p : Parent) (s : List ℕ) (from : ℕ) where
         none (k ∷ ks) h = absurd (omega arith)
 
     module _ (k : Kept) (e : nextOf (keptFrom p s i) ≡ Named k) where
-      pub lining-shaped : ranges (table p) ≡ orderRows → Shaped lineRows 2 s k
+      pub lining-shaped : ranges (table p) ≡ orderRows → Shaped (lineRowsOf (k .holds)) 2 s k
       lining-shaped t =
           let l = next-at p s i k e .lies in
           let r : k .row ≡ 4 = eqb-true (k .row) 4 (all-next p s i k e (ofRow 4) (f .rows) .0) in
@@ -328,8 +473,33 @@ module _ (s : List ℕ) (c : Child) (t : List ℕ) (e : t ≡ part s (c .gt + 1)
   unfolding fieldRead
   says-operazione = rw (← e) (operation-said c (causeOf TipoOperazione t) (tipoOperazione t))
 
+-- THE LINE THAT A LINE NAMES
+module _ (p : Parent) (s : List ℕ) (i : ℕ) where
+  pub named-none : ranges (table p) ≡ lineRows false → namedIn s (keptFrom p s i) ≡ noName
+  unfolding namedIn
+  named-none e = let z : length (ranges (table p)) ≡ 3 = ap length e in rw (no-row 3 p s i (omega arith))
+
+  pub named-there : (j : ℕ) (k : Kept) → inRow 3 (keptFrom p s i) ≡ inRow 3 (keptFrom p s j) → nextOf (keptFrom p s j) ≡ Named k → k .row ≡ 3 → namedIn s (keptFrom p s i) ≡ namedOf s k
+  unfolding namedIn
+  named-there j k l e z = rw (l, row-one 3 p s j k e z)
+
+pub named-same : (s : List ℕ) (ks js : List Kept) → inRow 3 ks ≡ inRow 3 js → namedIn s ks ≡ namedIn s js
+unfolding namedIn
+named-same s ks js e = rw e
+
+-- the structure that holds it, as the code that reads it asks for it
+pub named-shaped : (p : Parent) (s : List ℕ) (i : ℕ) → isReplacing p ≡ true → Filled (one ∷ []) 1 p s 3 i → (k : Kept) → nextOf (keptFrom p s i) ≡ Named k → Shaped namedRows 1 s k
+named-shaped p s i r f k e =
+    let o = found 1 p s 3 i f k e in
+    let l = o .lies in
+    let z = o .row in
+    record { within = omega arith; rows = held-named p (k .holds) r (rw z at (held-at p s i k e)); holds = all-next p s i k e (keptHolds (λ q a. fitsAt 1 q s a) s) (f .each) .0 }
+
 -- A LINE AND AN ORDER, put together of their parts
-pub line-made : (s : List ℕ) (ks : List Kept) (l : Line) → l .progressivo ≡ valueOf (progressivo (textIn 0 s ks)) → l .amount ≡ valueOf (importo (textIn 1 s ks)) → l .named ≡ noName → l ≡ lineBy s ks
+pub named-made : (s : List ℕ) (ks : List Kept) (n : NamedLine) → n .number ≡ valueOf (numero (textIn 0 s ks)) → n .line ≡ valueOf (progressivo (textIn 1 s ks)) → n .esercizio ≡ valueOf (esercizio (textIn 2 s ks)) → n ≡ namedBy s ks
+named-made s ks n a b c = rw (← a, ← b, ← c)
+
+pub line-made : (s : List ℕ) (ks : List Kept) (l : Line) → l .progressivo ≡ valueOf (progressivo (textIn 0 s ks)) → l .amount ≡ valueOf (importo (textIn 1 s ks)) → l .named ≡ namedIn s ks → l ≡ lineBy s ks
 line-made s ks l a b c = rw (← a, ← b, ← c)
 
 pub order-made : (kind : ℕ) (s : List ℕ) (ks : List Kept) (o : Order)
@@ -338,11 +508,15 @@ pub order-made : (kind : ℕ) (s : List ℕ) (ks : List Kept) (o : Order)
 order-made kind s ks o a b c d e f = rw (← a, ← b, ← c, ← d, ← e, ← f)
 
 module _ (s : List ℕ) (k : Kept) (p : Parent) (w : ℕ) (z : w ≡ whiteAt s (k .child .gt + 1)) where
-  pub line-inside : {d : ℕ} → Inside lineRows d s k p → (l : Line) → l ≡ lineBy s (keptFrom p s w) → l ≡ lineOf s k
+  pub named-inside : {d : ℕ} → Inside namedRows d s k p → (n : NamedLine) → n ≡ namedBy s (keptFrom p s w) → n ≡ namedOf s k
+  unfolding namedOf
+  named-inside i n h = rw (i .named, ← z) h
+
+  pub line-inside : {rs : List Range} {d : ℕ} → Inside rs d s k p → (l : Line) → l ≡ lineBy s (keptFrom p s w) → l ≡ lineOf s k
   unfolding lineOf
   line-inside n l h = rw (n .named, ← z) h
 
-  pub order-inside : {d : ℕ} → Inside orderRows d s k p → k .holds ≡ Rows p → (o : Order) → o ≡ orderBy (kindOf (Rows p)) s (keptFrom p s w) → o ≡ orderOf s k
+  pub order-inside : {d : ℕ} → Inside orderRows d s k p → kindOf (k .holds) ≡ kindOf (Rows p) → (o : Order) → o ≡ orderBy (kindOf (Rows p)) s (keptFrom p s w) → o ≡ orderOf s k
   unfolding orderOf
   order-inside n e o h = rw (n .named, e, ← z) h
 
@@ -361,13 +535,15 @@ module _ (p : Parent) (s : List ℕ) (i : ℕ) where
   Standing = allKept (keptHolds (λ q a. fitsAt 3 q s a) s) (keptFrom p s i) ≡ true
 
 -- an order is a mandato or a reversale
-pub order-held : (h : Holds) → holdsOrder h ≡ true → (Rows Mandato ≡ h) ⊎ (Rows Reversale ≡ h)
+pub order-held : (h : Holds) → holdsOrder h ≡ true → ((r : Bool) × (Rows (Mandato r) ≡ h)) ⊎ ((r : Bool) × (Rows (Reversale r) ≡ h))
 order-held (Text f) e = no-kind e
-order-held (Rows Mandato) e = inl refl
-order-held (Rows Reversale) e = inr refl
+order-held (Rows (Mandato r)) e = inl (r, refl)
+order-held (Rows (Reversale r)) e = inr (r, refl)
 order-held (Rows FlussoOrdinativi) e = no-kind e
-order-held (Rows InformazioniBeneficiario) e = no-kind e
-order-held (Rows InformazioniVersante) e = no-kind e
+order-held (Rows (InformazioniBeneficiario r)) e = no-kind e
+order-held (Rows (InformazioniVersante r)) e = no-kind e
+order-held (Rows SostituzioneMandato) e = no-kind e
+order-held (Rows SostituzioneReversale) e = no-kind e
 order-held (Rows Beneficiario) e = no-kind e
 order-held (Rows Versante) e = no-kind e
 order-held (Rows MessaggiEsito) e = no-kind e
@@ -394,7 +570,7 @@ order-at p s i k h e =
     record {
       rest = orders-one p s i k e;
       lies = l;
-      shaped = record { within = omega arith; rows = sym (⊎-elim (λ e. ap rangesOf e) (λ e. ap rangesOf e) (order-held (k .holds) (a .is))); holds = b .0 };
+      shaped = record { within = omega arith; rows = sym (⊎-elim (λ w. ap rangesOf (w .1)) (λ w. ap rangesOf (w .1)) (order-held (k .holds) (a .is))); holds = b .0 };
       on = b .1;
     }
 

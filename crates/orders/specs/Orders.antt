@@ -16,15 +16,17 @@ use Rattle.codes.specs.declared.Operation.the-variants.{Sostituzione}
 use Rattle.codes.specs.declared.Asked.{Asked}
 use Rattle.codes.specs.declared.Asked.the-variants.{Operazione, NoOperation}
 use Rattle.codes.specs.Codes.{tipoOperazione}
-use Rattle.digits.specs.Digits.{numero, importo, progressivo}
+use Rattle.digits.specs.Digits.{numero, importo, progressivo, esercizio}
 use Rattle.dates.specs.Dates.{dataOf}
-use Rattle.rows.specs.declared.Parent.the-variants.{FlussoOrdinativi, Mandato, Reversale, InformazioniBeneficiario, InformazioniVersante, Beneficiario, Versante, MessaggiEsito, TestataMessaggio, EsitoReversali, EsitoMandati, ErroriReversali, ErroriMandati, FlussoOpi, TestataFlusso}
+use Rattle.rows.specs.declared.Parent.the-variants.{FlussoOrdinativi, Mandato, Reversale, InformazioniBeneficiario, InformazioniVersante, SostituzioneMandato, SostituzioneReversale, Beneficiario, Versante, MessaggiEsito, TestataMessaggio, EsitoReversali, EsitoMandati, ErroriReversali, ErroriMandati, FlussoOpi, TestataFlusso}
 use Rattle.rows.specs.declared.Holds.{Holds}
 use Rattle.rows.specs.declared.Holds.the-variants.{Text, Rows}
 use Rattle.rows.specs.declared.Kept.{Kept}
 use Rattle.rows.specs.declared.Next.{Next}
 use Rattle.rows.specs.declared.Next.the-variants.{Named, Done}
 use Rattle.rows.specs.Kept.{keptFrom, nextOf}
+use Rattle.rows.specs.Replaces.{rowsFor}
+use Rattle.order.specs.declared.NamedLine.{NamedLine}
 use Rattle.order.specs.declared.Line.{Line}
 use Rattle.order.specs.declared.Lines.{Lines}
 use Rattle.order.specs.declared.Order.{Order}
@@ -68,12 +70,32 @@ abbrev pub insideOf : List ℕ → Kept → Holds → List Kept
 insideOf s k (Text f) = []
 insideOf s k (Rows p) = keptFrom p s (whiteAt s (k .child .gt + 1))
 
-unfoldable pub inside : List ℕ → Kept → List Kept
-inside s k = insideOf s k (k .holds)
+-- what it holds, where an order is told whether it replaces others
+abbrev pub heldFor : List ℕ → Kept → Holds → Holds
+heldFor s k (Text f) = Text f
+heldFor s k (Rows p) = Rows (rowsFor p s (k .child .gt + 1))
 
--- A LINE: progressivo is row 0 of its table, importo row 1
+unfoldable pub inside : List ℕ → Kept → List Kept
+inside s k = insideOf s k (heldFor s k (k .holds))
+
+-- THE LINE THAT A LINE NAMES, "by number, line and esercizio (the sostituzione structures of 000)" (document 02, Req 07): rows 0 to 2 of the structure's
+-- table; none where the line has no such structure
+abbrev pub namedBy : List ℕ → List Kept → NamedLine
+namedBy s ks = record { number = valueOf (numero (textIn 0 s ks)); line = valueOf (progressivo (textIn 1 s ks)); esercizio = valueOf (esercizio (textIn 2 s ks)) }
+
+unfoldable pub namedOf : List ℕ → Kept → NamedLine
+namedOf s k = namedBy s (inside s k)
+
+abbrev pub namedNext : List ℕ → Next → NamedLine
+namedNext s (Named k) = namedOf s k
+namedNext s Done = noName
+
+-- A LINE: progressivo is row 0 of its table, importo row 1, and the structure row 3, which only lines of an order that replaces others have
+unfoldable pub namedIn : List ℕ → List Kept → NamedLine
+namedIn s ks = namedNext s (nextOf (inRow 3 ks))
+
 abbrev pub lineBy : List ℕ → List Kept → Line
-lineBy s ks = record { progressivo = valueOf (progressivo (textIn 0 s ks)); amount = valueOf (importo (textIn 1 s ks)); named = noName }
+lineBy s ks = record { progressivo = valueOf (progressivo (textIn 0 s ks)); amount = valueOf (importo (textIn 1 s ks)); named = namedIn s ks }
 
 unfoldable pub lineOf : List ℕ → Kept → Line
 lineOf s k = lineBy s (inside s k)
@@ -93,11 +115,13 @@ linesIn s ks = record { count = length (inRow 4 ks); each = eight (linesOf s (in
 -- AN ORDER: tipo_operazione, numero, data, importo are rows 0 to 3 of its table
 abbrev pub kindOf : Holds → ℕ
 kindOf (Text f) = 0
-kindOf (Rows Mandato) = 1
-kindOf (Rows Reversale) = 2
+kindOf (Rows (Mandato r)) = 1
+kindOf (Rows (Reversale r)) = 2
 kindOf (Rows FlussoOrdinativi) = 0
-kindOf (Rows InformazioniBeneficiario) = 0
-kindOf (Rows InformazioniVersante) = 0
+kindOf (Rows (InformazioniBeneficiario r)) = 0
+kindOf (Rows (InformazioniVersante r)) = 0
+kindOf (Rows SostituzioneMandato) = 0
+kindOf (Rows SostituzioneReversale) = 0
 kindOf (Rows Beneficiario) = 0
 kindOf (Rows Versante) = 0
 kindOf (Rows MessaggiEsito) = 0

@@ -2,10 +2,10 @@
 use Prim.Native.Nat.{ℕ, _≤_, _<_}
 use mathlib.Core.Path.{_≡_}
 use mathlib.Core.List.{List, []}
-use mathlib.Core.Bool.{true}
+use mathlib.Core.Bool.{Bool, true, false}
 use lib.ListN.{length}
 use Rattle.rows.specs.declared.Parent.{Parent}
-use Rattle.rows.specs.declared.Parent.the-variants.{Mandato, InformazioniBeneficiario}
+use Rattle.rows.specs.declared.Parent.the-variants.{FlussoOrdinativi, Mandato, Reversale, InformazioniBeneficiario, InformazioniVersante, SostituzioneMandato, SostituzioneReversale, Beneficiario, Versante, MessaggiEsito, TestataMessaggio, EsitoReversali, EsitoMandati, ErroriReversali, ErroriMandati, FlussoOpi, TestataFlusso}
 use Rattle.rows.specs.declared.Holds.{Holds}
 use Rattle.rows.specs.declared.Holds.the-variants.{Text, Rows}
 use Rattle.rows.specs.declared.Kept.{Kept}
@@ -20,10 +20,38 @@ rangesOf (Rows p) = ranges (table p)
 
 -- a mandato's, which are a reversale's too, and those of its lines
 abbrev pub orderRows : List Range
-orderRows = ranges (table Mandato)
+orderRows = ranges (table (Mandato false))
 
-abbrev pub lineRows : List Range
-lineRows = ranges (table InformazioniBeneficiario)
+abbrev pub lineRows : Bool → List Range
+lineRows r = ranges (table (InformazioniBeneficiario r))
+
+-- those of the line that a line names
+abbrev pub namedRows : List Range
+namedRows = ranges (table SostituzioneMandato)
+
+-- a line is one of an order that replaces others
+abbrev pub isReplacing : Parent → Bool
+isReplacing (InformazioniBeneficiario r) = r
+isReplacing (InformazioniVersante r) = r
+isReplacing FlussoOrdinativi = false
+isReplacing (Mandato r) = false
+isReplacing (Reversale r) = false
+isReplacing SostituzioneMandato = false
+isReplacing SostituzioneReversale = false
+isReplacing Beneficiario = false
+isReplacing Versante = false
+isReplacing MessaggiEsito = false
+isReplacing TestataMessaggio = false
+isReplacing EsitoReversali = false
+isReplacing EsitoMandati = false
+isReplacing ErroriReversali = false
+isReplacing ErroriMandati = false
+isReplacing FlussoOpi = false
+isReplacing TestataFlusso = false
+
+abbrev pub lineRowsOf : Holds → List Range
+lineRowsOf (Text f) = lineRows false
+lineRowsOf (Rows p) = lineRows (isReplacing p)
 
 -- a named child of these rows, that holds what its row says, of at most d levels
 pub record Shaped (rs : List Range) (d : ℕ) (s : List ℕ) (k : Kept) : Type 0 where

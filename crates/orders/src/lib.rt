@@ -20,12 +20,14 @@ ghost use Rattle.markup.specs.Noted.{Noted};
 ghost use Rattle.tokens.specs.Tokens.{whiteAt};
 ghost use Rattle.rows.specs.declared.Holds.the-variants.{Rows};
 ghost use Rattle.rows.specs.declared.Next.the-variants.{Named, Done};
+ghost use mathlib.Core.Bool.{true};
+ghost use Rattle.order.specs.Ordinativo.{noName, noLine};
 ghost use Rattle.rows.specs.Table.{table};
 ghost use Rattle.rows.specs.Kept.{keptFrom, nextOf};
 ghost use Rattle.structure.specs.Structure.{ranges};
-ghost use Rattle.orders.specs.Shape.{orderRows, lineRows, Shaped, Filled};
+ghost use Rattle.orders.specs.Shape.{orderRows, lineRows, namedRows, isReplacing, lineRowsOf, Shaped, Filled};
 ghost use Rattle.orders.specs.Said.{numberSaid, numberOf, daySaid, dayOf, operationSaid, saidOperation};
-ghost use Rattle.orders.specs.Orders.{those, lineBy, lineOf, linesIn, kindOf, orderBy, orderOf, holdsOrder, isOrder, ordersIn};
+ghost use Rattle.orders.specs.Orders.{those, namedBy, namedOf, namedIn, lineBy, lineOf, linesIn, kindOf, orderBy, orderOf, holdsOrder, isOrder, ordersIn};
 
 // The number, the date or the operation that a field says. (The defaults are never used: the field stands.)
 fn number_said(v: Value) -> u64
@@ -123,29 +125,109 @@ pub fn first_named(s: &[u8], from: usize, parent: Parent, past: &[u32]) -> Kept
     }
 }
 
+// The line that is named, whose fields begin at a place.
+fn named_from(s: &[u8], from: usize, parent: Parent, past: &[u32]) -> NamedLine
+    requires { ⌜ Filled namedRows 0 parent (now s) 0 from × Noted (now s) (now past) ⌝ }
+    ensures { λ r. ⌜ r ≡ namedBy (now (s .entry)) (keptFrom parent (now (s .entry)) from) ⌝ }
+{
+    let a = first_named(s, from, parent, past).child;
+    let number = number_of(rows::read_field(s, a, Form::Numero));
+    let b = first_named(s, a.after, parent, past).child;
+    let line = number_of(rows::read_field(s, b, Form::Progressivo));
+    let c = first_named(s, b.after, parent, past).child;
+    let esercizio = number_of(rows::read_field(s, c, Form::Esercizio));
+    NamedLine {
+        number,
+        line,
+        esercizio,
+    }
+}
+
+// No line is named.
+fn none_named() -> NamedLine
+    ensures { λ r. ⌜ r ≡ noName ⌝ }
+{
+    NamedLine {
+        number: 0,
+        line: 0,
+        esercizio: 0,
+    }
+}
+
+// The line that a sostituzione structure names. (None holds text only: the structure says so.)
+fn named_of(s: &[u8], k: Kept, past: &[u32]) -> NamedLine
+    requires { ⌜ Shaped namedRows 1 (now s) k × Noted (now s) (now past) ⌝ }
+    ensures { λ r. ⌜ r ≡ namedOf (now (s .entry)) k ⌝ }
+{
+    let c = k.child;
+    let h = k.holds;
+    match h {
+        Holds::Text(_) => none_named(),
+        Holds::Rows(p) => named_from(s, scan::white_end(s, c.gt + 1), p, past),
+    }
+}
+
+// Whether a line is one of an order that replaces others.
+fn is_replacing(parent: Parent) -> bool
+    ensures { λ r. ⌜ r ≡ isReplacing parent ⌝ }
+{
+    match parent {
+        Parent::FlussoOrdinativi => false,
+        Parent::Mandato(_) => false,
+        Parent::Reversale(_) => false,
+        Parent::InformazioniBeneficiario(r) => r,
+        Parent::InformazioniVersante(r) => r,
+        Parent::SostituzioneMandato => false,
+        Parent::SostituzioneReversale => false,
+        Parent::Beneficiario => false,
+        Parent::Versante => false,
+        Parent::MessaggiEsito => false,
+        Parent::TestataMessaggio => false,
+        Parent::EsitoReversali => false,
+        Parent::EsitoMandati => false,
+        Parent::ErroriReversali => false,
+        Parent::ErroriMandati => false,
+        Parent::FlussoOpi => false,
+        Parent::TestataFlusso => false,
+    }
+}
+
+// The line that is named by one whose party begins at a place: the structure stands after it.
+fn named_after(s: &[u8], from: usize, parent: Parent, past: &[u32]) -> NamedLine
+    requires { ⌜ (ranges (table parent) ≡ lineRows true) × Filled (drop 2 (lineRows true)) 1 parent (now s) 2 from × Noted (now s) (now past) × (isReplacing parent ≡ true) ⌝ }
+    ensures { λ r. ⌜ r ≡ namedIn (now (s .entry)) (keptFrom parent (now (s .entry)) from) ⌝ }
+{
+    let a = first_named(s, from, parent, past).child;
+    let k = first_named(s, a.after, parent, past);
+    named_of(s, k, past)
+}
+
 // The line whose named children begin at a place.
 fn line_from(s: &[u8], from: usize, parent: Parent, past: &[u32]) -> Line
-    requires { ⌜ Filled lineRows 1 parent (now s) 0 from × Noted (now s) (now past) ⌝ }
+    requires { ⌜ (ranges (table parent) ≡ lineRows (isReplacing parent)) × Filled (lineRows (isReplacing parent)) 1 parent (now s) 0 from × Noted (now s) (now past) ⌝ }
     ensures { λ r. ⌜ r ≡ lineBy (now (s .entry)) (keptFrom parent (now (s .entry)) from) ⌝ }
 {
     let a = first_named(s, from, parent, past).child;
     let progressivo = number_of(rows::read_field(s, a, Form::Progressivo));
     let b = first_named(s, a.after, parent, past).child;
     let amount = number_of(rows::read_field(s, b, Form::Importo));
+    if is_replacing(parent) {
+        return Line {
+            progressivo,
+            amount,
+            named: named_after(s, b.after, parent, past),
+        };
+    }
     Line {
         progressivo,
         amount,
-        named: NamedLine {
-            number: 0,
-            line: 0,
-            esercizio: 0,
-        },
+        named: none_named(),
     }
 }
 
 // A line. (None holds text only: the structure says so.)
 fn line_of(s: &[u8], k: Kept, past: &[u32]) -> Line
-    requires { ⌜ Shaped lineRows 2 (now s) k × Noted (now s) (now past) ⌝ }
+    requires { ⌜ Shaped (lineRowsOf (k .holds)) 2 (now s) k × Noted (now s) (now past) ⌝ }
     ensures { λ r. ⌜ r ≡ lineOf (now (s .entry)) k ⌝ }
 {
     let c = k.child;
@@ -198,10 +280,12 @@ fn kind_of(parent: Parent) -> u8
 {
     match parent {
         Parent::FlussoOrdinativi => 0,
-        Parent::Mandato => 1,
-        Parent::Reversale => 2,
-        Parent::InformazioniBeneficiario => 0,
-        Parent::InformazioniVersante => 0,
+        Parent::Mandato(_) => 1,
+        Parent::Reversale(_) => 2,
+        Parent::InformazioniBeneficiario(_) => 0,
+        Parent::InformazioniVersante(_) => 0,
+        Parent::SostituzioneMandato => 0,
+        Parent::SostituzioneReversale => 0,
         Parent::Beneficiario => 0,
         Parent::Versante => 0,
         Parent::MessaggiEsito => 0,
@@ -248,8 +332,12 @@ pub fn order_of(s: &[u8], k: Kept, past: &[u32]) -> Order
     let c = k.child;
     let h = k.holds;
     match h {
-        Holds::Text(_) => order_from(s, 0, Parent::Mandato, past),
-        Holds::Rows(p) => order_from(s, scan::white_end(s, c.gt + 1), p, past),
+        Holds::Text(_) => order_from(s, 0, Parent::Mandato(false), past),
+        Holds::Rows(p) => {
+            let at = c.gt + 1;
+            let q = rows::rows_for(s, at, p, past);
+            order_from(s, scan::white_end(s, at), q, past)
+        }
     }
 }
 

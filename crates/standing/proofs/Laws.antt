@@ -24,6 +24,7 @@ use Rattle.children.specs.declared.Child.{Child}
 use Rattle.children.proofs.Laws.{Lies}
 use Rattle.rows.specs.Table.{table}
 use Rattle.rows.specs.Kept.{keptFrom, nextOf}
+use Rattle.rows.specs.Replaces.{rowsFor}
 use Rattle.rows.proofs.Laws.{next-at, next-done}
 use Rattle.structure.specs.Structure.{Range, ranges, textOnly, holdsAt, keptHolds, fitsAt}
 use Rattle.structure.specs.Walk.{filledFrom, countedOf}
@@ -92,7 +93,7 @@ module _ (s : List ℕ) (f : Form) (c : Child) where
 -- what a named child holds
 abbrev pub heldStanding : ℕ → List ℕ → Child → held.Holds → Standing
 heldStanding d s c (Text f) = fieldStanding s f c
-heldStanding d s c (Rows q) = standingAt (d - 1) q s (c .gt + 1)
+heldStanding d s c (Rows q) = standingAt (d - 1) (rowsFor q s (c .gt + 1)) s (c .gt + 1)
 
 held-by : (d : ℕ) (s : List ℕ) (k : Kept) (h : held.Holds) → standingBy (holdsAt (deeper d s) s h (k .child .gt + 1)) (firstBad (fieldsIn (below d s) s k h)) ≡ heldStanding d s (k .child) h
 unfolding standingAt fieldStanding firstBad

@@ -27,6 +27,7 @@ use Rattle.rows.specs.declared.Spot.the-variants.{At, Passed}
 use Rattle.rows.specs.declared.Kept.{Kept}
 use Rattle.rows.specs.Table.{table, spotIn}
 use Rattle.rows.specs.Kept.{keepOne, keep, keptFrom}
+use Rattle.rows.specs.Replaces.{rowsFor}
 use Rattle.standing.specs.Readings.{Field, Bad, Place, Nowhere, textOf, fieldsIn, fieldsBy, fieldsAt, badOr, firstBad}
 use Rattle.standing.specs.Shown.{Shown}
 use Rattle.standing.proofs.Readings.{orBad, bad-append}
@@ -107,7 +108,7 @@ level-shown d p s q x below (k ∷ ks) w e =
   where
     held : (h : Holds) → k .holds ≡ h → firstBad (fieldsIn (λ r a. fieldsAt d r s a) s k h) ≡ Place q x → Shown s q x
     held (Text f) h e = field-shown p s k f q x (w .0) h e
-    held (Rows r) h e = below r (k .child .gt + 1) e
+    held (Rows r) h e = below (rowsFor r s (k .child .gt + 1)) (k .child .gt + 1) e
 
     or : (b : Bad) → firstBad (fieldsIn (λ r a. fieldsAt d r s a) s k (k .holds)) ≡ b → orBad b (firstBad (fieldsBy (λ r a. fieldsAt d r s a) s ks)) ≡ Place q x
         → (firstBad (fieldsBy (λ r a. fieldsAt d r s a) s ks) ≡ Place q x → Shown s q x) → Shown s q x

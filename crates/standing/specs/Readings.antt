@@ -13,6 +13,7 @@ use Rattle.rows.specs.declared.Holds.{Holds}
 use Rattle.rows.specs.declared.Holds.the-variants.{Text, Rows}
 use Rattle.rows.specs.declared.Kept.{Kept}
 use Rattle.rows.specs.Kept.{keptFrom}
+use Rattle.rows.specs.Replaces.{rowsFor}
 
 -- a field: the form it is to have, the place of its <, and its text, a part of the flow
 pub record Field : Type 0 where
@@ -27,7 +28,7 @@ textOf s k = part s (k .child .gt + 1) (k .child .to)
 -- the fields of a named child: itself, or those of what it holds
 abbrev pub fieldsIn : (Parent → ℕ → List Field) → List ℕ → Kept → Holds → List Field
 fieldsIn deeper s k (Text f) = record { form = f; lt = k .child .lt; text = textOf s k } ∷ []
-fieldsIn deeper s k (Rows p) = deeper p (k .child .gt + 1)
+fieldsIn deeper s k (Rows p) = deeper (rowsFor p s (k .child .gt + 1)) (k .child .gt + 1)
 
 unfoldable pub fieldsBy : (Parent → ℕ → List Field) → List ℕ → List Kept → List Field
 fieldsBy deeper s [] = []

@@ -95,7 +95,9 @@ pub fn judge(s: &[u8], at: usize, parent: Parent, d: usize, past: &[u32]) -> Sta
                 so_far = then(so_far, field_standing(s, c, f, past));
             }
             Holds::Rows(q) => {
-                so_far = then(so_far, judge(s, c.gt + 1, q, d - 1, past));
+                let inner = c.gt + 1;
+                let p = rows::rows_for(s, inner, q, past);
+                so_far = then(so_far, judge(s, inner, p, d - 1, past));
             }
         }
     }

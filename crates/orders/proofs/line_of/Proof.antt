@@ -1,8 +1,6 @@
 use mathlib.Core.Path.{_≡_}
 use Rattle.rows.specs.declared.Holds.the-variants.{Rows}
-use Rattle.orders.specs.Shape.{lineRows}
-use Rattle.orders.proofs.Laws.{one, shaped-some, shaped-inside, line-inside}
-use lib.ListN.{drop}
+use Rattle.orders.proofs.Laws.{line-some, line-shaped, line-inside}
 use borrow.Author.Needs.{needs}
 use Rattle.orders.proofs.line_of.Statement.{statement}
 use Rattle.orders.proofs.line_of.Tie as tie
@@ -25,11 +23,11 @@ line-from-requires c κs =
     let k = c .before .before .before .before .before .before .before .before .args .k in
     let p = c .before .before .before .h .given .0 .0 in
     let e : k .holds ≡ Rows p = c .before .before .before .h .given .1 in
-    let n = shaped-inside lineRows 1 s k p e (c .before .before .before .before .before .before .before .before .pre .0) in
-    (rw (c .white-end .ensures) (n .filled), c .before .before .before .before .before .before .before .before .pre .1)
+    let n = line-shaped s k p e (c .before .before .before .before .before .before .before .before .pre .0) in
+    (n .rows, rw (c .white-end .ensures) (n .filled), c .before .before .before .before .before .before .before .before .pre .1)
 
 returns : tie.Need-returns
-returns c = absurd (shaped-some one (drop 1 lineRows) 2 (c .before .before .before .before .before .args .s .now) (c .before .before .before .before .before .args .k) (c .enum-told .given .0 .0) (c .enum-told .given .1) (c .before .before .before .before .before .pre .0))
+returns c = absurd (line-some (c .before .before .before .before .before .args .s .now) (c .before .before .before .before .before .args .k) (c .enum-told .given .0 .0) (c .enum-told .given .1) (c .before .before .before .before .before .pre .0))
 
 returns-2 : tie.Need-returns-2
 returns-2 c =
@@ -37,7 +35,7 @@ returns-2 c =
     let k = c .before .before .before .before .before .before .before .before .before .args .k in
     let p = c .before .before .before .before .h .given .0 .0 in
     let e : k .holds ≡ Rows p = c .before .before .before .before .h .given .1 in
-    let n = shaped-inside lineRows 1 s k p e (c .before .before .before .before .before .before .before .before .before .pre .0) in
+    let n = line-shaped s k p e (c .before .before .before .before .before .before .before .before .before .pre .0) in
     line-inside s k p (c .before .white-end .result) (c .before .white-end .ensures) n (c .line-from .result) (c .line-from .ensures)
 
 pub line-of-spec : {M : Type 1} → statement M

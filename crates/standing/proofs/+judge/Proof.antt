@@ -16,6 +16,7 @@ use Rattle.standing.proofs.judge.Reads as judge
 use Rattle.standing.proofs.judge.Kinds as judge-kinds
 use Rattle.standing.proofs.+judge.Lts-judge as judge-lts
 use Rattle.rows.proofs.next_named.Reads as next-named-reads
+use Rattle.rows.proofs.rows_for.Reads as rows-for-reads
 use Rattle.scan.proofs.white_end.Reads as white-end-reads
 use Rattle.standing.proofs.field_standing.Reads as field-standing-reads
 use Rattle.standing.proofs.has_structure.Reads as has-structure-reads
@@ -36,7 +37,7 @@ abbrev judge-below : ℕ → In 2 judge-kinds.ps
 judge-below t = and 2 judge-kinds.ps (falls 2 judge-kinds.ps _<_ μ-judge t) judge.Pre
 
 abbrev judge-calls : ℕ → judge-lts.Claims
-judge-calls t = (white-end-reads.Asked, white-end-reads.Learnt, has-structure-reads.Asked, has-structure-reads.Learnt, next-named-reads.Asked, next-named-reads.Learnt, rows-reads.Asked, rows-reads.Learnt, filled-reads.Asked, filled-reads.Learnt, counted-reads.Asked, counted-reads.Learnt, field-standing-reads.Asked, field-standing-reads.Learnt, then-reads.Asked, then-reads.Learnt, judge-below t, judge.Post)
+judge-calls t = (white-end-reads.Asked, white-end-reads.Learnt, has-structure-reads.Asked, has-structure-reads.Learnt, next-named-reads.Asked, next-named-reads.Learnt, rows-reads.Asked, rows-reads.Learnt, filled-reads.Asked, filled-reads.Learnt, counted-reads.Asked, counted-reads.Learnt, field-standing-reads.Asked, field-standing-reads.Learnt, then-reads.Asked, then-reads.Learnt, rows-for-reads.Asked, rows-for-reads.Learnt, judge-below t, judge.Post)
 
 abbrev judge-Inv-loop : judge-lts.InvT-loop
 judge-Inv-loop s at parent d past i₀ row₀ n₀ so-far₀ i row n so-far = Goes (standingAt d parent s at) d parent s so-far i row n
@@ -122,35 +123,41 @@ judge-loop-again t c =
 judge-enum-known-h-2 : (t : ℕ) → judge-lts.Need-enum-known-h-2 (judge-calls t) (judge-at t) judge.Post judge-Inv-loop judge-μ-loop
 judge-enum-known-h-2 t c = search needs
 
-judge-add-judge : (t : ℕ) → judge-lts.Need-add-judge (judge-calls t) (judge-at t) judge.Post judge-Inv-loop judge-μ-loop
-judge-add-judge t c =
+judge-add-inner : (t : ℕ) → judge-lts.Need-add-inner (judge-calls t) (judge-at t) judge.Post judge-Inv-loop judge-μ-loop
+judge-add-inner t c =
     let g = found _ (c .before .before .before .before .before .before .before .before .before .before .before .before .before .before .before .before .before .before .before .args .d) _ _ (c .before .before .before .before .before .before .before .before .before .before .before .before .before .before .loop .so-far) _ _ _ (c .before .before .before .before .before .before .before .before .before .before .before .before .before .before .loop .inv) _ (sym (c .before .before .before .before .before .before .before .before .before .before .before .next-named .ensures) ∙ c .before .before .before .before .before .before .before .before .before .k .given .1) in
     let l = g .lies in
     omega arith
 
+judge-rows-for-requires : (t : ℕ) → judge-lts.Need-rows-for-requires (judge-calls t) (judge-at t) judge.Post judge-Inv-loop judge-μ-loop
+judge-rows-for-requires t c κs =
+    let g = found _ (c .before .before .before .before .before .before .before .before .before .before .before .before .before .before .before .before .before .before .before .args .d) _ _ (c .before .before .before .before .before .before .before .before .before .before .before .before .before .before .loop .so-far) _ _ _ (c .before .before .before .before .before .before .before .before .before .before .before .before .before .before .loop .inv) _ (sym (c .before .before .before .before .before .before .before .before .before .before .before .next-named .ensures) ∙ c .before .before .before .before .before .before .before .before .before .k .given .1) in
+    let l = g .lies in
+    (omega arith, c .before .before .before .before .before .before .before .before .before .before .before .before .before .before .before .before .before .before .before .pre .1 .1)
+
 judge-sub-judge : (t : ℕ) → judge-lts.Need-sub-judge (judge-calls t) (judge-at t) judge.Post judge-Inv-loop judge-μ-loop
-judge-sub-judge t c = omega (arith, c .before .before .before .before .before .before .before .before .before .before .before .before .before .before .before .before .if1 .left)
+judge-sub-judge t c = omega (arith, c .before .before .before .before .before .before .before .before .before .before .before .before .before .before .before .before .before .if1 .left)
 
 judge-judge-requires : (t : ℕ) → judge-lts.Need-judge-requires (judge-calls t) (judge-at t) judge.Post judge-Inv-loop judge-μ-loop
 judge-judge-requires t c κs =
-    let g = found _ (c .before .before .before .before .before .before .before .before .before .before .before .before .before .before .before .before .before .before .before .args .d) _ _ (c .before .before .before .before .before .before .before .before .before .before .before .before .before .before .loop .so-far) _ _ _ (c .before .before .before .before .before .before .before .before .before .before .before .before .before .before .loop .inv) _ (sym (c .before .before .before .before .before .before .before .before .before .before .before .next-named .ensures) ∙ c .before .before .before .before .before .before .before .before .before .k .given .1) in
+    let g = found _ (c .before .before .before .before .before .before .before .before .before .before .before .before .before .before .before .before .before .before .before .before .args .d) _ _ (c .before .before .before .before .before .before .before .before .before .before .before .before .before .before .before .loop .so-far) _ _ _ (c .before .before .before .before .before .before .before .before .before .before .before .before .before .before .before .loop .inv) _ (sym (c .before .before .before .before .before .before .before .before .before .before .before .before .next-named .ensures) ∙ c .before .before .before .before .before .before .before .before .before .before .k .given .1) in
     let l = g .lies in
-    (omega (arith, c .before .before .before .before .before .before .before .before .before .before .before .before .before .before .before .before .if1 .left), (omega arith, c .before .before .before .before .before .before .before .before .before .before .before .before .before .before .before .before .before .before .before .pre .1 .1))
+    (omega (arith, c .before .before .before .before .before .before .before .before .before .before .before .before .before .before .before .before .before .if1 .left, c .before .before .before .before .before .before .before .before .before .before .before .before .before .before .before .before .before .before .before .before .pre .0), (omega arith, c .before .before .before .before .before .before .before .before .before .before .before .before .before .before .before .before .before .before .before .before .pre .1 .1))
 
 judge-then-requires-2 : (t : ℕ) → judge-lts.Need-then-requires-2 (judge-calls t) (judge-at t) judge.Post judge-Inv-loop judge-μ-loop
 judge-then-requires-2 t c κs = search needs
 
 judge-loop-less-2 : (t : ℕ) → judge-lts.Need-loop-less-2 (judge-calls t) (judge-at t) judge.Post judge-Inv-loop judge-μ-loop
 judge-loop-less-2 t c =
-    let g = found _ (c .before .before .before .before .before .before .before .before .before .before .before .before .before .before .before .before .before .before .before .before .before .args .d) _ _ (c .before .before .before .before .before .before .before .before .before .before .before .before .before .before .before .before .loop .so-far) _ _ _ (c .before .before .before .before .before .before .before .before .before .before .before .before .before .before .before .before .loop .inv) _ (sym (c .before .before .before .before .before .before .before .before .before .before .before .before .before .next-named .ensures) ∙ c .before .before .before .before .before .before .before .before .before .before .before .k .given .1) in
+    let g = found _ (c .before .before .before .before .before .before .before .before .before .before .before .before .before .before .before .before .before .before .before .before .before .before .args .d) _ _ (c .before .before .before .before .before .before .before .before .before .before .before .before .before .before .before .before .before .loop .so-far) _ _ _ (c .before .before .before .before .before .before .before .before .before .before .before .before .before .before .before .before .before .loop .inv) _ (sym (c .before .before .before .before .before .before .before .before .before .before .before .before .before .before .next-named .ensures) ∙ c .before .before .before .before .before .before .before .before .before .before .before .before .k .given .1) in
     let l = g .lies in
     omega arith
 
 judge-loop-again-2 : (t : ℕ) → judge-lts.Need-loop-again-2 (judge-calls t) (judge-at t) judge.Post judge-Inv-loop judge-μ-loop
 judge-loop-again-2 t c =
-    let g = found _ (c .before .before .before .before .before .before .before .before .before .before .before .before .before .before .before .before .before .before .before .before .before .args .d) _ _ (c .before .before .before .before .before .before .before .before .before .before .before .before .before .before .before .before .loop .so-far) _ _ _ (c .before .before .before .before .before .before .before .before .before .before .before .before .before .before .before .before .loop .inv) _ (sym (c .before .before .before .before .before .before .before .before .before .before .before .before .before .next-named .ensures) ∙ c .before .before .before .before .before .before .before .before .before .before .before .k .given .1) in
+    let g = found _ (c .before .before .before .before .before .before .before .before .before .before .before .before .before .before .before .before .before .before .before .before .before .before .args .d) _ _ (c .before .before .before .before .before .before .before .before .before .before .before .before .before .before .before .before .before .loop .so-far) _ _ _ (c .before .before .before .before .before .before .before .before .before .before .before .before .before .before .before .before .before .loop .inv) _ (sym (c .before .before .before .before .before .before .before .before .before .before .before .before .before .before .next-named .ensures) ∙ c .before .before .before .before .before .before .before .before .before .before .before .before .k .given .1) in
     let l = g .lies in
-    g .on (sym (c .before .before .before .before .before .before .before .before .filled2 .ensures) ∙ not-false _ (c .before .before .before .before .before .before .before .if4 .left)) _ (c .before .before .before .before .before .before .counted .ensures) _ (c .before .before .before .before .h2 .given .1) _ (c .before .judge .ensures) _ (c .then2 .ensures)
+    g .on (sym (c .before .before .before .before .before .before .before .before .before .filled2 .ensures) ∙ not-false _ (c .before .before .before .before .before .before .before .before .if4 .left)) _ (c .before .before .before .before .before .before .before .counted .ensures) _ (c .before .before .before .before .before .h2 .given .1) _ (rw (c .before .before .rows-for .ensures) at (c .before .judge .ensures)) _ (c .then2 .ensures)
 
 judge-returns-5 : (t : ℕ) → judge-lts.Need-returns-5 (judge-calls t) (judge-at t) judge.Post judge-Inv-loop judge-μ-loop
 judge-returns-5 t c = not-structured (c .before .before .loop .so-far) _ (sym (c .before .has-structure .ensures) ∙ c .if2 .left) ∙ sym (c .before .before .loop .inv .3)
@@ -181,7 +188,8 @@ pub +judge-spec : {M : Type 1} → statement M
     (judge-loop-less t)
     (judge-loop-again t)
     (judge-enum-known-h-2 t)
-    (judge-add-judge t)
+    (judge-add-inner t)
+    (judge-rows-for-requires t)
     (judge-sub-judge t)
     (judge-judge-requires t)
     (judge-then-requires-2 t)
