@@ -21,6 +21,7 @@ use Rattle.rows.specs.declared.Holds.the-variants.{Text, Rows}
 use Rattle.rows.specs.declared.Kept.{Kept}
 use Rattle.rows.specs.Table.{_is_, once}
 use Rattle.rows.specs.Kept.{keptFrom, nextOf}
+use Rattle.rows.specs.Replaces.{rowsFor}
 use Rattle.structure.specs.Structure.{levels}
 use Rattle.order.specs.Ordinativo.{Ordinativo}
 use Rattle.orders.specs.Orders.{those, inRow, inside, textIn}
@@ -44,7 +45,7 @@ use Rattle.tree.proofs.Names.{has-names, asKept}
 use Rattle.tree.proofs.ByName.{rank-levels}
 use Rattle.tree.proofs.Orders.{fit-all, row-name, row-fits, same-one, cons-one, all-one, never, kids-of, text-at}
 use Rattle.tree.proofs.Written.{flow-good}
-use Rattle.tree.proofs.Theorem.{root-of, flow-stands, right-root, book-tree, document-answered}
+use Rattle.tree.proofs.Theorem.{root-of, root-fixed, flow-stands, right-root, book-tree, document-answered}
 use Rattle.message.specs.Message.{Entry, Message, TextOk, isOutcome, EntryOk, Every, every-none, every-next, countOk, MessageOk}
 use Rattle.message.specs.Written.{messageBytes}
 use Rattle.message.specs.Read.{firstKids, read, MessageOf}
@@ -109,7 +110,7 @@ texts-ok Oil ts o = record {
   body = text-there o {n = 3} {lo = 1} {hi = 1} {f = CodiceEnte} (record { row = (_, refl); spot = refl }) refl;
 }
 texts-ok Opi ts o =
-    let i : Sound 10 3 TestataFlusso (levels.firstKids (childrenNamed ("testata_flusso" ∷ []) ts)) = subst (Sound 10 3 TestataFlusso) (same-kids (childrenNamed ("testata_flusso" ∷ []) ts)) (row-sound o {n = 0} {lo = 1} {hi = 1} {x = "testata_flusso"} {q = TestataFlusso} (record { row = (_, refl); spot = refl }) refl) in
+    let i : Sound 10 3 TestataFlusso (levels.firstKids (childrenNamed ("testata_flusso" ∷ []) ts)) = subst (Sound 10 3 TestataFlusso) (same-kids (childrenNamed ("testata_flusso" ∷ []) ts)) (row-sound o {n = 0} {lo = 1} {hi = 1} {x = "testata_flusso"} {q = TestataFlusso} (record { row = (_, refl); spot = refl }) (λ b. refl) refl) in
     record {
       abi = text-there i {n = 0} {lo = 1} {hi = 1} {f = CodiceAbi} (record { row = (_, refl); spot = refl }) refl;
       flow = text-there i {n = 1} {lo = 1} {hi = 1} {f = Identificativo} (record { row = (_, refl); spot = refl }) refl;
@@ -120,7 +121,7 @@ texts-ok Opi ts o =
 module _ (s : List ℕ) where
   inner-id : (ks : List Kept) (l : List Tree) → asTrees (treeAt 11 s) ks ≡ asKept 0 (Rows TestataFlusso) l → allTrees (keptFits (fitsTree 3)) (asTrees (treeAt 11 s) ks) ≡ true
       → textIn 1 s (insideNext s (nextOf ks)) ≡ textNamed "identificativo_flusso" (levels.firstKids l)
-  unfolding inside textIn those childrenNamed
+  unfolding inside rowsFor textIn those childrenNamed
   inner-id [] [] e a = refl
   inner-id [] (t ∷ l) e a = never e
   inner-id (k ∷ ks) [] e a = never (sym e)
@@ -145,13 +146,13 @@ module _ (e : Edition) (s : List ℕ) (t : Tree) (at : ℕ) (d : ReadsAs (flowKi
   flow-sound =
       let w = flow-stands e s t at d v in
       let g : Good 12 t = rw (d .1) at (flow-good (d .0)) in
-      record { right = right-root (rootOf e) levels (rank-levels (rootOf e)) "flusso_ordinativi" t (w .0) (w .1); goods = good-kids g }
+      record { right = right-root (rootOf e) levels (root-fixed e) (rank-levels (rootOf e)) "flusso_ordinativi" t (w .0) (w .1); goods = good-kids g }
 
   flow-id : identificativoOf e s at ≡ textNamed "identificativo_flusso" (testataTree e (kidsIn (heldOf t)))
   flow-id =
       let r = root-of s t d in
       let w = flow-stands e s t at d v in
-      let f = right-root (rootOf e) levels (rank-levels (rootOf e)) "flusso_ordinativi" t (w .0) (w .1) .fits in
+      let f = right-root (rootOf e) levels (root-fixed e) (rank-levels (rootOf e)) "flusso_ordinativi" t (w .0) (w .1) .fits in
       let z : at ≡ contentPlace (d .0) = sym (w .2) in
       let k = r .kids in
       let i = whiteAt s (contentPlace (d .0)) in
@@ -188,7 +189,7 @@ module _ (e : Edition) (s : List ℕ) (t : Tree) (at : ℕ) (d : ReadsAs (flowKi
       }
 
 pub written-ok : (e : Edition) (s : List ℕ) (at : ℕ) → verdictOf e s ≡ verdict.Stands at → (o : List ℕ) (c : Caller) → outcomesFit (flowOrders e s at) o ≡ true → CallerOk c → MessageOk (flowMessage e s at o c)
-written-ok e s at v o c x k = go (document-answered (flowKind e) s)
+written-ok e s at v o c x k = go (document-answered (flowKind e) (root-fixed e) s)
   where
     go : DocumentAnswered (flowKind e) s → MessageOk (flowMessage e s at o c)
     go (no-tree n) = let b = n .breaks in let y : _≡_ {A = ℕ} 0 1 = cc in absurd (omega arith)

@@ -1,5 +1,5 @@
 -- What the structure and the fields say of the children of a name: the other way round than Laid (crates/tree).
-use mathlib.Core.Path.{_≡_, refl, sym, ap, _∙_}
+use mathlib.Core.Path.{_≡_, refl, sym, ap, _∙_, subst}
 use mathlib.Core.Logic.{_⊎_, inl, inr}
 use mathlib.Core.List.{List, [], _∷_}
 use mathlib.Core.Bool.{Bool, true, false, cond, _&&_, _||_}
@@ -15,6 +15,8 @@ use Rattle.fields.specs.declared.Judged.{Judged}
 use Rattle.fields.specs.declared.Judged.the-variants as judged
 use Rattle.fields.specs.Fields.{fieldStands}
 use Rattle.rows.specs.declared.Parent.{Parent}
+use Rattle.tree.specs.Structure.{replacesIn, rowsIn}
+use Rattle.tree.proofs.ByName.{Fixed}
 use Rattle.rows.specs.declared.Holds.{Holds}
 use Rattle.rows.specs.declared.Holds.the-variants.{Text as TextOf, Rows}
 use Rattle.rows.specs.declared.Spot.the-variants as spot
@@ -116,12 +118,14 @@ module _ {e d : ℕ} {p : Parent} {ts : Trees} (s : Sound e (suc d) p ts) {n lo 
         go (inr k) = k
 
 -- ELEMENTS that hold elements
-module _ {e d : ℕ} {p : Parent} {ts : Trees} (s : Sound (suc e) (suc d) p ts) {n lo hi : ℕ} {x : String} {q : Parent} (at : RowAt p n lo hi x (Rows q)) where
+module _ {e d : ℕ} {p : Parent} {ts : Trees} (s : Sound (suc e) (suc d) p ts) {n lo hi : ℕ} {x : String} {q : Parent} (at : RowAt p n lo hi x (Rows q)) (fixed : Fixed q) where
   each-sound : (l : List Tree) → Every (λ (t : Tree). right d (record { tree = t; row = n; holds = Rows q }) ≡ true) l → Every (Good (suc e)) l → Every (λ (t : Tree). Sound e d q (kidsIn (heldOf t))) l
   each-sound [] a c = every-none
   each-sound (t ∷ l) (every-next a as′) (every-next c cs) =
-      let b = both (fitsTree d q (kidsIn (heldOf t))) (allStand (fieldsTree d q (kidsIn (heldOf t)))) a in
-      every-next (record { right = record { fits = b .0; stands = b .1 }; goods = good-kids c }) (each-sound l as′ cs)
+      let ks = kidsIn (heldOf t) in
+      let f = fixed (replacesIn ks) in
+      let b = both (fitsTree d (rowsIn q ks) ks) (allStand (fieldsTree d (rowsIn q ks) ks)) a in
+      every-next (record { right = record { fits = subst (λ (r : Parent). fitsTree d r ks ≡ true) f (b .0); stands = subst (λ (r : Parent). allStand (fieldsTree d r ks) ≡ true) f (b .1) }; goods = good-kids c }) (each-sound l as′ cs)
 
   pub rows-sound : Every (λ (t : Tree). Sound e d q (kidsIn (heldOf t))) (childrenNamed (x ∷ []) ts)
   rows-sound = each-sound (childrenNamed (x ∷ []) ts) (row-each s at) (s .goods x)

@@ -124,7 +124,7 @@ one-reading x s = let a = reading-some x s in record { reading = a .0; said = a 
 -- WRITTEN
 written-stands : (m : Message) → MessageOk m → Stands (messageTree m)
 written-stands m k =
-    let s = right-structured 3 MessaggiEsito (omega arith) "messaggi_esito_applicativo" (rootOut m) (message-right m k) in
+    let s = right-structured 3 MessaggiEsito (λ b. refl) (omega arith) "messaggi_esito_applicativo" (rootOut m) (message-right m k) in
     let a = message-agrees m k in
     record { structured = s .0; fields = s .1; count = message-entries m k; reversali = a .0; mandati = a .1 }
 
@@ -156,7 +156,7 @@ read-written x m k =
 sound-of : {ids : Bool} (s : List ℕ) (t : Tree) (m : Message) → ReadsAs ids s t → Standing t m → Sound 11 3 MessaggiEsito (kidsIn (heldOf t))
 sound-of s t m r w =
     let g : Good 12 t = rw (r .1) at (flow-good (r .0)) in
-    record { right = right-root MessaggiEsito 3 (omega arith) "messaggi_esito_applicativo" t (w .structured) (w .fields); goods = good-kids g }
+    record { right = right-root MessaggiEsito 3 (λ b. refl) (omega arith) "messaggi_esito_applicativo" t (w .structured) (w .fields); goods = good-kids g }
 
 tree-ok : {ids : Bool} (s : List ℕ) (t : Tree) (m : Message) → ReadsAs ids s t → readingOn t ≡ read m → MessageOk m
 tree-ok s t m r e =
@@ -192,7 +192,7 @@ each-said w sp [] k a = every-none
 each-said w sp (t ∷ l) (every-next c k) a =
     let ts = kidsIn (heldOf t) in
     let b = both (entryOk w ts) (allOk (eachOf (entryOk w) l)) a in
-    every-next (record { word = said-by w sp (esitoOperazione (textNamed "esito_operazione" ts)) (childrenNamed ("lista_errori" ∷ []) ts) (rows-sound c (sp .errors)) (b .0) }) (each-said w sp l k (b .1))
+    every-next (record { word = said-by w sp (esitoOperazione (textNamed "esito_operazione" ts)) (childrenNamed ("lista_errori" ∷ []) ts) (rows-sound c (sp .errors) (sp .errors-fixed)) (b .0) }) (each-said w sp l k (b .1))
 
 pub words-kept : {ids : Bool} (s : List ℕ) (t : Tree) (m : Message) → ReadsAs ids s t → readingOn t ≡ read m
     → Every (WordSaid reversaleWords) (childrenNamed ("esito_reversali" ∷ []) (kidsIn (heldOf t))) × Every (WordSaid mandatoWords) (childrenNamed ("esito_mandati" ∷ []) (kidsIn (heldOf t)))
@@ -203,6 +203,6 @@ words-kept s t m r e =
     let ts = kidsIn (heldOf t) in
     let a = entries-agree reversaleWords (childrenNamed ("esito_reversali" ∷ []) ts) (entriesOff mandatoWords (childrenNamed ("esito_mandati" ∷ []) ts) Nowhere) (w .agree) in
     let b = entries-agree mandatoWords (childrenNamed ("esito_mandati" ∷ []) ts) Nowhere (a .1) in
-    let x = rows-sound o {n = 2} {lo = 0} {hi = 64} {x = "esito_reversali"} {q = EsitoReversali} (record { row = (_, refl); spot = refl }) in
-    let y = rows-sound o {n = 3} {lo = 0} {hi = 64} {x = "esito_mandati"} {q = EsitoMandati} (record { row = (_, refl); spot = refl }) in
+    let x = rows-sound o {n = 2} {lo = 0} {hi = 64} {x = "esito_reversali"} {q = EsitoReversali} (record { row = (_, refl); spot = refl }) (λ b. refl) in
+    let y = rows-sound o {n = 3} {lo = 0} {hi = 64} {x = "esito_mandati"} {q = EsitoMandati} (record { row = (_, refl); spot = refl }) (λ b. refl) in
     (each-said reversaleWords spelt-reversale (childrenNamed ("esito_reversali" ∷ []) ts) x (a .0), each-said mandatoWords spelt-mandato (childrenNamed ("esito_mandati" ∷ []) ts) y (b .0))

@@ -20,6 +20,7 @@ use Rattle.fields.specs.declared.Form.the-variants.{Identificativo, Esercizio, 
 use Rattle.fields.specs.Fields.{fieldStands}
 use Rattle.orders.specs.Orders.{valueOf, dateOf}
 use Rattle.rows.specs.declared.Parent.{Parent}
+use Rattle.tree.proofs.ByName.{Fixed}
 use Rattle.rows.specs.declared.Parent.the-variants.{MessaggiEsito, TestataMessaggio, EsitoReversali, EsitoMandati, ErroriReversali, ErroriMandati}
 use Rattle.rows.specs.declared.Holds.the-variants.{Text as TextOf, Rows}
 use Rattle.rows.specs.Table.{table, entryRows, errorRows}
@@ -46,6 +47,8 @@ pub record Spelt (p q : Parent) (w : Words) : Type 0 where
   pub element : RowAt q 3 1 1 "elemento" (TextOf Elemento)
   pub rows : table p ≡ entryRows (numberName w) (progressivoName w) (dateName w) q
   pub error-rows : table q ≡ errorRows (progressivoName w)
+  pub entry-fixed : Fixed p
+  pub errors-fixed : Fixed q
 
 pub spelt-reversale : Spelt EsitoReversali ErroriReversali reversaleWords
 unfolding textIs hasAt startsWith
@@ -63,6 +66,8 @@ spelt-reversale = record {
   element = record { row = (_, refl); spot = refl };
   rows = refl;
   error-rows = refl;
+  entry-fixed = λ b. refl;
+  errors-fixed = λ b. refl;
 }
 
 pub spelt-mandato : Spelt EsitoMandati ErroriMandati mandatoWords
@@ -81,6 +86,8 @@ spelt-mandato = record {
   element = record { row = (_, refl); spot = refl };
   rows = refl;
   error-rows = refl;
+  entry-fixed = λ b. refl;
+  errors-fixed = λ b. refl;
 }
 
 -- VALUES of fields that stand
@@ -128,7 +135,7 @@ module _ {p q : Parent} {w : Words} (sp : Spelt p q w) where
 
   entry-ok : {e : ℕ} (ts : Trees) → Sound (suc (suc e)) 2 p ts → EntryOk (entryIn w ts)
   entry-ok ts s = record {
-    code = codes-ok (childrenNamed ("lista_errori" ∷ []) ts) (rows-sound s (sp .errors));
+    code = codes-ok (childrenNamed ("lista_errori" ∷ []) ts) (rows-sound s (sp .errors) (sp .errors-fixed));
     flow = text-there s (sp .flow) refl;
     esercizio = year-ok (textNamed "esercizio" ts) (text-there s (sp .esercizio) refl);
     number = number-ok (textNamed (numberName w) ts) (text-there s (sp .number) refl);
@@ -146,9 +153,9 @@ module _ {p q : Parent} {w : Words} (sp : Spelt p q w) where
 pub values-ok : {e : ℕ} (ts : Trees) → Sound (suc (suc (suc e))) 3 MessaggiEsito ts → countOk (entriesIn ts) ≡ true → MessageOk (messageIn ts)
 unfolding textIs hasAt startsWith
 values-ok ts s c =
-    let h = row-sound s {n = 0} {lo = 1} {hi = 1} {x = "testata_messaggio"} {q = TestataMessaggio} (record { row = (_, refl); spot = refl }) refl in
-    let r = rows-sound s {n = 2} {lo = 0} {hi = 64} {x = "esito_reversali"} {q = EsitoReversali} (record { row = (_, refl); spot = refl }) in
-    let m = rows-sound s {n = 3} {lo = 0} {hi = 64} {x = "esito_mandati"} {q = EsitoMandati} (record { row = (_, refl); spot = refl }) in
+    let h = row-sound s {n = 0} {lo = 1} {hi = 1} {x = "testata_messaggio"} {q = TestataMessaggio} (record { row = (_, refl); spot = refl }) (λ b. refl) refl in
+    let r = rows-sound s {n = 2} {lo = 0} {hi = 64} {x = "esito_reversali"} {q = EsitoReversali} (record { row = (_, refl); spot = refl }) (λ b. refl) in
+    let m = rows-sound s {n = 3} {lo = 0} {hi = 64} {x = "esito_mandati"} {q = EsitoMandati} (record { row = (_, refl); spot = refl }) (λ b. refl) in
     let a = each-length (entryIn reversaleWords) (childrenNamed ("esito_reversali" ∷ []) ts) in
     let b = each-length (entryIn mandatoWords) (childrenNamed ("esito_mandati" ∷ []) ts) in
     record {

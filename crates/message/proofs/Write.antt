@@ -239,7 +239,7 @@ module _ {p q : Parent} {w : Words} (sp : Spelt p q w) (nm : Names w) where
 
   errors-laid : (n : ℕ) → isOutcome n ≡ true → (b : Bool) → eqb n 0 ≡ b → Laid 1 p (optional ("lista_errori" is Rows q) ∷ []) 8 0 (errorsOut w n b)
   errors-laid n k true e = on refl done
-  errors-laid n k false e = lay-node "lista_errori" q _ (sp .errors .spot) (error-right n (refusal n k e)) (on refl done)
+  errors-laid n k false e = lay-node "lista_errori" q _ (sp .errors .spot) (sp .errors-fixed) (error-right n (refusal n k e)) (on refl done)
 
   entry-right : (e : Entry) → EntryOk e → Right 2 p (entryOut w e)
   entry-right e k =
@@ -319,7 +319,7 @@ module _ {p q : Parent} {w : Words} (sp : Spelt p q w) (nm : Names w) (x : Strin
   entries-laid : {r : Row} {rs : List Row} {n : ℕ} {rest : Trees} → spotNamed (table MessaggiEsito) 0 (bytes x) ≡ spot.At n (Rows p) → (c : ℕ) (es : List Entry) → Every EntryOk es
       → ((k : ℕ) → k ≡ c + length es → Laid 2 MessaggiEsito (r ∷ rs) n k rest) → Laid 2 MessaggiEsito (r ∷ rs) n c (entriesOut x w es rest)
   entries-laid z c [] k f = f c (omega arith)
-  entries-laid z c (e ∷ es) (every-next a k) f = lay-node x p _ z (entry-right sp nm e a) (entries-laid z (suc c) es k (λ j h. f j (omega arith)))
+  entries-laid z c (e ∷ es) (every-next a k) f = lay-node x p _ z (sp .entry-fixed) (entry-right sp nm e a) (entries-laid z (suc c) es k (λ j h. f j (omega arith)))
 
   entries-good : (d : ℕ) (es : List Entry) {rest : Trees} → nameOk (bytes x) ≡ true → Every EntryOk es → Rest (suc (suc (suc d))) rest → Rest (suc (suc (suc d))) (entriesOut x w es rest)
   entries-good d [] z k r = r
@@ -426,7 +426,7 @@ pub message-right : (m : Message) → MessageOk m → Right 3 MessaggiEsito (roo
 unfolding textIs hasAt startsWith
 message-right m k =
     laid-right 2 MessaggiEsito _
-    (lay-node "testata_messaggio" TestataMessaggio _ refl (head-right m k) (on refl
+    (lay-node "testata_messaggio" TestataMessaggio _ refl (λ b. refl) (head-right m k) (on refl
     (lay-leaf "identificativo_flusso_BT" Testo _ refl (k .flowBT .form) (on refl
     (entries-laid spelt-reversale names-reversale "esito_reversali" refl 0 (m .reversali) (k .reversali) (λ j h. on (ranged 0 64 j (omega arith) (omega (arith, most-of m k)))
     (entries-laid spelt-mandato names-mandato "esito_mandati" refl 0 (m .mandati) (k .mandati) (λ i g. on (ranged 0 64 i (omega arith) (omega (arith, most-of m k))) done))))))))

@@ -1,5 +1,5 @@
 -- Structure and fields by name, by recursion over the tree (specs/), are those by row number and level (proofs/Levels.antt).
-use mathlib.Core.Path.{_≡_, refl, sym, ap, _∙_}
+use mathlib.Core.Path.{_≡_, refl, sym, ap, subst, _∙_}
 use mathlib.Core.List.{List, [], _∷_, _++_}
 use mathlib.Core.Bool.{Bool, true, false, cond, _&&_, _||_}
 use Prim.Native.Nat.{ℕ, zero, suc, _<_}
@@ -10,15 +10,16 @@ use borrow.Author.Tests.{leb-true, ne-eqb}
 use Rattle.scan.specs.Bytes.{bytes, between, run, textIs}
 use Rattle.scan.proofs.Laws.{both}
 use Rattle.rows.specs.declared.Parent.{Parent}
-use Rattle.rows.specs.declared.Parent.the-variants.{FlussoOrdinativi, Mandato, Reversale, InformazioniBeneficiario, InformazioniVersante, Beneficiario, Versante, MessaggiEsito, TestataMessaggio, EsitoReversali, EsitoMandati, ErroriReversali, ErroriMandati, FlussoOpi, TestataFlusso}
+use Rattle.rows.specs.declared.Parent.the-variants.{FlussoOrdinativi, Mandato, Reversale, InformazioniBeneficiario, InformazioniVersante, SostituzioneMandato, SostituzioneReversale, Beneficiario, Versante, MessaggiEsito, TestataMessaggio, EsitoReversali, EsitoMandati, ErroriReversali, ErroriMandati, FlussoOpi, TestataFlusso}
 use Rattle.rows.specs.declared.Holds.{Holds}
 use Rattle.rows.specs.declared.Holds.the-variants.{Text, Rows}
 use Rattle.rows.specs.declared.Spot.{Spot}
 use Rattle.rows.specs.declared.Spot.the-variants.{At, Passed}
 use Rattle.rows.specs.Table.{Named, _is_, Row, table}
+use Rattle.rows.specs.Replaces.{asReplacing}
 use Rattle.structure.specs.Structure.{ranges, isRow, inOrder, levels}
 use Rattle.tree.specs.Tree.{tree, Held, says, holds, Trees, none, more, nameOf, kidsIn}
-use Rattle.tree.specs.Structure.{Said, named, passed, saidBy, said, keepName, keptNames, hasName, front, inRows, treeFits, heldFits, allFit}
+use Rattle.tree.specs.Structure.{Said, named, passed, saidBy, said, keepName, keptNames, hasName, front, inRows, replacesIn, rowsIn, treeFits, heldFits, allFit}
 use Rattle.tree.specs.Fields.{treeFields, heldFields, allFields}
 use Rattle.tree.proofs.Levels.{amongNames, spotNamed, KeptTree, keepTree, keptTrees, rowsOfTrees, allTrees, fitsHeld, keptFits, fitsTree, fieldsHeld, fieldsOfTrees, fieldsTree}
 use Rattle.tree.proofs.Names.{namesAt, onlyAt, row-is, row-next, tables-apart}
@@ -110,10 +111,12 @@ module _ (p : Parent) where
 -- RANKS: a parent's named children are of lower rank: a test that the tables pass by computing
 abbrev pub rank : Parent → ℕ
 rank FlussoOrdinativi = 3
-rank Mandato = 2
-rank Reversale = 2
-rank InformazioniBeneficiario = 1
-rank InformazioniVersante = 1
+rank (Mandato r) = 2
+rank (Reversale r) = 2
+rank (InformazioniBeneficiario r) = 1
+rank (InformazioniVersante r) = 1
+rank SostituzioneMandato = 0
+rank SostituzioneReversale = 0
 rank Beneficiario = 0
 rank Versante = 0
 rank MessaggiEsito = 2
@@ -153,10 +156,14 @@ module _ (n : ℕ) (x : List ℕ) where
 
 ranked : (p : Parent) → belowRows (rank p) (table p) ≡ true
 ranked FlussoOrdinativi = refl
-ranked Mandato = refl
-ranked Reversale = refl
-ranked InformazioniBeneficiario = refl
-ranked InformazioniVersante = refl
+ranked (Mandato r) = refl
+ranked (Reversale r) = refl
+ranked (InformazioniBeneficiario true) = refl
+ranked (InformazioniBeneficiario false) = refl
+ranked (InformazioniVersante true) = refl
+ranked (InformazioniVersante false) = refl
+ranked SostituzioneMandato = refl
+ranked SostituzioneReversale = refl
 ranked Beneficiario = refl
 ranked Versante = refl
 ranked MessaggiEsito = refl
@@ -171,10 +178,12 @@ ranked TestataFlusso = refl
 -- no parent is deeper than the levels that are looked at
 pub rank-levels : (p : Parent) → rank p < levels
 rank-levels FlussoOrdinativi = omega arith
-rank-levels Mandato = omega arith
-rank-levels Reversale = omega arith
-rank-levels InformazioniBeneficiario = omega arith
-rank-levels InformazioniVersante = omega arith
+rank-levels (Mandato r) = omega arith
+rank-levels (Reversale r) = omega arith
+rank-levels (InformazioniBeneficiario r) = omega arith
+rank-levels (InformazioniVersante r) = omega arith
+rank-levels SostituzioneMandato = omega arith
+rank-levels SostituzioneReversale = omega arith
 rank-levels Beneficiario = omega arith
 rank-levels Versante = omega arith
 rank-levels MessaggiEsito = omega arith
@@ -188,6 +197,50 @@ rank-levels TestataFlusso = omega arith
 
 rank-said : (p q : Parent) (x : List ℕ) → said (table p) x ≡ named (Rows q) → rank q < rank p
 rank-said p q x e = let b = below-rows (rank p) x (table p) (ranked p) in leb-true (suc (rank q)) (rank p) (rw e at b)
+
+-- what is told of an order is neither of its rank, nor of how many elements its rows take
+told-rank : (p : Parent) (b : Bool) → rank (asReplacing p b) ≡ rank p
+told-rank FlussoOrdinativi b = refl
+told-rank (Mandato r) b = refl
+told-rank (Reversale r) b = refl
+told-rank (InformazioniBeneficiario r) b = refl
+told-rank (InformazioniVersante r) b = refl
+told-rank SostituzioneMandato b = refl
+told-rank SostituzioneReversale b = refl
+told-rank Beneficiario b = refl
+told-rank Versante b = refl
+told-rank MessaggiEsito b = refl
+told-rank TestataMessaggio b = refl
+told-rank EsitoReversali b = refl
+told-rank EsitoMandati b = refl
+told-rank ErroriReversali b = refl
+told-rank ErroriMandati b = refl
+told-rank FlussoOpi b = refl
+told-rank TestataFlusso b = refl
+
+told-none : (p : Parent) (b : Bool) → inRows (table (asReplacing p b)) [] ≡ inRows (table p) []
+unfolding inRows front
+told-none FlussoOrdinativi b = refl
+told-none (Mandato r) b = refl
+told-none (Reversale r) b = refl
+told-none (InformazioniBeneficiario r) b = refl
+told-none (InformazioniVersante r) b = refl
+told-none SostituzioneMandato b = refl
+told-none SostituzioneReversale b = refl
+told-none Beneficiario b = refl
+told-none Versante b = refl
+told-none MessaggiEsito b = refl
+told-none TestataMessaggio b = refl
+told-none EsitoReversali b = refl
+told-none EsitoMandati b = refl
+told-none ErroriReversali b = refl
+told-none ErroriMandati b = refl
+told-none FlussoOpi b = refl
+told-none TestataFlusso b = refl
+
+-- a parent whose rows no operation changes
+abbrev pub Fixed : Parent → Type 0
+Fixed p = (b : Bool) → asReplacing p b ≡ p
 
 -- THE STRUCTURE
 and-true : (b : Bool) → (b && true) ≡ b
@@ -203,6 +256,9 @@ unfolding heldFits
 pass-fits (says t) = refl
 pass-fits (holds ts) = refl
 
+lower : {d : ℕ} (q : Parent) (ts : Trees) → rank q < d → rank (rowsIn q ts) < d
+lower q ts h = rw (told-rank q (replacesIn ts)) h
+
 abbrev Level : ℕ → Type 0
 Level d = (q : Parent) → rank q < d → (ts : Trees) → fitsTree d q ts ≡ (inRows (table q) (keptNames (table q) ts) && allFit ts q)
 
@@ -211,8 +267,8 @@ module _ (d : ℕ) (ih : Level d) where
   unfolding heldFits
   held-fits (Text f) (says t) r = refl
   held-fits (Text f) (holds ts) r = refl
-  held-fits (Rows q) (says t) r = ih q (r q refl) none ∙ none-fit q
-  held-fits (Rows q) (holds ts) r = ih q (r q refl) ts
+  held-fits (Rows q) (says t) r = ih (rowsIn q none) (lower q none (r q refl)) none ∙ none-fit (rowsIn q none) ∙ told-none q (replacesIn none)
+  held-fits (Rows q) (holds ts) r = ih (rowsIn q ts) (lower q ts (r q refl)) ts
 
   all-fit : (p : Parent) → rank p < suc d → (ts : Trees) → allTrees (keptFits (fitsTree d)) (keptTrees p ts) ≡ allFit ts p
   unfolding allTrees keptTrees allFit treeFits
@@ -233,10 +289,10 @@ fits-named zero q r ts = absurd (omega arith)
 fits-named (suc d) q r ts = one-level d (fits-named d) q r ts
 
 -- what an element holds, by name, where its parent is of rank below d
-pub held-named : (d : ℕ) (p : Parent) → rank p < d → (h : Held) → fitsTree d p (kidsIn h) ≡ heldFits h (named (Rows p))
+pub held-named : (d : ℕ) (p : Parent) → Fixed p → rank p < d → (h : Held) → fitsTree d p (kidsIn h) ≡ heldFits h (named (Rows p))
 unfolding heldFits
-held-named d p r (says t) = fits-named d p r none ∙ none-fit p
-held-named d p r (holds ts) = fits-named d p r ts
+held-named d p f r (says t) = fits-named d p r none ∙ none-fit p
+held-named d p f r (holds ts) = rw (f (replacesIn ts)) (fits-named d p r ts)
 
 -- THE FIELDS, where the structure stands
 no-fields : (d : ℕ) (p : Parent) → fieldsTree d p none ≡ []
@@ -257,8 +313,10 @@ module _ (d : ℕ) (ih : FieldLevel d) where
   unfolding heldFits heldFields
   held-fields l n (Text f) (says t) r e = refl
   held-fields l n (Text f) (holds ts) r e = let z : _≡_ {A = ℕ} 0 1 = cc in absurd (omega arith)
-  held-fields l n (Rows q) (says t) r e = no-fields d q
-  held-fields l n (Rows q) (holds ts) r e = ih q (r q refl) ts (both (inRows (table q) (keptNames (table q) ts)) (allFit ts q) e .1)
+  held-fields l n (Rows q) (says t) r e = no-fields d (rowsIn q none)
+  held-fields l n (Rows q) (holds ts) r e =
+      let p = rowsIn q ts in
+      ih p (lower q ts (r q refl)) ts (both (inRows (table p) (keptNames (table p) ts)) (allFit ts p) e .1)
 
   all-fields : (p : Parent) → rank p < suc d → (ts : Trees) → allFit ts p ≡ true → fieldsOfTrees (fieldsTree d) (keptTrees p ts) ≡ allFields ts p
   unfolding fieldsOfTrees keptTrees allFit treeFits allFields treeFields
@@ -280,7 +338,9 @@ fields-named : (d : ℕ) → FieldLevel d
 fields-named zero q r ts e = absurd (omega arith)
 fields-named (suc d) q r ts e = field-level d (fields-named d) q r ts e
 
-pub held-fields-named : (d : ℕ) (p : Parent) → rank p < d → (l : ℕ) (h : Held) → heldFits h (named (Rows p)) ≡ true → fieldsTree d p (kidsIn h) ≡ heldFields h l (named (Rows p))
+pub held-fields-named : (d : ℕ) (p : Parent) → Fixed p → rank p < d → (l : ℕ) (h : Held) → heldFits h (named (Rows p)) ≡ true → fieldsTree d p (kidsIn h) ≡ heldFields h l (named (Rows p))
 unfolding heldFits heldFields
-held-fields-named d p r l (says t) e = no-fields d p
-held-fields-named d p r l (holds ts) e = fields-named d p r ts (both (inRows (table p) (keptNames (table p) ts)) (allFit ts p) e .1)
+held-fields-named d p f r l (says t) e = no-fields d p
+held-fields-named d p f r l (holds ts) e =
+    let b = both (inRows (table (rowsIn p ts)) (keptNames (table (rowsIn p ts)) ts)) (allFit ts (rowsIn p ts)) e in
+    fields-named d p r ts (subst (λ (q : Parent). allFit ts q ≡ true) (f (replacesIn ts)) (b .1)) ∙ ap (allFields ts) (sym (f (replacesIn ts)))

@@ -26,7 +26,7 @@ use Rattle.rows.specs.declared.Parent.{Parent}
 use Rattle.rows.specs.declared.Holds.the-variants as holds
 use Rattle.standing.specs.Readings.{Field}
 use Rattle.tree.specs.Tree.{Tree, Held, Trees, ReadsAs}
-use Rattle.tree.specs.Structure.{Said, named, passed}
+use Rattle.tree.specs.Structure.{Said, named, passed, rowsIn}
 use Rattle.tree.specs.Fields.{treeFields, heldFields, allFields}
 use Rattle.tree.specs.Flow.{fieldsOf}
 use Rattle.tree.specs.Written.{Good, good, GoodHeld, good-text, good-trees, GoodTrees, good-last, good-next}
@@ -88,7 +88,7 @@ module _ (d : ℕ) (ih : (t : Tree) → Good d t → (q : Parent) → AllCounted
   held-counted h (good-text x) p (named (holds.Rows q)) = counted-none
   held-counted h (good-text x) p passed = counted-none
   held-counted h (good-trees gs) p (named (holds.Text f)) = counted-none
-  held-counted h (good-trees {ts = ts} gs) p (named (holds.Rows q)) = trees-counted ts gs q
+  held-counted h (good-trees {ts = ts} gs) p (named (holds.Rows q)) = trees-counted ts gs (rowsIn q ts)
   held-counted h (good-trees gs) p passed = counted-none
 
   level-counted : (t : Tree) → Good (suc d) t → (q : Parent) → AllCounted (treeFields t q)

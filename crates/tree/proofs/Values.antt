@@ -1,5 +1,5 @@
 -- Where structure and fields stand, the header and the orders by name (specs/Orders.antt) are there, and are those of proofs/Levels.antt.
-use mathlib.Core.Path.{_≡_, refl, sym, ap, _∙_}
+use mathlib.Core.Path.{_≡_, refl, sym, ap, subst, _∙_}
 use mathlib.Core.Logic.{inl, inr}
 use mathlib.Core.List.{List, [], _∷_, _++_, map}
 use mathlib.Core.Bool.{Bool, true, false, cond, _&&_, _||_}
@@ -11,7 +11,7 @@ use lib.ListN.{length, take, drop, replicate}
 use lib.Seq.{take-append-le, take-length}
 use lib.Dec.{eqb, leb}
 use borrow.Author.Tests.{eqb-true, ne-eqb, leb-true}
-use Rattle.scan.specs.Bytes.{bytes, between, run, textIs}
+use Rattle.scan.specs.Bytes.{bytes, between, run, startsWith, hasAt, textIs}
 use Rattle.scan.proofs.Laws.{both}
 use Rattle.codes.specs.declared.Asked.{Asked}
 use Rattle.codes.specs.declared.Asked.the-variants.{Operazione, NoOperation}
@@ -28,23 +28,29 @@ use Rattle.fields.specs.declared.Judged.the-variants.{Stands}
 use Rattle.fields.specs.Fields.{isNumber, isDay, isOperation, fieldStands}
 use Rattle.order.specs.declared.Line.{Line}
 use Rattle.rows.specs.declared.Parent.{Parent}
-use Rattle.rows.specs.declared.Parent.the-variants.{FlussoOrdinativi, Mandato, Reversale, InformazioniBeneficiario, InformazioniVersante, FlussoOpi, TestataFlusso}
+use Rattle.rows.specs.declared.Parent.the-variants.{FlussoOrdinativi, Mandato, Reversale, InformazioniBeneficiario, InformazioniVersante, SostituzioneMandato, SostituzioneReversale, FlussoOpi, TestataFlusso}
 use Rattle.rows.specs.declared.Holds.{Holds}
 use Rattle.rows.specs.declared.Holds.the-variants.{Text, Rows}
 use Rattle.rows.specs.declared.Spot.the-variants.{At, Passed}
 use Rattle.rows.specs.Table.{_is_, Row, once, many, table}
 use Rattle.structure.specs.Structure.{Range, ranges, takes, isRow, inOrder}
 use Rattle.orders.specs.Orders.{valueOf, dateOf, operationOf, eight}
+use Rattle.rows.specs.Replaces.{asReplacing}
 use Rattle.editions.specs.declared.Edition.{Edition}
 use Rattle.editions.specs.declared.Edition.the-variants.{Oil, Opi}
 use Rattle.header.specs.Header.{rootOf}
 use Rattle.flow.proofs.Values.{ordersRow}
 use Rattle.tree.specs.Tree.{Tree, tree, says, holds, Trees, none, more, nameOf, heldOf, kidsIn}
-use Rattle.tree.specs.Orders.{childrenNamed, firstText, textNamed, OneText, OneHolds, OneValue, Each, each-none, each-next, HeaderIn, Words, mandatoWords, reversaleWords, joined, LineIn, OrderIn, AnOrder, OrdersIn}
-use Rattle.order.specs.Ordinativo.{Ordinativo, ordinativo, noLine}
-use Rattle.tree.proofs.Levels.{KeptTree, keepTree, keptTrees, rowsOfTrees, allTrees, keptFits, fitsTree, fieldsHeld, fieldsOfTrees, fieldsTree, firstKids, headerTree, lineTree, linesTree, orderTree, ordersTree, inPlaces, allInPlaces}
+use Rattle.tree.specs.Orders.{childrenNamed, firstText, textNamed, OneText, OneHolds, OneValue, Each, each-none, each-next, HeaderIn, Words, mandatoWords, reversaleWords, joined, replaced, NamedIn, NamedBy, LineIn, OrderIn, AnOrder, OrdersIn}
+use Rattle.order.specs.Ordinativo.{Ordinativo, ordinativo, noName, noLine}
+use Rattle.order.specs.declared.NamedLine.{NamedLine}
+use Rattle.codes.specs.declared.Operation.{Operation}
+use Rattle.codes.specs.declared.Operation.the-variants.{Inserimento, Variazione, Annullo, Sostituzione}
+use Rattle.tree.specs.Structure.{replacesIn, rowsIn}
+use Rattle.tree.proofs.ByName.{Fixed}
+use Rattle.tree.proofs.Levels.{KeptTree, keepTree, keptTrees, rowsOfTrees, allTrees, keptFits, fitsTree, fieldsHeld, fieldsOfTrees, fieldsTree, firstKids, headerTree, namedKids, namedFirst, namedTree, lineTree, linesTree, orderWith, orderTree, ordersTree, inPlaces, allInPlaces}
 use Rattle.tree.proofs.Names.{text-same, HasRow, has-names, inRowTrees, pick, asKept, row-picked}
-use Rattle.tree.proofs.Orders.{one-name, all-row, Spelled, spelled-mandato, spelled-reversale, orderNames, order-names}
+use Rattle.tree.proofs.Orders.{one-name, all-row, Spelled, Order-words, mandato-words, reversale-words, orderNames, order-names}
 use Rattle.tree.proofs.Stand.{stand, allStand, Right, stand-both, stand-is}
 
 -- HOW MANY A ROW HAS
@@ -228,20 +234,20 @@ record KidsOf (d : ℕ) (x : String) (q : Parent) (ts : Trees) : Type 0 where
   one : OneHolds x ts (firstKids (childrenNamed (x ∷ []) ts))
   right : Right d q (firstKids (childrenNamed (x ∷ []) ts))
 
-kids-one : (x : String) (q : Parent) (n d : ℕ) (ts : Trees) (l : List Tree) → (fitsTree d q none ≡ true → ⊥) → childrenNamed (x ∷ []) ts ≡ l
+kids-one : (x : String) (q : Parent) (n d : ℕ) (ts : Trees) (l : List Tree) → Fixed q → (fitsTree d q none ≡ true → ⊥) → childrenNamed (x ∷ []) ts ≡ l
     → between 1 1 (length l) ≡ true → allTrees (right d) (asKept n (Rows q) l) ≡ true → KidsOf d x q ts
 unfolding allTrees
-kids-one x q n d ts [] o e c a = let y : _≡_ {A = ℕ} 0 1 = cc in absurd (omega arith)
-kids-one x q n d ts (t ∷ u ∷ l) o e c a = let b = both (leb 1 (suc (suc (length l)))) (leb (suc (suc (length l))) 1) c in absurd (omega (arith, leb-true (suc (suc (length l))) 1 (b .1)))
-kids-one x q n d ts (tree p m (says t) ∷ []) o e c a =
+kids-one x q n d ts [] u o e c a = let y : _≡_ {A = ℕ} 0 1 = cc in absurd (omega arith)
+kids-one x q n d ts (t ∷ v ∷ l) u o e c a = let b = both (leb 1 (suc (suc (length l)))) (leb (suc (suc (length l))) 1) c in absurd (omega (arith, leb-true (suc (suc (length l))) 1 (b .1)))
+kids-one x q n d ts (tree p m (says t) ∷ []) u o e c a =
     let b = both (right d (record { tree = tree p m (says t); row = n; holds = Rows q })) true a in
-    absurd (o (both (fitsTree d q none) (allStand (fieldsTree d q none)) (b .0) .0))
-kids-one x q n d ts (tree p m (holds ks) ∷ []) o e c a =
+    absurd (o (rw (u (replacesIn none)) at (both (fitsTree d (rowsIn q none) none) (allStand (fieldsTree d (rowsIn q none) none)) (b .0) .0)))
+kids-one x q n d ts (tree p m (holds ks) ∷ []) u o e c a =
     let z = named-first x ts (tree p m (holds ks)) [] e in
     let w : firstKids (childrenNamed (x ∷ []) ts) ≡ ks = ap firstKids e in
     let b = both (right d (record { tree = tree p m (holds ks); row = n; holds = Rows q })) true a in
-    let f = both (fitsTree d q ks) (allStand (fieldsTree d q ks)) (b .0) in
-    record { one = rw w (record { place = p; alone = e ∙ rw z }); right = rw w (record { fits = f .0; stands = f .1 }) }
+    let f = both (fitsTree d (rowsIn q ks) ks) (allStand (fieldsTree d (rowsIn q ks) ks)) (b .0) in
+    record { one = rw w (record { place = p; alone = e ∙ rw z }); right = rw w (record { fits = rw (u (replacesIn ks)) at (f .0); stands = rw (u (replacesIn ks)) at (f .1) }) }
 
 testata-some : (d : ℕ) → fitsTree d TestataFlusso none ≡ true → ⊥
 unfolding fitsTree keptTrees rowsOfTrees inOrder run
@@ -259,7 +265,7 @@ header-in Oil d ts r = record {
 }
 header-in Opi d ts r =
     let x : String = "testata_flusso" in
-    let k = kids-one x TestataFlusso 0 (suc d) ts (childrenNamed (x ∷ []) ts) (testata-some (suc d)) refl (row-length (suc d) FlussoOpi ts r 0 x (Rows TestataFlusso) 1 1 (_, refl)) (row-right (suc d) FlussoOpi ts r 0 x (Rows TestataFlusso) 1 1 (_, refl)) in
+    let k = kids-one x TestataFlusso 0 (suc d) ts (childrenNamed (x ∷ []) ts) (λ b. refl) (testata-some (suc d)) refl (row-length (suc d) FlussoOpi ts r 0 x (Rows TestataFlusso) 1 1 (_, refl)) (row-right (suc d) FlussoOpi ts r 0 x (Rows TestataFlusso) 1 1 (_, refl)) in
     let us = firstKids (childrenNamed (x ∷ []) ts) in
     record {
       testata = us;
@@ -269,34 +275,101 @@ header-in Opi d ts r =
       esercizio = esercizio-of "esercizio" ts (text-of (suc d) FlussoOpi ts r 1 "esercizio" _ (_, refl));
     }
 
+-- THE LINE THAT A LINE NAMES
+-- a row that takes one is not filled by none
+none-counted : (z : Parent) → between 1 1 (countRow 0 (rowsOfTrees (keptTrees z none))) ≡ true → ⊥
+unfolding rowsOfTrees keptTrees
+none-counted z c = let y : _≡_ {A = ℕ} 0 1 = cc in omega arith
+
+named-some : (d : ℕ) (z : Parent) (w : Words) → HasRow z 0 (once (replaced "numero_" (w .name) is Text Numero)) → fitsTree d z none ≡ true → ⊥
+unfolding fitsTree
+named-some zero z w h e = let y : _≡_ {A = ℕ} 0 1 = cc in omega arith
+named-some (suc d) z w h e =
+    let b = both (inOrder (ranges (table z)) 0 (rowsOfTrees (keptTrees z none))) (allTrees (keptFits (fitsTree d)) (keptTrees z none)) e in
+    let c = row-count (table z) 0 0 (once (replaced "numero_" (w .name) is Text Numero)) (h .0) (rowsOfTrees (keptTrees z none)) (h .1) (b .0) in
+    none-counted z c
+
+-- by whether the order replaces others
+abbrev NamedWhere : Bool → Words → Trees → NamedLine → Type 0
+NamedWhere true w kids n = NamedIn w kids n
+NamedWhere false w kids n = n ≡ noName
+
+-- which its operation says, where that stands
+word-asked : tipoOperazione (bytes "SOSTITUZIONE") ≡ Operazione Sostituzione
+unfolding tipoOperazione textIs hasAt startsWith
+word-asked = refl
+
+named-asked : (t : List ℕ) (b : Bool) → textIs (bytes "SOSTITUZIONE") t ≡ b → isOperation (tipoOperazione t) ≡ Stands → (w : Words) (kids : Trees) (n : NamedLine) → NamedWhere b w kids n → NamedBy (operationOf (tipoOperazione t)) w kids n
+unfolding tipoOperazione
+named-asked t true e h w kids n x = subst (λ (a : Asked). NamedBy (operationOf a) w kids n) (sym (ap tipoOperazione (text-same (bytes "SOSTITUZIONE") t e) ∙ word-asked)) x
+named-asked t false e h w kids n x = rw e (go (textIs (bytes "INSERIMENTO") t) (textIs (bytes "VARIAZIONE") t) (textIs (bytes "ANNULLO") t) (rw e at h))
+  where
+    asked : Bool → Bool → Bool → Asked
+    asked i v a = cond i (Operazione Inserimento) (cond v (Operazione Variazione) (cond a (Operazione Annullo) NoOperation))
+
+    go : (i v a : Bool) → isOperation (asked i v a) ≡ Stands → NamedBy (operationOf (asked i v a)) w kids n
+    go true v a h = x
+    go false true a h = x
+    go false false true h = x
+    go false false false h = let z : _≡_ {A = ℕ} 0 1 = cc in absurd (omega arith)
+
 -- LINES AND ORDERS
-module _ (p q : Parent) (w : Words) (sp : Spelled p q w) where
-  line-in : (d : ℕ) (t : Tree) → Right (suc d) q (kidsIn (heldOf t)) → LineIn w t (lineTree w (kidsIn (heldOf t)))
-  line-in d t r = record {
-    progressivo = progressivo-of (joined "progressivo_" (w .party)) (kidsIn (heldOf t)) (text-of d q (kidsIn (heldOf t)) r 0 (joined "progressivo_" (w .party)) _ (sp .progressivo));
-    amount = importo-of (joined "importo_" (w .party)) (kidsIn (heldOf t)) (text-of d q (kidsIn (heldOf t)) r 1 (joined "importo_" (w .party)) _ (sp .amount));
-    named = refl;
+module _ (p q z : Parent) (r : Bool) (w : Words) (sp : Spelled p q z r w) where
+  named-in : (d : ℕ) (ts : Trees) → Right (suc (suc d)) q ts → NamedWhere r w ts (namedTree r w ts)
+  named-in d ts i = go r refl
+    where
+      x : String
+      x = joined "sostituzione_" (w .name)
+
+      first : (l : List Tree) → between 1 1 (length l) ≡ true → namedFirst w l ≡ namedKids w (firstKids l)
+      first [] e = let y : _≡_ {A = ℕ} 0 1 = cc in absurd (omega arith)
+      first (t ∷ l) e = refl
+
+      go : (b : Bool) → r ≡ b → NamedWhere b w ts (namedTree b w ts)
+      go true e =
+          let y = sp .structure e in
+          let us = firstKids (childrenNamed (x ∷ []) ts) in
+          let l = row-length (suc d) q ts i 3 x (Rows z) 1 1 y in
+          let k = kids-one x z 3 (suc d) ts (childrenNamed (x ∷ []) ts) (sp .named-fixed) (named-some (suc d) z w (sp .replaced-number)) refl l (row-right (suc d) q ts i 3 x (Rows z) 1 1 y) in
+          rw (first (childrenNamed (x ∷ []) ts) l) (record {
+            structure = us;
+            there = k .one;
+            number = numero-of (replaced "numero_" (w .name)) us (text-of d z us (k .right) 0 (replaced "numero_" (w .name)) _ (sp .replaced-number));
+            line = progressivo-of (replaced "progressivo_" (w .party)) us (text-of d z us (k .right) 1 (replaced "progressivo_" (w .party)) _ (sp .replaced-line));
+            esercizio = esercizio-of (replaced "esercizio_" (w .name)) us (text-of d z us (k .right) 2 (replaced "esercizio_" (w .name)) _ (sp .replaced-year));
+          })
+      go false e = refl
+
+  line-in : (o : Operation) → ((ts : Trees) (n : NamedLine) → NamedWhere r w ts n → NamedBy o w ts n) → (d : ℕ) (t : Tree) → Right (suc (suc d)) q (kidsIn (heldOf t)) → LineIn o w t (lineTree r w (kidsIn (heldOf t)))
+  line-in o by d t i = record {
+    progressivo = progressivo-of (joined "progressivo_" (w .party)) (kidsIn (heldOf t)) (text-of (suc d) q (kidsIn (heldOf t)) i 0 (joined "progressivo_" (w .party)) _ (sp .progressivo));
+    amount = importo-of (joined "importo_" (w .party)) (kidsIn (heldOf t)) (text-of (suc d) q (kidsIn (heldOf t)) i 1 (joined "importo_" (w .party)) _ (sp .amount));
+    named = by (kidsIn (heldOf t)) (namedTree r w (kidsIn (heldOf t))) (named-in d (kidsIn (heldOf t)) i);
   }
 
-  lines-in : (d n : ℕ) (l : List Tree) → allTrees (right (suc d)) (asKept n (Rows q) l) ≡ true → Each (LineIn w) l (linesTree w l)
+  lines-in : (o : Operation) → ((ts : Trees) (n : NamedLine) → NamedWhere r w ts n → NamedBy o w ts n) → (d n : ℕ) (l : List Tree) → allTrees (right (suc (suc d))) (asKept n (Rows q) l) ≡ true → Each (LineIn o w) l (linesTree r w l)
   unfolding allTrees linesTree
-  lines-in d n [] a = each-none
-  lines-in d n (t ∷ l) a =
-      let b = both (right (suc d) (record { tree = t; row = n; holds = Rows q })) (allTrees (right (suc d)) (asKept n (Rows q) l)) a in
-      let c = both (fitsTree (suc d) q (kidsIn (heldOf t))) (allStand (fieldsTree (suc d) q (kidsIn (heldOf t)))) (b .0) in
-      each-next (line-in d t (record { fits = c .0; stands = c .1 })) (lines-in d n l (b .1))
+  lines-in o by d n [] a = each-none
+  lines-in o by d n (t ∷ l) a =
+      let ks = kidsIn (heldOf t) in
+      let f = sp .line-fixed (replacesIn ks) in
+      let b = both (right (suc (suc d)) (record { tree = t; row = n; holds = Rows q })) (allTrees (right (suc (suc d))) (asKept n (Rows q) l)) a in
+      let c = both (fitsTree (suc (suc d)) (rowsIn q ks) ks) (allStand (fieldsTree (suc (suc d)) (rowsIn q ks) ks)) (b .0) in
+      each-next (line-in o by d t (record { fits = rw f at (c .0); stands = rw f at (c .1) })) (lines-in o by d n l (b .1))
 
-  order-in : (d : ℕ) (t : Tree) → nameOf t ≡ bytes (w .name) → Right (suc (suc d)) p (kidsIn (heldOf t)) → OrderIn w t (orderTree w (kidsIn (heldOf t)))
-  order-in d t n r =
+  order-in : (d : ℕ) (t : Tree) → nameOf t ≡ bytes (w .name) → replacesIn (kidsIn (heldOf t)) ≡ r → Right (suc (suc (suc d))) p (kidsIn (heldOf t)) → OrderIn w t (orderWith r w (kidsIn (heldOf t)))
+  unfolding fieldStands
+  order-in d t n u i =
       let k = kidsIn (heldOf t) in
+      let o = text-of (suc (suc d)) p k i 0 "tipo_operazione" _ (sp .operation) in
       record {
         name = n;
         kind = refl;
-        operation = operazione-of "tipo_operazione" k (text-of (suc d) p k r 0 "tipo_operazione" _ (sp .operation));
-        number = numero-of (joined "numero_" (w .name)) k (text-of (suc d) p k r 1 (joined "numero_" (w .name)) _ (sp .number));
-        date = data-of (joined "data_" (w .name)) k (text-of (suc d) p k r 2 (joined "data_" (w .name)) _ (sp .date));
-        total = importo-of (joined "importo_" (w .name)) k (text-of (suc d) p k r 3 (joined "importo_" (w .name)) _ (sp .total));
-        lines = lines-in d 4 (childrenNamed (joined "informazioni_" (w .party) ∷ []) k) (row-right (suc d) p k r 4 (joined "informazioni_" (w .party)) (Rows q) 1 8 (sp .line));
+        operation = operazione-of "tipo_operazione" k o;
+        number = numero-of (joined "numero_" (w .name)) k (text-of (suc (suc d)) p k i 1 (joined "numero_" (w .name)) _ (sp .number));
+        date = data-of (joined "data_" (w .name)) k (text-of (suc (suc d)) p k i 2 (joined "data_" (w .name)) _ (sp .date));
+        total = importo-of (joined "importo_" (w .name)) k (text-of (suc (suc d)) p k i 3 (joined "importo_" (w .name)) _ (sp .total));
+        lines = lines-in (operationOf (tipoOperazione (textNamed "tipo_operazione" k))) (named-asked (textNamed "tipo_operazione" k) r u (o .stands) w) d 4 (childrenNamed (joined "informazioni_" (w .party) ∷ []) k) (row-right (suc (suc d)) p k i 4 (joined "informazioni_" (w .party)) (Rows q) 1 8 (sp .line));
       }
 
 -- its lines, at most eight, come back from their places
@@ -310,22 +383,28 @@ lines-back : (ls : List Line) → length ls ≤ 8 → take (length ls) (eight ls
 unfolding eight
 lines-back ls h = taken (length ls) 8 (ls ++ replicate 8 noLine) h ∙ take-append-le (length ls) ls (replicate 8 noLine) (omega arith) ∙ take-length ls
 
-lines-length : (w : Words) (l : List Tree) → length (linesTree w l) ≡ length l
+lines-length : (r : Bool) (w : Words) (l : List Tree) → length (linesTree r w l) ≡ length l
 unfolding linesTree
-lines-length w [] = refl
-lines-length w (t ∷ l) = ap suc (lines-length w l)
+lines-length r w [] = refl
+lines-length r w (t ∷ l) = ap suc (lines-length r w l)
 
 -- an order, and that it comes back
 abbrev Whole : Tree → Ordinativo → Type 0
 Whole t o = AnOrder t o × (ordinativo (inPlaces o) ≡ o)
 
-order-whole : (p q : Parent) (w : Words) → Spelled p q w → (d : ℕ) (t : Tree) → Right (suc (suc d)) p (kidsIn (heldOf t)) → ordinativo (inPlaces (orderTree w (kidsIn (heldOf t)))) ≡ orderTree w (kidsIn (heldOf t))
-order-whole p q w sp d t r =
+order-whole : (p q z : Parent) (r : Bool) (w : Words) → Spelled p q z r w → (d : ℕ) (t : Tree) → Right (suc (suc d)) p (kidsIn (heldOf t)) → ordinativo (inPlaces (orderWith r w (kidsIn (heldOf t)))) ≡ orderWith r w (kidsIn (heldOf t))
+order-whole p q z r w sp d t i =
     let l = childrenNamed (joined "informazioni_" (w .party) ∷ []) (kidsIn (heldOf t)) in
-    let b = row-length (suc d) p (kidsIn (heldOf t)) r 4 (joined "informazioni_" (w .party)) (Rows q) 1 8 (sp .line) in
+    let b = row-length (suc d) p (kidsIn (heldOf t)) i 4 (joined "informazioni_" (w .party)) (Rows q) 1 8 (sp .line) in
     let h = leb-true (length l) 8 (both (leb 1 (length l)) (leb (length l) 8) b .1) in
-    let k : length (linesTree w l) ≤ 8 = omega (arith, lines-length w l) in
-    rw (lines-back (linesTree w l) k)
+    let k : length (linesTree r w l) ≤ 8 = omega (arith, lines-length r w l) in
+    rw (lines-back (linesTree r w l) k)
+
+order-there : {o z : Parent} {q : Bool → Parent} {w : Words} → Order-words o q z w → (d : ℕ) (t : Tree) → nameOf t ≡ bytes (w .name) → Right (suc (suc (suc d))) (rowsIn o (kidsIn (heldOf t))) (kidsIn (heldOf t))
+    → OrderIn w t (orderTree w (kidsIn (heldOf t))) × (ordinativo (inPlaces (orderTree w (kidsIn (heldOf t)))) ≡ orderTree w (kidsIn (heldOf t)))
+order-there {o} {z} {q} {w} ow d t n i =
+    let r = replacesIn (kidsIn (heldOf t)) in
+    (order-in (asReplacing o r) (q r) z r w (ow .spelled r) d t n refl i, order-whole (asReplacing o r) (q r) z r w (ow .spelled r) (suc d) t i)
 
 each-map : {A : Type 0} {P Q : Tree → A → Type 0} → ((t : Tree) (a : A) → P t a → Q t a) → {ts : List Tree} {vs : List A} → Each P ts vs → Each Q ts vs
 each-map f each-none = each-none
@@ -336,29 +415,35 @@ all-whole each-none = refl
 all-whole (each-next x xs) = rw (x .1, all-whole xs)
 
 -- the root's children in the row of orders
-orders-each : (n d : ℕ) (ts : Trees) → allTrees (right (suc (suc d))) (pick orderNames n ts) ≡ true → Each Whole (childrenNamed ("mandato" ∷ "reversale" ∷ []) ts) (ordersTree ts)
+orders-each : (n d : ℕ) (ts : Trees) → allTrees (right (suc (suc (suc d)))) (pick orderNames n ts) ≡ true → Each Whole (childrenNamed ("mandato" ∷ "reversale" ∷ []) ts) (ordersTree ts)
 unfolding childrenNamed ordersTree pick allTrees
 orders-each n d none a = each-none
 orders-each n d (more t ts) a = go (textIs (bytes "mandato") (nameOf t)) refl (textIs (bytes "reversale") (nameOf t)) refl a (orders-each n d ts)
   where
-    one : (p : Parent) → allTrees (right (suc (suc d))) (record { tree = t; row = n; holds = Rows p } ∷ pick orderNames n ts) ≡ true → Right (suc (suc d)) p (kidsIn (heldOf t)) × (allTrees (right (suc (suc d))) (pick orderNames n ts) ≡ true)
+    one : (p : Parent) → allTrees (right (suc (suc (suc d)))) (record { tree = t; row = n; holds = Rows p } ∷ pick orderNames n ts) ≡ true → Right (suc (suc (suc d))) (rowsIn p (kidsIn (heldOf t))) (kidsIn (heldOf t)) × (allTrees (right (suc (suc (suc d)))) (pick orderNames n ts) ≡ true)
     one p e =
-        let b = both (right (suc (suc d)) (record { tree = t; row = n; holds = Rows p })) (allTrees (right (suc (suc d))) (pick orderNames n ts)) e in
-        let c = both (fitsTree (suc (suc d)) p (kidsIn (heldOf t))) (allStand (fieldsTree (suc (suc d)) p (kidsIn (heldOf t)))) (b .0) in
+        let b = both (right (suc (suc (suc d))) (record { tree = t; row = n; holds = Rows p })) (allTrees (right (suc (suc (suc d)))) (pick orderNames n ts)) e in
+        let c = both (fitsTree (suc (suc (suc d))) (rowsIn p (kidsIn (heldOf t))) (kidsIn (heldOf t))) (allStand (fieldsTree (suc (suc (suc d))) (rowsIn p (kidsIn (heldOf t))) (kidsIn (heldOf t)))) (b .0) in
         (record { fits = c .0; stands = c .1 }, b .1)
 
     go : (b : Bool) → textIs (bytes "mandato") (nameOf t) ≡ b → (c : Bool) → textIs (bytes "reversale") (nameOf t) ≡ c
-        → allTrees (right (suc (suc d))) (keepTree (cond b (At n (Rows Mandato)) (cond c (At n (Rows Reversale)) Passed)) t (pick orderNames n ts)) ≡ true
-        → (allTrees (right (suc (suc d))) (pick orderNames n ts) ≡ true → Each Whole (childrenNamed ("mandato" ∷ "reversale" ∷ []) ts) (ordersTree ts))
+        → allTrees (right (suc (suc (suc d)))) (keepTree (cond b (At n (Rows (Mandato false))) (cond c (At n (Rows (Reversale false))) Passed)) t (pick orderNames n ts)) ≡ true
+        → (allTrees (right (suc (suc (suc d)))) (pick orderNames n ts) ≡ true → Each Whole (childrenNamed ("mandato" ∷ "reversale" ∷ []) ts) (ordersTree ts))
         → Each Whole (cond (b || (c || false)) (t ∷ childrenNamed ("mandato" ∷ "reversale" ∷ []) ts) (childrenNamed ("mandato" ∷ "reversale" ∷ []) ts))
         (cond b (orderTree mandatoWords (kidsIn (heldOf t)) ∷ ordersTree ts) (cond c (orderTree reversaleWords (kidsIn (heldOf t)) ∷ ordersTree ts) (ordersTree ts)))
-    go true y c z e i = let k = one Mandato e in each-next (inl (order-in Mandato InformazioniBeneficiario mandatoWords spelled-mandato d t (text-same (bytes "mandato") (nameOf t) y) (k .0)), order-whole Mandato InformazioniBeneficiario mandatoWords spelled-mandato d t (k .0)) (i (k .1))
-    go false y true z e i = let k = one Reversale e in each-next (inr (order-in Reversale InformazioniVersante reversaleWords spelled-reversale d t (text-same (bytes "reversale") (nameOf t) z) (k .0)), order-whole Reversale InformazioniVersante reversaleWords spelled-reversale d t (k .0)) (i (k .1))
+    go true y c z e i =
+        let k = one (Mandato false) e in
+        let x = order-there mandato-words d t (text-same (bytes "mandato") (nameOf t) y) (k .0) in
+        each-next (inl (x .0), x .1) (i (k .1))
+    go false y true z e i =
+        let k = one (Reversale false) e in
+        let x = order-there reversale-words d t (text-same (bytes "reversale") (nameOf t) z) (k .0) in
+        each-next (inr (x .0), x .1) (i (k .1))
     go false y false z e i = i e
 
-pub orders-in : (e : Edition) (d : ℕ) (ts : Trees) → Right (suc (suc (suc d))) (rootOf e) ts → OrdersIn ts (map ordinativo (allInPlaces (ordersTree ts)))
+pub orders-in : (e : Edition) (d : ℕ) (ts : Trees) → Right (suc (suc (suc (suc d)))) (rootOf e) ts → OrdersIn ts (map ordinativo (allInPlaces (ordersTree ts)))
 orders-in e d ts r =
     let n = ordersRow e in
     let z : pick orderNames n ts ≡ inRowTrees n (keptTrees (rootOf e) ts) = sym (row-picked (rootOf e) n ts ∙ ap (λ ns. pick ns n ts) (order-names e)) in
-    let a = orders-each n d ts (rw z (all-row (right (suc (suc d))) n (keptTrees (rootOf e) ts) (right-parts (suc (suc d)) (rootOf e) ts r .each))) in
+    let a = orders-each n d ts (rw z (all-row (right (suc (suc (suc d)))) n (keptTrees (rootOf e) ts) (right-parts (suc (suc (suc d))) (rootOf e) ts r .each))) in
     rw (all-whole a) (each-map (λ t o x. x .0) a)

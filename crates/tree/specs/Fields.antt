@@ -11,7 +11,7 @@ use Rattle.rows.specs.declared.Holds.the-variants.{Text, Rows}
 use Rattle.rows.specs.Table.{table}
 use Rattle.standing.specs.Readings.{Field}
 use Rattle.tree.specs.Tree.{Tree, tree, Held, says, holds, Trees, none, more}
-use Rattle.tree.specs.Structure.{Said, named, passed, said}
+use Rattle.tree.specs.Structure.{Said, named, passed, said, rowsIn}
 
 -- the fields in document order: a field has its form, the place of its element's <, and its text
 unfoldable mutual
@@ -24,7 +24,7 @@ unfoldable mutual
   heldFields (says t) p (named (Rows q)) = []
   heldFields (says t) p passed = []
   heldFields (holds ts) p (named (Text f)) = []
-  heldFields (holds ts) p (named (Rows q)) = allFields ts q
+  heldFields (holds ts) p (named (Rows q)) = allFields ts (rowsIn q ts)
   heldFields (holds ts) p passed = []
 
   pub allFields : Trees → Parent → List Field

@@ -8,6 +8,7 @@ use mathlib.Core.Bool.{Bool, false, cond, _||_}
 use Rattle.scan.specs.Bytes.{bytes, textIs}
 use Rattle.calendar.specs.declared.Date.{Date}
 use Rattle.codes.specs.declared.Operation.{Operation}
+use Rattle.codes.specs.declared.Operation.the-variants.{Inserimento, Variazione, Annullo, Sostituzione}
 use Rattle.codes.specs.declared.Asked.the-variants.{Operazione}
 use Rattle.codes.specs.Codes.{tipoOperazione}
 use Rattle.digits.specs.declared.Number.the-variants.{Value}
@@ -15,8 +16,9 @@ use Rattle.digits.specs.Digits.{esercizio, numero, importo, progressivo}
 use Rattle.dates.specs.declared.Day.the-variants.{On}
 use Rattle.dates.specs.Dates.{dataOf}
 use Rattle.record.specs.Slot.{mandatoKind, reversaleKind}
+use Rattle.order.specs.declared.NamedLine.{NamedLine}
 use Rattle.order.specs.declared.Line.{Line}
-use Rattle.order.specs.Ordinativo.{noName, Ordinativo}
+use Rattle.order.specs.Ordinativo.{Ordinativo, noName}
 use Rattle.editions.specs.declared.Edition.{Edition}
 use Rattle.editions.specs.declared.Edition.the-variants.{Oil, Opi}
 use Rattle.header.specs.Header.{Header}
@@ -96,11 +98,30 @@ abbrev pub joined : String → String → String
 joined String.[] y = y
 joined (String._∷_ c x) y = String._∷_ c (joined x y)
 
--- AN ORDER, with all its lines
-pub record LineIn (w : Words) (t : Tree) (l : Line) : Type 0 where
+-- THE LINE THAT A LINE NAMES, in the one structure of its kind: "each line names one line, of the same kind and body, by number, line and esercizio (the
+-- sostituzione structures of 000)" (document 02, Req 07)
+abbrev pub replaced : String → String → String
+replaced x y = joined x (joined y "_da_sostituire")
+
+pub record NamedIn (w : Words) (kids : Trees) (n : NamedLine) : Type 0 where
+  pub structure : Trees
+  pub there : OneHolds (joined "sostituzione_" (w .name)) kids structure
+  pub number : OneValue (replaced "numero_" (w .name)) numero structure (Value (n .number))
+  pub line : OneValue (replaced "progressivo_" (w .party)) progressivo structure (Value (n .line))
+  pub esercizio : OneValue (replaced "esercizio_" (w .name)) esercizio structure (Value (n .esercizio))
+
+-- "other operations pass it over"
+abbrev pub NamedBy : Operation → Words → Trees → NamedLine → Type 0
+NamedBy Sostituzione w kids n = NamedIn w kids n
+NamedBy Inserimento w kids n = n ≡ noName
+NamedBy Variazione w kids n = n ≡ noName
+NamedBy Annullo w kids n = n ≡ noName
+
+-- AN ORDER, with all its lines, each of which knows the order's operation
+pub record LineIn (o : Operation) (w : Words) (t : Tree) (l : Line) : Type 0 where
   pub progressivo : OneValue (joined "progressivo_" (w .party)) progressivo (kidsIn (heldOf t)) (Value (l .progressivo))
   pub amount : OneValue (joined "importo_" (w .party)) importo (kidsIn (heldOf t)) (Value (l .amount))
-  pub named : l .named ≡ noName
+  pub named : NamedBy o w (kidsIn (heldOf t)) (l .named)
 
 pub record OrderIn (w : Words) (t : Tree) (o : Ordinativo) : Type 0 where
   pub name : nameOf t ≡ bytes (w .name)
@@ -109,7 +130,7 @@ pub record OrderIn (w : Words) (t : Tree) (o : Ordinativo) : Type 0 where
   pub number : OneValue (joined "numero_" (w .name)) numero (kidsIn (heldOf t)) (Value (o .number))
   pub date : OneValue (joined "data_" (w .name)) dataOf (kidsIn (heldOf t)) (On (o .date))
   pub total : OneValue (joined "importo_" (w .name)) importo (kidsIn (heldOf t)) (Value (o .total))
-  pub lines : Each (LineIn w) (childrenNamed (joined "informazioni_" (w .party) ∷ []) (kidsIn (heldOf t))) (o .lines)
+  pub lines : Each (LineIn (o .operation) w) (childrenNamed (joined "informazioni_" (w .party) ∷ []) (kidsIn (heldOf t))) (o .lines)
 
 -- THE ORDERS among the root's children: "mandato and reversale in any mix"
 abbrev pub AnOrder : Tree → Ordinativo → Type 0

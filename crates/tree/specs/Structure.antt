@@ -9,7 +9,9 @@ use Rattle.rows.specs.declared.Parent.{Parent}
 use Rattle.rows.specs.declared.Holds.{Holds}
 use Rattle.rows.specs.declared.Holds.the-variants.{Text, Rows}
 use Rattle.rows.specs.Table.{Named, _is_, Row, table}
+use Rattle.rows.specs.Replaces.{asReplacing}
 use Rattle.tree.specs.Tree.{Tree, tree, Held, says, holds, Trees, none, more, nameOf}
+use Rattle.tree.specs.Orders.{textNamed}
 
 -- WHICH CHILDREN ARE NAMED
 
@@ -51,6 +53,15 @@ unfoldable pub inRows : List Row → List (List ℕ) → Bool
 inRows [] xs = eqb (length xs) 0
 inRows (r ∷ rs) xs = between (r .least) (r .most) (front (r .names) xs) && inRows rs (drop (front (r .names) xs) xs)
 
+-- WHICH ROWS AN ORDER HAS. Document 02, Req 07: "A SOSTITUZIONE line holds its structure once, after beneficiario or versante, else answer 4; other
+-- operations pass it over": the order's tipo_operazione, as it stands, says which
+abbrev pub replacesIn : Trees → Bool
+replacesIn ts = textIs (bytes "SOSTITUZIONE") (textNamed "tipo_operazione" ts)
+
+-- the parent whose rows the elements ts have, where the name of what holds them says q
+abbrev pub rowsIn : Parent → Trees → Parent
+rowsIn q ts = asReplacing q (replacesIn ts)
+
 -- WHAT EACH HOLDS: "A childless named element holds text only", a parent its named children; what is passed over is so "with all they hold"
 unfoldable mutual
   pub treeFits : Tree → Parent → Bool
@@ -61,7 +72,7 @@ unfoldable mutual
   heldFits (says t) (named (Rows q)) = inRows (table q) []
   heldFits (says t) passed = true
   heldFits (holds ts) (named (Text f)) = false
-  heldFits (holds ts) (named (Rows q)) = inRows (table q) (keptNames (table q) ts) && allFit ts q
+  heldFits (holds ts) (named (Rows q)) = inRows (table (rowsIn q ts)) (keptNames (table (rowsIn q ts)) ts) && allFit ts (rowsIn q ts)
   heldFits (holds ts) passed = true
 
   pub allFit : Trees → Parent → Bool
