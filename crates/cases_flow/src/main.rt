@@ -39,7 +39,7 @@ fn say_edited(base: &[u8], x: &[u8], k: u64, y: &[u8]) {
 
 // One case: the line from a up to e.
 fn run_case(base: &[u8], s: &[u8], a: usize, e: usize)
-    requires { ⌜ (a ≤ e) × (e ≤ length (now s)) × (length (now s) ≤ 131072) ⌝ }
+    requires { ⌜ (a ≤ e) × (e ≤ length (now s)) × (length (now s) ≤ 196608) ⌝ }
 {
     let x = casebook::column(s, a, e, 2);
     let to = casebook::find(s, x, e, b'\t');
@@ -55,7 +55,7 @@ fn run_case(base: &[u8], s: &[u8], a: usize, e: usize)
 }
 
 fn run_cases(s: &[u8])
-    requires { ⌜ length (now s) ≤ 131072 ⌝ }
+    requires { ⌜ length (now s) ≤ 196608 ⌝ }
 {
     let first = casebook::line_end(s, 0);
     let mut at = casebook::after(first, s.len());
@@ -66,7 +66,7 @@ fn run_cases(s: &[u8])
 }
 
 fn main() {
-    let mut input = [0u8; 131072];
+    let mut input = [0u8; 196608];
     let n = io::read_full(libc::STDIN_FILENO, &mut input);
     run_cases(&input[..n]);
 }

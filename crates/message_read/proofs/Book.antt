@@ -146,13 +146,13 @@ module _ {ids : Bool} (s : List ℕ) (t : Tree) (at : ℕ) (r : Root ids s t at)
   message = messageIn (kidsIn (heldOf t))
 
   fits-same : fitsAt 3 MessaggiEsito s at ≡ heldFits (heldOf t) (named (Rows MessaggiEsito))
-  fits-same = fits-tree 3 11 MessaggiEsito s at (omega arith) ∙ ap (fitsTree 3 MessaggiEsito) (r .kids) ∙ held-named 3 MessaggiEsito (omega arith) (heldOf t)
+  fits-same = fits-tree 3 11 MessaggiEsito s at (omega arith) ∙ ap (fitsTree 3 MessaggiEsito) (r .kids) ∙ held-named 3 MessaggiEsito (λ b. refl) (omega arith) (heldOf t)
 
   fits-trees : heldFits (heldOf t) (named (Rows MessaggiEsito)) ≡ true → fitsTree 3 MessaggiEsito (treesFrom 11 s (whiteAt s at)) ≡ true
   fits-trees e = sym (fits-tree 3 11 MessaggiEsito s at (omega arith)) ∙ fits-same ∙ e
 
   fields-same : heldFits (heldOf t) (named (Rows MessaggiEsito)) ≡ true → fieldsAt 3 MessaggiEsito s at ≡ fieldsOf MessaggiEsito t
-  fields-same e = fields-tree 3 11 MessaggiEsito s at (omega arith) (fits-same ∙ e) ∙ ap (fieldsTree 3 MessaggiEsito) (r .kids) ∙ held-fields-named 3 MessaggiEsito (omega arith) (ltOf t) (heldOf t) e
+  fields-same e = fields-tree 3 11 MessaggiEsito s at (omega arith) (fits-same ∙ e) ∙ ap (fieldsTree 3 MessaggiEsito) (r .kids) ∙ held-fields-named 3 MessaggiEsito (λ b. refl) (omega arith) (ltOf t) (heldOf t) e
 
   name-is : nameIs (bytes "messaggi_esito_applicativo") s (r .lt + 1) (r .end) ≡ textIs (bytes "messaggi_esito_applicativo") (nameOf t)
   name-is = name-same s (r .lt + 1) (r .end) (r .inside) (bytes "messaggi_esito_applicativo") ∙ ap (textIs (bytes "messaggi_esito_applicativo")) (r .name)
@@ -197,7 +197,7 @@ module _ {ids : Bool} (s : List ℕ) (t : Tree) (at : ℕ) (r : Root ids s t at)
       go true x true y true Nowhere z Nowhere h =
           let u : message ≡ m = cc in
           let st : Structured "messaggi_esito_applicativo" MessaggiEsito t = record { name = text-same (bytes "messaggi_esito_applicativo") (nameOf t) x; holds = y } in
-          (right-root MessaggiEsito 3 (omega arith) "messaggi_esito_applicativo" t st (bad-none (fieldsOf MessaggiEsito t) z), y, u)
+          (right-root MessaggiEsito 3 (λ b. refl) (omega arith) "messaggi_esito_applicativo" t st (bad-none (fieldsOf MessaggiEsito t) z), y, u)
       go true x true y true Nowhere z (Place q d) h = no h
       go true x true y true (Place p c) z Nowhere h = no h
       go true x true y true (Place p c) z (Place q d) h = later p q c d (leb p q) h

@@ -1,5 +1,5 @@
 -- An entry by rows is the entry by name: whether it agrees, and its bytes.
-use mathlib.Core.Path.{_≡_, refl, sym, ap, _∙_}
+use mathlib.Core.Path.{_≡_, refl, sym, ap, _∙_, subst}
 use mathlib.Core.List.{List, [], _∷_, _++_}
 use mathlib.Core.Bool.{Bool, true, false, cond}
 use Prim.Native.Nat.{ℕ, suc, _+_, _≤_, _<_}
@@ -28,7 +28,9 @@ use Rattle.orders.specs.Orders.{inRow, textIn, valueOf, dateOf, insideOf}
 use Rattle.tree.specs.Tree.{Tree, Trees, heldOf, kidsIn}
 use Rattle.tree.specs.Orders.{childrenNamed, Words, textNamed}
 use Rattle.tree.proofs.Positions.{treeAt, treesFrom}
-use Rattle.tree.proofs.Levels.{keptTrees, allTrees, keptFits, fitsTree}
+use Rattle.tree.proofs.Levels.{keptTrees, allTrees, fitsHeld, keptFits, fitsTree}
+use Rattle.tree.proofs.ByName.{Fixed}
+use Rattle.tree.specs.Structure.{replacesIn}
 use Rattle.tree.proofs.Orders.{fit-all, kids-of}
 use Rattle.parts.specs.declared.Span.{Span}
 use Rattle.parts.specs.Parts.{noSpan, spanOfNext, spanIn, spansFrom, partsIn, textBy}
@@ -83,6 +85,10 @@ entries-or w (t ∷ l) rest =
 pub spelt-of : (k : EntryKind) → Spelt (entryParent k) (errorsParent k) (wordsOf k)
 spelt-of Reversale = spelt-reversale
 spelt-of Mandato = spelt-mandato
+
+-- what an element of rows that no operation changes holds
+fit-fixed : (d : ℕ) (q : Parent) (t : Tree) → Fixed q → fitsHeld (fitsTree d) (Rows q) (heldOf t) ≡ true → fitsTree d q (kidsIn (heldOf t)) ≡ true
+fit-fixed d q t f e = subst (λ (r : Parent). fitsTree d r (kidsIn (heldOf t)) ≡ true) (f (replacesIn (kidsIn (heldOf t)))) e
 
 -- A LIST OF ERRORS
 module _ (k : EntryKind) (m : ℕ) (s : List ℕ) (i : ℕ) (f : fitsTree 1 (errorsParent k) (treesFrom (suc m) s i) ≡ true) where
@@ -144,7 +150,7 @@ module _ (k : EntryKind) (m : ℕ) (s : List ℕ) (i : ℕ) (f : fitsTree 2 (ent
   list-same ks l pairs-none = refl
   list-same ks l (pairs-next {k = x} {t = t} e g ps) =
       let z = list-kids x t e in
-      rw z (errors-same k m s (whiteAt s (x .child .gt + 1)) (rw (← z) g))
+      rw z (errors-same k m s (whiteAt s (x .child .gt + 1)) (rw (← z) (fit-fixed 1 (errorsParent k) t (spelt-of k .errors-fixed) g)))
 
   pub entry-same : toBad (entryOffAt k s (keptFrom (entryParent k) s i)) ≡ firstOff (entryAgrees (wordsOf k) (treesFrom (suc (suc m)) s i)) Nowhere
   unfolding entryOffAt
@@ -174,7 +180,7 @@ module _ (k : EntryKind) (m : ℕ) (s : List ℕ) (i : ℕ) (f : fitsTree 2 (ent
       go ks l (pairs-next {k = x} {t = t} {ks = xs} e g ps) (present y d q r) z =
           let u = ap (λ (j : List Kept). spanOfNext (nextOf j) .to) z in
           let v = list-kids x t e in
-          let o = error-code k m s (whiteAt s (x .child .gt + 1)) (rw (← v) g) in
+          let o = error-code k m s (whiteAt s (x .child .gt + 1)) (rw (← v) (fit-fixed 1 (errorsParent k) t (spelt-of k .errors-fixed) g)) in
           rw (ne-eqb (x .child .to) 0 (λ n. omega arith), o, v)
 
   facts-same : factsAt k s (partsIn (keptFrom (entryParent k) s i)) ≡ factsOf (wordsOf k) (entryIn (wordsOf k) (treesFrom (suc (suc m)) s i))
@@ -221,7 +227,7 @@ module _ (k : EntryKind) (m : ℕ) (s : List ℕ) where
   off-same ks l pairs-none = refl
   off-same ks l (pairs-next {k = x} {t = t} {ks = xs} {l = ts} e g ps) =
       let z = entry-kids x t e in
-      let a = entry-same k m s (whiteAt s (x .child .gt + 1)) (rw (← z) g) in
+      let a = entry-same k m s (whiteAt s (x .child .gt + 1)) (rw (← z) (fit-fixed 2 (entryParent k) t (spelt-of k .entry-fixed) g)) in
       or-same (entryOffAt k s (insideOf s x (Rows (entryParent k)))) (entriesOffAt k s xs) ∙ rw (a, off-same xs ts ps, z) (sym (first-or (entryAgrees (wordsOf k) (treesFrom (suc (suc m)) s (whiteAt s (x .child .gt + 1)))) (entriesOff (wordsOf k) ts Nowhere)))
 
   pub entries-same : (ks : List Kept) (l : List Tree) → Pairs (treeAt (suc (suc (suc m))) s) (fitsTree 2) (Rows (entryParent k)) ks l → entriesAt k s ks ≡ entriesShown (wordsOf k) l
@@ -229,5 +235,5 @@ module _ (k : EntryKind) (m : ℕ) (s : List ℕ) where
   entries-same ks l pairs-none = refl
   entries-same ks l (pairs-next {k = x} {t = t} {ks = xs} {l = ts} e g ps) =
       let z = entry-kids x t e in
-      let a = bytes-same k m s (whiteAt s (x .child .gt + 1)) (rw (← z) g) in
+      let a = bytes-same k m s (whiteAt s (x .child .gt + 1)) (rw (← z) (fit-fixed 2 (entryParent k) t (spelt-of k .entry-fixed) g)) in
       rw (a, entries-same xs ts ps, z)
