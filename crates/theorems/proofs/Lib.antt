@@ -16,3 +16,4 @@ pub mod Totals
 pub mod Searches
 pub mod Journal
 pub mod Converted
+pub mod Salvage

@@ -9,3 +9,4 @@ pub mod History
 pub mod Totals
 pub mod Searches
 pub mod Journal
+pub mod Salvage
