@@ -20,11 +20,7 @@ fn say_salvaged(t: &mut [u8], r: &mut [u8], x: &[u8], y: &[u8]) {
     say_number(a.code);
     say(b", blanked ");
     say_number(a.blanked);
-    say_whether(
-        scan::same(t, x),
-        b", table as expected",
-        b", table differs",
-    );
+    say_whether(scan::same(t, x), b", table as expected", b", table differs");
     say_whether(
         scan::same(r, y),
         b", report as expected",
@@ -36,11 +32,7 @@ fn say_salvaged(t: &mut [u8], r: &mut [u8], x: &[u8], y: &[u8]) {
     say_number(b.code);
     say(b", blanked ");
     say_number(b.blanked);
-    say_whether(
-        scan::same(t, x),
-        b", table the same",
-        b", table changes",
-    );
+    say_whether(scan::same(t, x), b", table the same", b", table changes");
 }
 
 // In a report's buffer of k bytes, at most 64.

@@ -44,8 +44,8 @@ salvage-codes t r n k t′ r′ p = (
   p .2 ∙ ap codeOf (p .1 .0) ∙ code-is t (length r)
       ∙ ap (λ (m : ℕ). cond (contentsOk table2 t) (cond (leb m (length r)) 0 35) 34) (report-length t),
   λ f.
-  let w = refusal t r (p .0) (λ z. f (p .2 ∙ z)) in
-  (p .3 ∙ w .0, p .1 .1 ∙ w .1, p .1 .2 ∙ w .2),
+      let w = refusal t r (p .0) (λ z. f (p .2 ∙ z)) in
+      (p .3 ∙ w .0, p .1 .1 ∙ w .1, p .1 .2 ∙ w .2),
 )
 
 -- ANSWERED 0: head and entries are right, and the table is repaired
