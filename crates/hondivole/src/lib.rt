@@ -10,6 +10,7 @@ ghost use Rattle.target_days.specs.Target.{firstTold, FirstPromise};
 ghost use Rattle.children.specs.Child.{FieldPromise};
 ghost use Rattle.opening.specs.Opening.{OpenReplies};
 ghost use Rattle.convert.specs.Convert.{ConvertReplies};
+ghost use Rattle.salvage.specs.Salvage.{SalvageReplies};
 ghost use Rattle.desk.specs.Desk.{FlowReplies};
 ghost use Rattle.journal.specs.Journal.{JournalPromise};
 ghost use Rattle.notices.specs.Notices.{keyed, NoticeReplies, totalled, TotalsPromise};
@@ -28,6 +29,16 @@ pub extern "C" fn hondivole_convert(old: &[u8], table: &mut [u8]) -> u64
     ensures { λ r. ⌜ ConvertReplies (now (old .entry)) (now (table .entry)) r (now (table .exit)) ⌝ }
 {
     convert::code_of(convert::convert(old, table))
+}
+
+// Repairs a damaged table, and reports what was moved and what blanked.
+#[no_mangle]
+pub extern "C" fn hondivole_salvage(table: &mut [u8], report: &mut [u8], blanked: &mut u64) -> u64
+    ensures { λ r. ⌜ SalvageReplies (now (table .entry)) (now (report .entry)) r (now (blanked .exit)) (now (table .exit)) (now (report .exit)) ⌝ }
+{
+    let a = salvage::reply_of(salvage::salvage(table, report));
+    *blanked = a.blanked;
+    a.code
 }
 
 // Takes a flow of the edition of a number.

@@ -18,3 +18,4 @@ pub mod Searches
 pub mod Replacements
 pub mod Journal
 pub mod Converted
+pub mod Salvage

@@ -6,6 +6,8 @@ use Rattle.opening.specs.declared.Opened.{Opened}
 use Rattle.opening.specs.Opening.{openCode, openTable, OpenPromise}
 use Rattle.convert.specs.declared.Converted.{Converted}
 use Rattle.convert.specs.Convert.{convertCode, convertTable, ConvertPromise}
+use Rattle.salvage.specs.declared.Salvaged.{Salvaged}
+use Rattle.salvage.specs.Salvage.{salvageTable, salvageReport, salvageReply, SalvagePromise}
 use Rattle.notices.specs.declared.NoticeAnswer.{NoticeAnswer}
 use Rattle.notices.specs.Notices.{noticeReply, noticeCodeOf}
 use Rattle.desk.specs.declared.FlowReply.{FlowReply}
@@ -26,6 +28,13 @@ one-open q t a b u v m n = (one (m .0) (n .0), one (m .1 ∙ (λ i. openTable (m
 one-convert : (o t : List ℕ) (a b : Converted) (u v : List ℕ) → ConvertPromise o t a u → ConvertPromise o t b v → (a ≡ b) × (u ≡ v)
 one-convert o t a b u v m n = (one (m .0) (n .0), one (m .1 ∙ (λ i. convertTable (m .0 i) o t)) (n .1 ∙ (λ i. convertTable (n .0 i) o t)))
 
+one-salvage : (t r : List ℕ) (a b : Salvaged) (u v x y : List ℕ) → SalvagePromise t r a u x → SalvagePromise t r b v y → (a ≡ b) × (u ≡ v) × (x ≡ y)
+one-salvage t r a b u v x y m n = (
+  one (m .0) (n .0),
+  one (m .1 ∙ (λ i. salvageTable (m .0 i) t)) (n .1 ∙ (λ i. salvageTable (n .0 i) t)),
+  one (m .2 ∙ (λ i. salvageReport (m .0 i) t r)) (n .2 ∙ (λ i. salvageReport (n .0 i) t r)),
+)
+
 pub no-second : NoSecond
 no-second = record {
   opening = one-open;
@@ -34,6 +43,7 @@ no-second = record {
   notice = λ t executing code k line d a b u v m n. (one (m .0) (n .0), one (m .1) (n .1));
   totals = λ t code a b m n. one m n;
   journal = λ t code s a b m n. one m n;
+  salvage = one-salvage;
   field = λ s place a b m n. one m n;
   name = λ s place a b m n. one m n;
   text = λ s place a b m n. one m n;
@@ -53,4 +63,7 @@ no-second = record {
   notice-replies = λ t executing code k line d m n cents dents u v x y.
       let e = one (x .1 .0) (y .1 .0) in
       (same noticeCodeOf e (x .2) (y .2), same (λ (a : NoticeAnswer). noticeReply a .cents) e (x .3) (y .3), one (x .1 .1) (y .1 .1));
+  salvage-replies = λ t r m n k l u v x y p q.
+      let e = one-salvage t r (p .0) (q .0) u v x y (p .1) (q .1) in
+      (same (λ (a : Salvaged). salvageReply a .code) (e .0) (p .2) (q .2), same (λ (a : Salvaged). salvageReply a .blanked) (e .0) (p .3) (q .3), e .1, e .2);
 }

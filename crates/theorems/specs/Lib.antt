@@ -10,3 +10,4 @@ pub mod Totals
 pub mod Searches
 pub mod Replacements
 pub mod Journal
+pub mod Salvage

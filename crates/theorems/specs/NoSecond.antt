@@ -17,6 +17,8 @@ use Rattle.opening.specs.declared.Opened.{Opened}
 use Rattle.opening.specs.Opening.{OpenPromise, OpenReplies}
 use Rattle.convert.specs.declared.Converted.{Converted}
 use Rattle.convert.specs.Convert.{ConvertPromise, ConvertReplies}
+use Rattle.salvage.specs.declared.Salvaged.{Salvaged}
+use Rattle.salvage.specs.Salvage.{SalvagePromise, SalvageReplies}
 use Rattle.notices.specs.declared.NoticeAnswer.{NoticeAnswer}
 use Rattle.notices.specs.declared.TotalsAnswer.{TotalsAnswer}
 use Rattle.notices.specs.Notices.{NoticePromise, NoticeReplies, TotalsPromise}
@@ -36,6 +38,8 @@ pub record NoSecond : Type 0 where
   pub totals : (t code : List ℕ) (a b : TotalsAnswer) → TotalsPromise t code a → TotalsPromise t code b → a ≡ b
   -- a journal (Req 10), the exported function's promise too
   pub journal : (t code s : List ℕ) (a b : ℕ) → JournalPromise t code s a → JournalPromise t code s b → a ≡ b
+  -- salvage (Req 13)
+  pub salvage : (t r : List ℕ) (a b : Salvaged) (u v x y : List ℕ) → SalvagePromise t r a u x → SalvagePromise t r b v y → (a ≡ b) × (u ≡ v) × (x ≡ y)
   -- a field's own words: where they stand in the flow, and so which they are
   pub field : (s : List ℕ) (place : ℕ) (a b : FieldSpans) → FieldPromise s place a → FieldPromise s place b → a ≡ b
   pub name : (s : List ℕ) (place : ℕ) (a b : List ℕ) → NamePromise s place a → NamePromise s place b → a ≡ b
@@ -50,3 +54,4 @@ pub record NoSecond : Type 0 where
       → (m ≡ n) × (u ≡ v) × (x ≡ y)
   pub notice-replies : (t : List ℕ) (executing : Bool) (code : List ℕ) (k : Key) (line : ℕ) (d : Date) (m n cents dents : ℕ) (u v : List ℕ)
       → NoticeReplies t executing code k line d m cents u → NoticeReplies t executing code k line d n dents v → (m ≡ n) × (cents ≡ dents) × (u ≡ v)
+  pub salvage-replies : (t r : List ℕ) (m n k l : ℕ) (u v x y : List ℕ) → SalvageReplies t r m k u x → SalvageReplies t r n l v y → (m ≡ n) × (k ≡ l) × (u ≡ v) × (x ≡ y)

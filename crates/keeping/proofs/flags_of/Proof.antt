@@ -55,12 +55,11 @@ loop-less c = search needs
 
 loop-again : tie.Need-loop-again Inv-loop μ-loop
 loop-again c =
-    let l = c .before .before .before .before .before .loop in
-    (
-    omega arith,
-    simp length-set (l .inv .1),
-    l .inv .2 ∙ flags-more (c .before .before .before .before .before .before .before .before .args .t .now) (c .before .before .before .before .before .before .before .before .args .base) (length (c .before .before .before .before .before .before .before .before .args .flags .now)) (l .flags) (l .i) _ (sym (l .inv .1)) (omega arith) (c .flag-of .ensures),
-    marked-more (c .before .before .before .before .before .before .before .before .args .t .now) (c .before .before .before .before .before .before .before .before .args .base) (l .flags) (l .seen) (l .i) _ (c .before .before .mark-of .result) (omega (arith, l .inv .1)) (c .before .before .before .key-at .ensures) (c .before .before .mark-of .ensures .0) (c .before .before .mark-of .ensures .1) (c .flag-of .ensures) (l .inv .3),
+    let l = c .before .before .before .before .before .loop in (
+      omega arith,
+      simp length-set (l .inv .1),
+      l .inv .2 ∙ flags-more (c .before .before .before .before .before .before .before .before .args .t .now) (c .before .before .before .before .before .before .before .before .args .base) (length (c .before .before .before .before .before .before .before .before .args .flags .now)) (l .flags) (l .i) _ (sym (l .inv .1)) (omega arith) (c .flag-of .ensures),
+      marked-more (c .before .before .before .before .before .before .before .before .args .t .now) (c .before .before .before .before .before .before .before .before .args .base) (l .flags) (l .seen) (l .i) _ (c .before .before .mark-of .result) (omega (arith, l .inv .1)) (c .before .before .before .key-at .ensures) (c .before .before .mark-of .ensures .0) (c .before .before .mark-of .ensures .1) (c .flag-of .ensures) (l .inv .3),
     )
 
 same-length : tie.Need-same-length Inv-loop μ-loop

@@ -45,11 +45,13 @@ loop-less : tie.Need-loop-less Inv-loop μ-loop
 loop-less c = search needs
 
 loop-again : tie.Need-loop-again Inv-loop μ-loop
-loop-again c =
-    (omega arith, c .before .before .before .loop .inv .1 ∙ ⊎-elim
-    (λ w. none-pass (c .before .before .before .before .before .before .args .t .now) (c .before .before .before .before .before .before .args .base) (c .before .before .before .before .before .before .args .flags .now) (c .before .before .before .before .before .before .args .n) (c .before .before .before .before .before .before .args .key) (c .before .before .before .loop .i) (omega arith) (omega arith) (w .0 .taken) (w .1 .ensures) (w .2 .left))
-    (λ w. none-skip (c .before .before .before .before .before .before .args .t .now) (c .before .before .before .before .before .before .args .base) (c .before .before .before .before .before .before .args .flags .now) (c .before .before .before .before .before .before .args .n) (c .before .before .before .before .before .before .args .key) (c .before .before .before .loop .i) (omega arith) (omega arith) (w .left))
-    (c .if1 .came))
+loop-again c = (
+  omega arith,
+  c .before .before .before .loop .inv .1 ∙ ⊎-elim
+      (λ w. none-pass (c .before .before .before .before .before .before .args .t .now) (c .before .before .before .before .before .before .args .base) (c .before .before .before .before .before .before .args .flags .now) (c .before .before .before .before .before .before .args .n) (c .before .before .before .before .before .before .args .key) (c .before .before .before .loop .i) (omega arith) (omega arith) (w .0 .taken) (w .1 .ensures) (w .2 .left))
+      (λ w. none-skip (c .before .before .before .before .before .before .args .t .now) (c .before .before .before .before .before .before .args .base) (c .before .before .before .before .before .before .args .flags .now) (c .before .before .before .before .before .before .args .n) (c .before .before .before .before .before .before .args .key) (c .before .before .before .loop .i) (omega arith) (omega arith) (w .left))
+      (c .if1 .came),
+)
 
 returns-2 : tie.Need-returns-2 Inv-loop μ-loop
 returns-2 c = none-end (c .before .before .before .before .args .t .now) (c .before .before .before .before .args .base) (c .before .before .before .before .args .flags .now) (c .before .before .before .before .args .n) (c .before .before .before .before .args .key) (c .before .loop .i) (omega arith) (omega arith) ∙ sym (c .before .loop .inv .1)

@@ -63,13 +63,21 @@ loop-again c =
     (λ w.
     let k = rest-yes (c .before .before .before .before .before .before .before .before .args .t .now) (l .at) (c .before .before .before .before .before .before .before .before .args .flags .now) (l .i) (omega arith) (c .before .is-blanked .ensures) (w .0 .taken) in
     let s = ap length k in
-    let z = blankedRest (c .before .before .before .before .before .before .before .before .args .t .now) (l .at + slotSize) (c .before .before .before .before .before .before .before .before .args .flags .now) (l .i + 1) in
-    (omega arith, omega arith, ap length (w .5 ∙ w .2 .ensures) ∙ length-put (l .r) (l .next) _ (omega (arith, l .inv .3)) ∙ l .inv .2, l .inv .3 ∙ omega (arith, w .6),
-    l .inv .4 ∙ ap (λ (vs : List ℕ). put (l .r) (l .next) (each bytes4 vs)) k ∙ put-more bytes4 (l .r) (l .next) (c .if1 .r) 4 (l .at) z refl (omega (arith, l .inv .3)) (w .5 ∙ w .2 .ensures) ∙ (λ j. put (c .if1 .r) (sym (w .6) j) (each bytes4 z))))
+    let z = blankedRest (c .before .before .before .before .before .before .before .before .args .t .now) (l .at + slotSize) (c .before .before .before .before .before .before .before .before .args .flags .now) (l .i + 1) in (
+      omega arith,
+      omega arith,
+      ap length (w .5 ∙ w .2 .ensures) ∙ length-put (l .r) (l .next) _ (omega (arith, l .inv .3)) ∙ l .inv .2,
+      l .inv .3 ∙ omega (arith, w .6),
+      l .inv .4 ∙ ap (λ (vs : List ℕ). put (l .r) (l .next) (each bytes4 vs)) k ∙ put-more bytes4 (l .r) (l .next) (c .if1 .r) 4 (l .at) z refl (omega (arith, l .inv .3)) (w .5 ∙ w .2 .ensures) ∙ (λ j. put (c .if1 .r) (sym (w .6) j) (each bytes4 z)),
+    ))
     (λ w.
-    let k = rest-no (c .before .before .before .before .before .before .before .before .args .t .now) (l .at) (c .before .before .before .before .before .before .before .before .args .flags .now) (l .i) (omega arith) (c .before .is-blanked .ensures) (w .0 .left) in
-    (omega arith, omega arith, ap length (w .1) ∙ l .inv .2, l .inv .3 ∙ omega (arith, w .2, ap length k),
-    l .inv .4 ∙ (λ j. put (sym (w .1) j) (sym (w .2) j) (each bytes4 (k j)))))
+    let k = rest-no (c .before .before .before .before .before .before .before .before .args .t .now) (l .at) (c .before .before .before .before .before .before .before .before .args .flags .now) (l .i) (omega arith) (c .before .is-blanked .ensures) (w .0 .left) in (
+      omega arith,
+      omega arith,
+      ap length (w .1) ∙ l .inv .2,
+      l .inv .3 ∙ omega (arith, w .2, ap length k),
+      l .inv .4 ∙ (λ j. put (sym (w .1) j) (sym (w .2) j) (each bytes4 (k j))),
+    ))
     (c .if1 .came)
 
 same-length : tie.Need-same-length Inv-loop μ-loop

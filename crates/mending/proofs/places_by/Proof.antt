@@ -29,9 +29,10 @@ same-length-2 c = search needs
 
 returns : tie.Need-returns
 returns c =
-    let e = c .before .before .before .before .before .before .before .flags-of .ensures in
-    (c .before .before .put-places .ensures .0 ∙ ap (λ (fs : List ℕ). c .before .before .before .before .before .before .before .before .before .before .before .before .args .to + 4 * length (blankedFrom (c .before .before .before .before .before .before .before .before .before .before .before .before .args .t .now) (c .before .before .before .before .before .before .before .before .before .before .before .before .args .base) fs)) e,
-    c .before .before .put-places .ensures .1 ∙ ap (λ (fs : List ℕ). put (c .before .before .before .before .before .before .before .before .before .before .before .before .args .r .now) (c .before .before .before .before .before .before .before .before .before .before .before .before .args .to) (each bytes4 (blankedFrom (c .before .before .before .before .before .before .before .before .before .before .before .before .args .t .now) (c .before .before .before .before .before .before .before .before .before .before .before .before .args .base) fs))) e)
+    let e = c .before .before .before .before .before .before .before .flags-of .ensures in (
+      c .before .before .put-places .ensures .0 ∙ ap (λ (fs : List ℕ). c .before .before .before .before .before .before .before .before .before .before .before .before .args .to + 4 * length (blankedFrom (c .before .before .before .before .before .before .before .before .before .before .before .before .args .t .now) (c .before .before .before .before .before .before .before .before .before .before .before .before .args .base) fs)) e,
+      c .before .before .put-places .ensures .1 ∙ ap (λ (fs : List ℕ). put (c .before .before .before .before .before .before .before .before .before .before .before .before .args .r .now) (c .before .before .before .before .before .before .before .before .before .before .before .before .args .to) (each bytes4 (blankedFrom (c .before .before .before .before .before .before .before .before .before .before .before .before .args .t .now) (c .before .before .before .before .before .before .before .before .before .before .before .before .args .base) fs))) e,
+    )
 
 pub places-by-spec : {M : Type 1} → statement M
 places-by-spec =

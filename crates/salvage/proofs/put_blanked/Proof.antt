@@ -85,10 +85,12 @@ loop-again c =
     let t = c .before .before .before .before .before .before .before .before .before .before .args .t .now in
     let k = count-more (c .before .before .before .before .before .before .before .before .before .before .args .t .now) (l .at) (l .left) (omega arith) (c .before .before .before .before .before .place-of .ensures .0) (c .before .before .before .before .slots-of .ensures .0) in
     let xs = blankedFrom (c .before .before .before .before .before .before .before .before .before .before .args .t .now) (c .before .before .before .before .before .place-of .result) (keepsAt (c .before .before .before .before .before .before .before .before .before .before .args .t .now) (c .before .before .before .before .before .place-of .result) (c .before .before .before .before .slots-of .result)) in
-    let m = each-four xs in
-    (omega arith, l .inv .1 ∙ omega (arith, c .before .before .places-in .ensures .0),
-    ap length (c .before .before .places-in .ensures .1) ∙ length-put (l .r) (l .to) (each bytes4 xs) (omega (arith, l .inv .1)) ∙ l .inv .2,
-    l .inv .3 ∙ places-more (l .r) _ (l .to) _ (blankedIn (c .before .before .before .before .before .before .before .before .before .before .args .t .now) (l .at) (l .left)) xs (blankedIn (c .before .before .before .before .before .before .before .before .before .before .args .t .now) (l .at + entrySize) (l .left - 1)) (blanked-more (c .before .before .before .before .before .before .before .before .before .before .args .t .now) (l .at) (l .left) (omega arith) (c .before .before .before .before .before .place-of .ensures .0) (c .before .before .before .before .slots-of .ensures .0)) (omega (arith, l .inv .1)) (c .before .before .places-in .ensures .0) (c .before .before .places-in .ensures .1))
+    let m = each-four xs in (
+      omega arith,
+      l .inv .1 ∙ omega (arith, c .before .before .places-in .ensures .0),
+      ap length (c .before .before .places-in .ensures .1) ∙ length-put (l .r) (l .to) (each bytes4 xs) (omega (arith, l .inv .1)) ∙ l .inv .2,
+      l .inv .3 ∙ places-more (l .r) _ (l .to) _ (blankedIn (c .before .before .before .before .before .before .before .before .before .before .args .t .now) (l .at) (l .left)) xs (blankedIn (c .before .before .before .before .before .before .before .before .before .before .args .t .now) (l .at + entrySize) (l .left - 1)) (blanked-more (c .before .before .before .before .before .before .before .before .before .before .args .t .now) (l .at) (l .left) (omega arith) (c .before .before .before .before .before .place-of .ensures .0) (c .before .before .before .before .slots-of .ensures .0)) (omega (arith, l .inv .1)) (c .before .before .places-in .ensures .0) (c .before .before .places-in .ensures .1),
+    )
 
 same-length : tie.Need-same-length Inv-loop μ-loop
 same-length c = search needs

@@ -87,10 +87,13 @@ loop-again : tie.Need-loop-again Inv-loop μ-loop
 loop-again c =
     let l = c .before .before .before .before .before .before .before .before .loop in
     let k = moved-more (c .before .before .before .before .before .before .before .before .before .before .before .args .t .now) (l .at) (l .left) (omega arith) (c .before .before .before .before .before .before .place-of .ensures .0) (c .before .before .before .before .before .slots-of .ensures .0) in
-    let z = movedIn (c .before .before .before .before .before .before .before .before .before .before .before .args .t .now) (l .at + entrySize) (l .left - 1) in
-    (omega arith, omega arith, ap length (c .before .before .write2 .ensures) ∙ length-put (l .r) (l .to) _ (omega (arith, l .inv .1)) ∙ l .inv .2,
-    l .inv .3 ∙ ap (λ (vs : List ℕ). put (l .r) (l .to) (each bytes2 vs)) k
-    ∙ put-more bytes2 (l .r) (l .to) _ 2 _ z refl (omega (arith, l .inv .1)) (c .before .before .write2 .ensures ∙ ap (λ (v : ℕ). put (l .r) (l .to) (bytes2 v)) (c .before .before .before .moved-in .ensures)))
+    let z = movedIn (c .before .before .before .before .before .before .before .before .before .before .before .args .t .now) (l .at + entrySize) (l .left - 1) in (
+      omega arith,
+      omega arith,
+      ap length (c .before .before .write2 .ensures) ∙ length-put (l .r) (l .to) _ (omega (arith, l .inv .1)) ∙ l .inv .2,
+      l .inv .3 ∙ ap (λ (vs : List ℕ). put (l .r) (l .to) (each bytes2 vs)) k
+          ∙ put-more bytes2 (l .r) (l .to) _ 2 _ z refl (omega (arith, l .inv .1)) (c .before .before .write2 .ensures ∙ ap (λ (v : ℕ). put (l .r) (l .to) (bytes2 v)) (c .before .before .before .moved-in .ensures)),
+    )
 
 same-length : tie.Need-same-length Inv-loop μ-loop
 same-length c = search needs

@@ -48,12 +48,13 @@ loop-again : tie.Need-loop-again Inv-loop μ-loop
 loop-again c =
     let l = c .before .before .before .before .before .loop in
     let F = turn (l .t) (l .inv .1) (l .at) (l .left) (l .inv .2) (l .inv .0) (omega arith) in
-    let e = c .before .before .repair-at .ensures in
-    (omega arith,
-    ap (contentsOk table2) e ∙ turn-right (l .t) (l .inv .1) (l .at) (l .left) (l .inv .2) (l .inv .0) (omega arith),
-    turn-bodies (l .t) (l .inv .1) (l .at) (l .left) (l .inv .2) (l .inv .0) (omega arith) ∙ sym (ap bodies e),
-    ap length e ∙ next-long (l .t) (l .at) F ∙ l .inv .3,
-    l .inv .4 ∙ repaired-more (l .t) (l .at) (l .left) (omega arith) ∙ ap (λ (s : List ℕ). repairedFrom s (l .at + entrySize) (l .left - 1)) (sym e))
+    let e = c .before .before .repair-at .ensures in (
+      omega arith,
+      ap (contentsOk table2) e ∙ turn-right (l .t) (l .inv .1) (l .at) (l .left) (l .inv .2) (l .inv .0) (omega arith),
+      turn-bodies (l .t) (l .inv .1) (l .at) (l .left) (l .inv .2) (l .inv .0) (omega arith) ∙ sym (ap bodies e),
+      ap length e ∙ next-long (l .t) (l .at) F ∙ l .inv .3,
+      l .inv .4 ∙ repaired-more (l .t) (l .at) (l .left) (omega arith) ∙ ap (λ (s : List ℕ). repairedFrom s (l .at + entrySize) (l .left - 1)) (sym e),
+    )
 
 same-length : tie.Need-same-length Inv-loop μ-loop
 same-length c = search needs
