@@ -40,7 +40,7 @@
 extern "C" {
 #endif
 
-/* The codes: of calls (1 to 10, 16, 17, 20 to 23, 27 to 35, 40, 41) and of orders (11 to 19). */
+/* The codes: of calls (1 to 10, 16, 17, 20 to 23, 27 to 35, 40, 41) and of orders (12 to 19, 24 to 26). 11 is given no more. */
 enum hondivole_code {
     HONDIVOLE_DONE = 0,                 /* nothing is refused */
     HONDIVOLE_TABLE_NOT_VALID = 1,      /* the table isn't valid */
@@ -53,19 +53,21 @@ enum hondivole_code {
     HONDIVOLE_OUTCOMES_TOO_SHORT = 8,   /* the outcome buffer has under 16 bytes per order */
     HONDIVOLE_REQUEST_WRONG = 9,        /* the request to open a table is wrong */
     HONDIVOLE_BUFFER_LENGTH_WRONG = 10, /* the buffer to open or convert a table in hasn't the needed length */
-    HONDIVOLE_SUBSTITUTION = 11,        /* the order is a SOSTITUZIONE */
     HONDIVOLE_LINES_MISNUMBERED = 12,   /* the order's lines aren't numbered 1, 2, 3 and so on */
     HONDIVOLE_LINES_DONT_SUM = 13,      /* the order's line amounts don't sum to its total */
-    HONDIVOLE_ORDER_EXISTS = 14,        /* INSERIMENTO: the body already has this order */
-    HONDIVOLE_NO_EMPTY_SLOT = 15,       /* INSERIMENTO: the body has no empty slot */
+    HONDIVOLE_ORDER_EXISTS = 14,        /* INSERIMENTO, SOSTITUZIONE: the body already has this order */
+    HONDIVOLE_NO_EMPTY_SLOT = 15,       /* INSERIMENTO, SOSTITUZIONE: the body has no empty slot */
     HONDIVOLE_NO_SUCH_ORDER = 16,       /* the body has no such order */
     HONDIVOLE_ORDER_ANNULLED = 17,      /* the order is annulled */
-    HONDIVOLE_LINE_EXECUTED = 18,       /* a line of the order is executed */
+    HONDIVOLE_LINE_EXECUTED = 18,       /* a line of the order is executed or replaced */
     HONDIVOLE_RECORD_DIFFERS = 19,      /* ANNULLO: the total or the lines differ from the record */
     HONDIVOLE_NO_SUCH_LINE = 20,        /* the order has no such line */
-    HONDIVOLE_ALREADY_EXECUTED = 21,    /* execution: the line is already executed */
-    HONDIVOLE_NOT_EXECUTED = 22,        /* reversal: the line isn't executed */
+    HONDIVOLE_ALREADY_EXECUTED = 21,    /* execution: the line is already executed, or replaced */
+    HONDIVOLE_NOT_EXECUTED = 22,        /* reversal: the line isn't executed, or it is replaced */
     HONDIVOLE_NO_SUCH_EDITION = 23,     /* the number names no edition of a flow */
+    HONDIVOLE_NAMED_LINE_ABSENT = 24,   /* SOSTITUZIONE: the body has no such line */
+    HONDIVOLE_NAMED_LINE_NOT_EXECUTED = 25, /* SOSTITUZIONE: the named line isn't executed, or it is replaced, also earlier in this order */
+    HONDIVOLE_NAMED_LINE_OTHER_AMOUNT = 26, /* SOSTITUZIONE: the named line has another amount */
     HONDIVOLE_NO_DATE_SERVED = 27,      /* no date, or outside the years 2002 to 2099 */
     HONDIVOLE_CLOSING_DAY = 28,         /* the date is no TARGET day */
     HONDIVOLE_MOVEMENTS_WRONG = 29,     /* journal: over 4,096 or not whole movements */
@@ -170,8 +172,10 @@ uint64_t hondivole_convert(const uint8_t *old, size_t old_len, uint8_t *table, s
  * Takes a body's flow of the edition of that number, 1 or 2; a body may mix editions. It answers 0 when the flow is taken: its orders are then served as written, each on the table the one before left;
  * *orders is how many it holds (1 to 64) and *accepted how many of them got outcome code 0; *place and *cause are 0. *steps is how many
  * slots the searches for its orders looked at, together: each up to and including the slot found, or all the body's used slots when there is
- * none, and none for an order answered 11, 12 or 13; at most *orders times the body's slots. Each order has written
- * 16 outcome bytes: 0 kind, 1 operation (1 INSERIMENTO, 2 VARIAZIONE, 3 ANNULLO, 4 SOSTITUZIONE), 2 code (0, 11 to 19), 3 lines, 4-7
+ * none, and none for an order answered 12 or 13; at most *orders times the body's slots. A SOSTITUZIONE is a new order whose lines each
+ * name an executed line of the same kind and body, of equal amount: that one becomes replaced, for good, and the new one is executed at once,
+ * so that no cash moves. Each order has written
+ * 16 outcome bytes: 0 kind, 1 operation (1 INSERIMENTO, 2 VARIAZIONE, 3 ANNULLO, 4 SOSTITUZIONE), 2 code (0, 12 to 19, 24 to 26), 3 lines, 4-7
  * number, 8-15 total, numbers with the highest byte first. Otherwise it answers the first code of 1, 23 and 2 to 8 that applies, with *orders, *accepted
  * and *steps 0, and *place and *cause 0 but for code 5, where *place is the byte of `<` of the first element whose field breaks, counted
  * from 0, and *cause what is wrong with that field, 1 to 4: hondivole_cause_text says it in words. It never changes table or outcomes with
@@ -185,7 +189,7 @@ uint64_t hondivole_flow(uint8_t *table, size_t table_len, uint64_t edition, cons
  * Takes the bank's notice that a line is executed. It names the body by its code, the order by kind (1 mandato, 2 reversale), esercizio
  * and number, and the line, counted from 1; year, month and day are its date, which has to be a TARGET day. It answers 0 and sets the line
  * executed, *cents being the line's amount; or the first of 1 (table not valid), 27 (no date, or outside 2002 to 2099), 28 (closing day),
- * 7 (no such body), 16 (no such order), 17 (annulled), 20 (no such line) and 21 (already executed) that applies, *cents being 0. It changes
+ * 7 (no such body), 16 (no such order), 17 (annulled), 20 (no such line) and 21 (already executed, or replaced) that applies, *cents being 0. It changes
  * the line's state and the cents that the body's entry keeps, and no other byte, and none on a refusal.
  */
 uint64_t hondivole_execute(uint8_t *table, size_t table_len, const uint8_t *body, size_t body_len, uint64_t kind, uint64_t esercizio,
@@ -194,7 +198,7 @@ uint64_t hondivole_execute(uint8_t *table, size_t table_len, const uint8_t *body
 /*
  * Takes the bank's notice that an executed line is reversed (storno). It names a line and has a date as hondivole_execute does. It answers
  * 0 and sets the line waiting again, so that it may be executed again, *cents being the line's amount; or the first of 1, 27, 28, 7, 16,
- * 17, 20 and 22 (not executed) that applies, *cents being 0. It changes the line's state and the cents that the body's entry keeps, and no
+ * 17, 20 and 22 (not executed, or replaced) that applies, *cents being 0. It changes the line's state and the cents that the body's entry keeps, and no
  * other byte, and none on a refusal.
  */
 uint64_t hondivole_reverse(uint8_t *table, size_t table_len, const uint8_t *body, size_t body_len, uint64_t kind, uint64_t esercizio,
@@ -217,7 +221,7 @@ uint64_t hondivole_days_between(uint64_t year, uint64_t month, uint64_t day, uin
 
 /*
  * Reports a body's totals. It answers 0 with *used, the body's used slots (an annulled order keeps its slot), *paid and *collected, the
- * cents of executed lines of its mandati and of its reversali, and *balance, collected less paid, which may be below zero; or 1 (table
+ * cents of executed lines of its mandati and of its reversali, replaced ones not counted, and *balance, collected less paid, which may be below zero; or 1 (table
  * not valid) or 7 (no such body), all four being 0. It never changes the table.
  */
 uint64_t hondivole_totals(const uint8_t *table, size_t table_len, const uint8_t *body, size_t body_len, uint64_t *used, uint64_t *paid,
@@ -226,7 +230,7 @@ uint64_t hondivole_totals(const uint8_t *table, size_t table_len, const uint8_t 
 /*
  * Checks the movements of the bank's cash journal (giornale di cassa) against a body's executed lines. A movement has 16 bytes: kind, line,
  * esercizio in two, number in four, cents in eight, numbers with the highest byte first. It answers 0 exactly when every executed line of
- * the body is listed once, with its cents, and nothing else is listed, in any order; or the first of 1 (table not valid), 7 (no such body),
+ * the body is listed once, with its cents, and nothing else is listed (no replaced line either), in any order; or the first of 1 (table not valid), 7 (no such body),
  * 29 (over 4,096 or not whole movements), then movement by movement 30 (no such executed line), 31 (other cents) and 32 (listed before),
  * the first bad movement deciding, and then 33 (an executed line is missing). It never changes the table.
  * Its cost is close to linear in slots and movements: 4,096 movements of a full body of 512 orders take under three times what the
@@ -318,19 +322,21 @@ static inline const char *hondivole_code_text(uint64_t code)
     case HONDIVOLE_OUTCOMES_TOO_SHORT: return "the outcome buffer has under 16 bytes per order";
     case HONDIVOLE_REQUEST_WRONG: return "a table can't be opened with these ABI digits, codes and slots";
     case HONDIVOLE_BUFFER_LENGTH_WRONG: return "the buffer hasn't the length that the table needs";
-    case HONDIVOLE_SUBSTITUTION: return "SOSTITUZIONE isn't taken";
     case HONDIVOLE_LINES_MISNUMBERED: return "the order's lines aren't numbered 1, 2, 3 and so on";
     case HONDIVOLE_LINES_DONT_SUM: return "the order's line amounts don't sum to its total";
     case HONDIVOLE_ORDER_EXISTS: return "the body already has an order of this kind, esercizio and number";
     case HONDIVOLE_NO_EMPTY_SLOT: return "the body has no empty slot";
     case HONDIVOLE_NO_SUCH_ORDER: return "the body has no order of this kind, esercizio and number";
     case HONDIVOLE_ORDER_ANNULLED: return "the order is annulled";
-    case HONDIVOLE_LINE_EXECUTED: return "a line of the order is executed";
+    case HONDIVOLE_LINE_EXECUTED: return "a line of the order is executed or replaced";
     case HONDIVOLE_RECORD_DIFFERS: return "the order's total or lines differ from the record";
     case HONDIVOLE_NO_SUCH_LINE: return "the order has no such line";
-    case HONDIVOLE_ALREADY_EXECUTED: return "the line is already executed";
-    case HONDIVOLE_NOT_EXECUTED: return "the line isn't executed";
+    case HONDIVOLE_ALREADY_EXECUTED: return "the line is already executed, or replaced";
+    case HONDIVOLE_NOT_EXECUTED: return "the line isn't executed, or is replaced";
     case HONDIVOLE_NO_SUCH_EDITION: return "there is no edition of this number";
+    case HONDIVOLE_NAMED_LINE_ABSENT: return "the body has no such line to replace";
+    case HONDIVOLE_NAMED_LINE_NOT_EXECUTED: return "the line to replace isn't executed, or is replaced already";
+    case HONDIVOLE_NAMED_LINE_OTHER_AMOUNT: return "the line to replace has another amount";
     case HONDIVOLE_NO_DATE_SERVED: return "no date of the years 2002 to 2099";
     case HONDIVOLE_CLOSING_DAY: return "the date is no TARGET day";
     case HONDIVOLE_BUFFER_TOO_SHORT: return "the buffer is shorter than the message or its values";

@@ -62,8 +62,6 @@ def flat(flow):
 
 def element_in_error(kind, code):
     order, party = ("mandato", "beneficiario") if kind == 1 else ("reversale", "versante")
-    if code == 11:
-        return "tipo_operazione"
     if code == 12:
         return "progressivo_" + party
     return ("importo_" if code in (13, 19) else "numero_") + order

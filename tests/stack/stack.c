@@ -116,6 +116,19 @@ static void many_lines(void)
     add("</flusso_ordinativi>");
 }
 
+/* Replaces line 1 of mandato 10, which is executed by then. */
+static void replacement(void)
+{
+    header();
+    add("<mandato><tipo_operazione>SOSTITUZIONE</tipo_operazione><numero_mandato>999</numero_mandato><data_mandato>2021-03-01</data_mandato>"
+        "<importo_mandato>0.00</importo_mandato><informazioni_beneficiario><progressivo_beneficiario>1</progressivo_beneficiario>"
+        "<importo_beneficiario>0.00</importo_beneficiario><beneficiario><anagrafica_beneficiario>A</anagrafica_beneficiario></beneficiario>"
+        "<sostituzione_mandato><numero_mandato_da_sostituire>10</numero_mandato_da_sostituire>"
+        "<progressivo_beneficiario_da_sostituire>1</progressivo_beneficiario_da_sostituire>"
+        "<esercizio_mandato_da_sostituire>2021</esercizio_mandato_da_sostituire></sostituzione_mandato>"
+        "</informazioni_beneficiario></mandato></flusso_ordinativi>");
+}
+
 static void late_field(void)
 {
     many_lines();
@@ -288,6 +301,11 @@ int main(void)
     make_old();
     hold("convert", call_convert, 0, HONDIVOLE_CONVERT_STACK);
     hold("totals of the converted table", call_totals, 0, HONDIVOLE_TOTALS_STACK);
+    hold("execute, once more", call_execute, 0, HONDIVOLE_NOTICE_STACK);
+    replacement();
+    hold("flow, a replacement", call_flow, 0, HONDIVOLE_FLOW_STACK);
+    if (outcomes[2] != 0)
+        wrong = 1;
     /* Two bodies' entries end at 112: the first slot's third byte, and a byte of the last slot, which is empty. */
     table[112 + 3] = 1;
     table[table_len - 1] = 1;

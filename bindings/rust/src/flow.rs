@@ -57,7 +57,7 @@ pub enum Operation {
     Variazione = 2,
     /// An order withdrawn.
     Annullo = 3,
-    /// An order put in place of another; always refused.
+    /// A new order whose lines replace executed ones, and are executed at once.
     Sostituzione = 4,
 }
 
@@ -106,7 +106,7 @@ impl OrderOutcome {
     pub fn from_bytes(bytes: &[u8; 16]) -> Option<OrderOutcome> {
         let kind = Kind::of_number(bytes[0])?;
         let operation = Operation::of_number(bytes[1])?;
-        if !matches!(bytes[2], 0 | 11..=19) || !matches!(bytes[3], 1..=8) {
+        if !matches!(bytes[2], 0 | 12..=19 | 24..=26) || !matches!(bytes[3], 1..=8) {
             return None;
         }
         let [_, _, code, lines, n0, n1, n2, n3, total @ ..] = *bytes;
@@ -172,7 +172,7 @@ impl<'o> FlowAnswer<'o> {
     }
 
     /// How many slots of the body the searches for its orders looked at, together: each up to and including the slot found, or all used
-    /// slots when there is none; none for an order refused before its search (codes 11, 12 and 13). At most the number of orders times the
+    /// slots when there is none; none for an order refused before its search (codes 12 and 13), and none for the lines that a SOSTITUZIONE names. At most the number of orders times the
     /// body's slots.
     ///
     /// ```

@@ -63,7 +63,7 @@ impl fmt::Display for Cause {
     }
 }
 
-/// Why something is refused: document 01's codes 1 to 22, and those of later requests.
+/// Why something is refused: document 01's codes 1 to 22 (11 is given no more), and those of later requests.
 ///
 /// ```
 /// use hondivole::{Refusal, Table};
@@ -102,32 +102,36 @@ pub enum Refusal {
     RequestWrong,
     /// 10: the buffer to open a table in hasn't the needed length.
     BufferLengthWrong,
-    /// 11: an order is a SOSTITUZIONE.
-    Substitution,
     /// 12: an order's lines aren't numbered 1, 2, 3 and so on.
     LinesMisnumbered,
     /// 13: an order's line amounts don't sum to its total.
     LinesDontSum,
-    /// 14: an INSERIMENTO of an order that the body already has.
+    /// 14: an INSERIMENTO or SOSTITUZIONE of an order that the body already has.
     OrderExists,
-    /// 15: an INSERIMENTO, and the body has no empty slot.
+    /// 15: an INSERIMENTO or SOSTITUZIONE, and the body has no empty slot.
     NoEmptySlot,
     /// 16: the body has no such order.
     NoSuchOrder,
     /// 17: the order is annulled.
     OrderAnnulled,
-    /// 18: a line of the order is executed.
+    /// 18: a line of the order is executed or replaced.
     LineExecuted,
     /// 19: an ANNULLO whose total or lines differ from the record.
     RecordDiffers,
     /// 20: the order has no such line.
     NoSuchLine,
-    /// 21: an execution of a line that is already executed.
+    /// 21: an execution of a line that is already executed, or replaced.
     AlreadyExecuted,
-    /// 22: a reversal of a line that isn't executed.
+    /// 22: a reversal of a line that isn't executed, or is replaced.
     NotExecuted,
     /// 23: the number names no edition of a flow. (No [`Edition`](crate::Edition) gets it.)
     NoSuchEdition,
+    /// 24: a SOSTITUZIONE names a line that the body hasn't.
+    NamedLineAbsent,
+    /// 25: a SOSTITUZIONE names a line that isn't executed, or that is replaced, also earlier in this order.
+    NamedLineNotExecuted,
+    /// 26: a SOSTITUZIONE names a line of another amount.
+    NamedLineOtherAmount,
     /// 27: no date, or outside the years 2002 to 2099.
     NoDateServed,
     /// 28: the date is no TARGET day.
@@ -177,7 +181,6 @@ impl Refusal {
             Refusal::OutcomesTooShort => 8,
             Refusal::RequestWrong => 9,
             Refusal::BufferLengthWrong => 10,
-            Refusal::Substitution => 11,
             Refusal::LinesMisnumbered => 12,
             Refusal::LinesDontSum => 13,
             Refusal::OrderExists => 14,
@@ -190,6 +193,9 @@ impl Refusal {
             Refusal::AlreadyExecuted => 21,
             Refusal::NotExecuted => 22,
             Refusal::NoSuchEdition => 23,
+            Refusal::NamedLineAbsent => 24,
+            Refusal::NamedLineNotExecuted => 25,
+            Refusal::NamedLineOtherAmount => 26,
             Refusal::NoDateServed => 27,
             Refusal::ClosingDay => 28,
             Refusal::BufferTooShort => 40,
@@ -233,7 +239,6 @@ impl Refusal {
             8 => Refusal::OutcomesTooShort,
             9 => Refusal::RequestWrong,
             10 => Refusal::BufferLengthWrong,
-            11 => Refusal::Substitution,
             12 => Refusal::LinesMisnumbered,
             13 => Refusal::LinesDontSum,
             14 => Refusal::OrderExists,
@@ -246,6 +251,9 @@ impl Refusal {
             21 => Refusal::AlreadyExecuted,
             22 => Refusal::NotExecuted,
             23 => Refusal::NoSuchEdition,
+            24 => Refusal::NamedLineAbsent,
+            25 => Refusal::NamedLineNotExecuted,
+            26 => Refusal::NamedLineOtherAmount,
             27 => Refusal::NoDateServed,
             28 => Refusal::ClosingDay,
             40 => Refusal::BufferTooShort,
@@ -283,19 +291,21 @@ impl fmt::Display for Refusal {
             Refusal::OutcomesTooShort => "the outcome buffer has under 16 bytes per order",
             Refusal::RequestWrong => "a table can't be opened with these ABI digits, codes and slots",
             Refusal::BufferLengthWrong => "the buffer hasn't the length that the table needs",
-            Refusal::Substitution => "SOSTITUZIONE isn't taken",
             Refusal::LinesMisnumbered => "the order's lines aren't numbered 1, 2, 3 and so on",
             Refusal::LinesDontSum => "the order's line amounts don't sum to its total",
             Refusal::OrderExists => "the body already has an order of this kind, esercizio and number",
             Refusal::NoEmptySlot => "the body has no empty slot",
             Refusal::NoSuchOrder => "the body has no order of this kind, esercizio and number",
             Refusal::OrderAnnulled => "the order is annulled",
-            Refusal::LineExecuted => "a line of the order is executed",
+            Refusal::LineExecuted => "a line of the order is executed or replaced",
             Refusal::RecordDiffers => "the order's total or lines differ from the record",
             Refusal::NoSuchLine => "the order has no such line",
-            Refusal::AlreadyExecuted => "the line is already executed",
-            Refusal::NotExecuted => "the line isn't executed",
+            Refusal::AlreadyExecuted => "the line is already executed, or replaced",
+            Refusal::NotExecuted => "the line isn't executed, or is replaced",
             Refusal::NoSuchEdition => "there is no edition of this number",
+            Refusal::NamedLineAbsent => "the body has no such line to replace",
+            Refusal::NamedLineNotExecuted => "the line to replace isn't executed, or is replaced already",
+            Refusal::NamedLineOtherAmount => "the line to replace has another amount",
             Refusal::NoDateServed => "no date of the years 2002 to 2099",
             Refusal::ClosingDay => "the date is no TARGET day",
             Refusal::BufferTooShort => "the buffer is shorter than the message or its values",
@@ -321,10 +331,10 @@ mod tests {
     #[test]
     fn codes_go_both_ways() {
         assert_eq!(Refusal::of_code(0, 0, 0), Some(Ok(())));
-        assert_eq!(Refusal::of_code(24, 0, 0), None);
+        assert_eq!(Refusal::of_code(11, 0, 0), None);
         assert_eq!(Refusal::of_code(5, 7, 5), None);
         let mut sentences = std::collections::HashSet::new();
-        for code in (1..=23).chain(27..=35).chain(40..=41) {
+        for code in (1..=10).chain(12..=35).chain(40..=41) {
             let refusal = Refusal::of_code(code, 7, 1).unwrap().unwrap_err();
             assert_eq!(u64::from(refusal.code()), code);
             assert!(sentences.insert(refusal.to_string()));
@@ -334,7 +344,7 @@ mod tests {
     #[test]
     fn the_header_says_the_same() {
         let header = include_str!("../../../include/hondivole.h");
-        for code in (1..=23).chain(27..=35).chain(40..=41).filter(|code| *code != 5) {
+        for code in (1..=10).chain(12..=35).chain(40..=41).filter(|code| *code != 5) {
             let sentence = Refusal::from_code(code, 0, 0).unwrap().to_string();
             assert!(header.contains(&format!("return \"{sentence}\";")), "{sentence}");
         }

@@ -1,6 +1,6 @@
 //! Cases of every kind, from a generator.
 
-use reference::{Form, Kind, Notice, Table};
+use reference::{Form, Kind, LineState, Notice, Table};
 
 use crate::case::{Call, Case};
 use crate::flows::{self, Size};
@@ -140,7 +140,11 @@ pub fn sequence(random: &mut Random) -> Case {
     let mut table = opened.encode();
     let first = match beginning {
         0 => Call::Open { request: tables::request(&opened), room },
-        1 => Call::Convert { old: opened.encode_as(Form::One), room },
+        1 => {
+            tables::without_replaced(&mut opened);
+            table = opened.encode();
+            Call::Convert { old: opened.encode_as(Form::One), room }
+        }
         _ => {
             let damaged = tables::after_fault(random, &opened, false);
             table.clone_from(&damaged);
@@ -206,7 +210,7 @@ fn journal(random: &mut Random, table: &Table) -> Call {
     if let Some(known) = table.bodies.iter().find(|known| known.code == body) {
         for order in &known.orders {
             for (line, number) in order.lines.iter().zip(1u8..) {
-                if line.executed || random.percent(1) {
+                if line.state == LineState::Executed || random.percent(1) {
                     let mut movement = vec![order.kind as u8, number];
                     movement.extend(order.esercizio.to_be_bytes());
                     movement.extend(order.number.to_be_bytes());

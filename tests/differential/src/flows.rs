@@ -1,6 +1,6 @@
 //! Flows: whole ones, and ones damaged in one place.
 
-use reference::{Body, Date, Edition, Kind, LONGEST_FLOW, Line, Order, Table};
+use reference::{Body, Date, Edition, Kind, LONGEST_FLOW, Line, LineState, Order, Table};
 
 use crate::random::Random;
 
@@ -24,14 +24,16 @@ pub const MARK: &[u8] = b"\xEF\xBB\xBF";
 /// The declaration.
 pub const DECLARATION: &[u8] = br#"<?xml version="1.0" encoding="UTF-8"?>"#;
 
-/// Every name that document 01 knows.
+/// Every name that documents 01 and 02 know.
 #[rustfmt::skip]
-const NAMES: [&str; 25] = [
+const NAMES: [&str; 33] = [
     "flusso_ordinativi", "codice_ABI_BT", "identificativo_flusso", "data_ora_creazione_flusso", "codice_ente_BT", "esercizio",
     "mandato", "reversale", "tipo_operazione", "numero_mandato", "data_mandato", "importo_mandato", "informazioni_beneficiario",
     "progressivo_beneficiario", "importo_beneficiario", "beneficiario", "anagrafica_beneficiario", "numero_reversale",
     "data_reversale", "importo_reversale", "informazioni_versante", "progressivo_versante", "importo_versante", "versante",
-    "anagrafica_versante",
+    "anagrafica_versante", "sostituzione_mandato", "numero_mandato_da_sostituire", "progressivo_beneficiario_da_sostituire",
+    "esercizio_mandato_da_sostituire", "sostituzione_reversale", "numero_reversale_da_sostituire",
+    "progressivo_versante_da_sostituire", "esercizio_reversale_da_sostituire",
 ];
 
 /// Names that document 01 doesn't know, some of them nearly.
@@ -66,12 +68,17 @@ fn named(parent: &[u8]) -> Option<Names> {
         b"flusso_ordinativi" => Some(&NAMES[1..8]),
         b"testata_flusso" => Some(&NAMES[1..5]),
         b"mandato" => Some(&NAMES[8..13]),
-        b"informazioni_beneficiario" => Some(&NAMES[13..16]),
+        // The structure of a SOSTITUZIONE too: with the other operations it is put there by `order`.
+        b"informazioni_beneficiario" => {
+            Some(&["progressivo_beneficiario", "importo_beneficiario", "beneficiario", "sostituzione_mandato"])
+        }
+        b"sostituzione_mandato" => Some(&NAMES[26..29]),
+        b"sostituzione_reversale" => Some(&NAMES[30..33]),
         b"beneficiario" => Some(&NAMES[16..17]),
         b"reversale" => {
             Some(&["tipo_operazione", "numero_reversale", "data_reversale", "importo_reversale", "informazioni_versante"])
         }
-        b"informazioni_versante" => Some(&NAMES[21..24]),
+        b"informazioni_versante" => Some(&["progressivo_versante", "importo_versante", "versante", "sostituzione_reversale"]),
         b"versante" => Some(&NAMES[24..25]),
         _ => None,
     }
@@ -230,9 +237,13 @@ pub fn tree(random: &mut Random, table: &Table, size: Size, edition: Edition) ->
     }
     nodes.push(Node::text("esercizio", esercizio.to_string()));
     let mut earlier: Vec<Node> = Vec::new();
+    let mut executed = executed_lines(body);
     for _ in 0..count {
-        let order =
-            if !earlier.is_empty() && random.percent(8) { random.pick(&earlier).clone() } else { order(random, body, lean) };
+        let order = if !earlier.is_empty() && random.percent(8) {
+            random.pick(&earlier).clone()
+        } else {
+            order(random, body, esercizio, lean, &mut executed)
+        };
         earlier.push(order);
     }
     nodes.extend(earlier);
@@ -306,7 +317,7 @@ pub(crate) fn date_and_time(random: &mut Random) -> String {
 
 /// A random order of a table, for tables that are made without calls.
 pub fn record(random: &mut Random, esercizio: u16, number: u32, kind: Kind) -> Order {
-    let lines: Vec<_> = amounts(random, false).into_iter().map(|amount| Line { executed: false, amount }).collect();
+    let lines: Vec<_> = amounts(random, false).into_iter().map(|amount| Line { state: LineState::Waiting, amount }).collect();
     Order {
         kind,
         state: reference::State::Acquired,
@@ -356,13 +367,102 @@ fn padded(random: &mut Random, number: u64, most: usize) -> String {
     plain
 }
 
-/// An order for a body: new ones, and ones that name a record the body has.
-fn order(random: &mut Random, body: &Body, lean: bool) -> Node {
-    let operation = random.weighted(&[50, 22, 24, 4]);
-    let wanted = if operation == 0 { 20 } else { 85 };
+/// A line that a SOSTITUZIONE may name, and its amount.
+#[derive(Clone, Copy, Debug)]
+struct Named {
+    kind: Kind,
+    number: u64,
+    line: u64,
+    esercizio: u64,
+    amount: u64,
+}
+
+/// A body's executed lines.
+fn executed_lines(body: &Body) -> Vec<Named> {
+    let mut found = Vec::new();
+    for order in &body.orders {
+        let lines = order.lines.iter().zip(1..).filter(|(line, _)| line.state == LineState::Executed);
+        found.extend(lines.map(|(line, number)| Named {
+            kind: order.kind,
+            number: order.number.into(),
+            line: number,
+            esercizio: order.esercizio.into(),
+            amount: line.amount,
+        }));
+    }
+    found
+}
+
+/// The lines that a SOSTITUZIONE of this number names: mostly executed ones, each once; what is wrong is wrong in one of them. Those that
+/// are rightly named are taken out of the executed ones.
+fn named_lines(random: &mut Random, body: &Body, kind: Kind, own: (u64, u64), lean: bool, executed: &mut Vec<Named>) -> Vec<Named> {
+    let most = if lean { 1 } else { [1, 2, 3, 8][random.weighted(&[45, 25, 20, 10])] };
+    let mut named = Vec::new();
+    while named.len() < most {
+        let places: Vec<_> = (0..executed.len()).filter(|&at| executed[at].kind == kind).collect();
+        if places.is_empty() {
+            break;
+        }
+        named.push(executed.swap_remove(*random.pick(&places)));
+    }
+    if named.is_empty() {
+        let (number, line) = (random.between(1, 30), random.between(1, 2));
+        named.push(Named { kind, number, line, esercizio: own.1, amount: random.between(0, 300) });
+    }
+    if random.percent(30) {
+        let (count, other) = (named.len(), *random.pick(&named));
+        let line = random.pick_mut(&mut named);
+        match random.below(9) {
+            0 => line.number += *random.pick(&[1, 256, 65_536, 9_000_000]),
+            1 => line.line += *random.pick(&[1, 7, 255, 256, 512]),
+            2 => line.line = 0,
+            3 => line.esercizio = *random.pick(&[2000, 2020, 2021, 2022, 2099]),
+            4 => line.amount ^= *random.pick(&[1, 256]),
+            5 => (line.number, line.esercizio) = own,
+            // Any line of the body, waiting and replaced ones and those of annulled orders too.
+            6 if !body.orders.is_empty() => {
+                let order = random.pick(&body.orders);
+                (line.number, line.esercizio) = (order.number.into(), order.esercizio.into());
+                line.line = random.between(1, order.lines.len() as u64);
+                line.amount = order.lines[line.line as usize - 1].amount;
+            }
+            // The same line twice, beside each other or not.
+            _ if count < 8 => named.insert(random.below(count + 1), other),
+            _ => *line = other,
+        }
+    }
+    for line in &mut named {
+        (line.number, line.line) = (line.number.min(9_999_999), line.line.min(999));
+    }
+    named
+}
+
+/// The structure that names a line.
+fn replaces(random: &mut Random, line: &Named) -> Node {
+    let (name, party) = names_of(line.kind);
+    let nodes = vec![
+        Node::text(format!("numero_{name}_da_sostituire"), padded(random, line.number, 7)),
+        Node::text(format!("progressivo_{party}_da_sostituire"), padded(random, line.line, 3)),
+        Node::text(format!("esercizio_{name}_da_sostituire"), line.esercizio.to_string()),
+    ];
+    Node::nodes(format!("sostituzione_{name}"), nodes)
+}
+
+fn names_of(kind: Kind) -> (&'static str, &'static str) {
+    match kind {
+        Kind::Mandato => ("mandato", "beneficiario"),
+        Kind::Reversale => ("reversale", "versante"),
+    }
+}
+
+/// An order for a body: new ones, ones that name a record the body has, and ones that replace executed lines.
+fn order(random: &mut Random, body: &Body, esercizio: u16, lean: bool, executed: &mut Vec<Named>) -> Node {
+    let operation = random.weighted(&[42, 20, 22, 16]);
+    let wanted = [20, 85, 85, 6][operation];
     let known = if !body.orders.is_empty() && random.percent(wanted) { Some(random.pick(&body.orders)) } else { None };
     let kind = match known {
         Some(record) if random.percent(95) => record.kind,
+        _ if operation == 3 && !executed.is_empty() => random.pick(executed).kind,
         _ => *random.pick(&[Kind::Mandato, Kind::Reversale]),
     };
     let number = match known {
@@ -373,7 +473,12 @@ fn order(random: &mut Random, body: &Body, lean: bool) -> Node {
             _ => *random.pick(&[1, 255, 256, 65_535, 65_536, 9_999_999]),
         },
     };
+    let named = match operation {
+        3 => named_lines(random, body, kind, (number, esercizio.into()), lean, executed),
+        _ => Vec::new(),
+    };
     let mut amounts = match known {
+        _ if operation == 3 => named.iter().map(|line| line.amount).collect(),
         Some(record) if operation == 2 && random.percent(90) => record.lines.iter().map(|line| line.amount).collect(),
         _ => amounts(random, lean),
     };
@@ -414,26 +519,39 @@ fn order(random: &mut Random, body: &Body, lean: bool) -> Node {
             _ => numbering.iter_mut().for_each(|number| *number += 1),
         }
     }
-    let (name, party) = match kind {
-        Kind::Mandato => ("mandato", "beneficiario"),
-        Kind::Reversale => ("reversale", "versante"),
-    };
+    // The lines of a replacement are executed: a later order of the flow may name them.
+    if operation == 3 && known.is_none() {
+        let esercizio = esercizio.into();
+        executed.extend(amounts.iter().zip(1..).map(|(&amount, line)| Named { kind, number, line, esercizio, amount }));
+    }
+    let (name, party) = names_of(kind);
     let mut nodes = vec![
         Node::text("tipo_operazione", ["INSERIMENTO", "VARIAZIONE", "ANNULLO", "SOSTITUZIONE"][operation]),
         Node::text(format!("numero_{name}"), padded(random, number, 7)),
         Node::text(format!("data_{name}"), date_text(date)),
         Node::text(format!("importo_{name}"), amount_text(total)),
     ];
-    for (number, amount) in numbering.into_iter().zip(amounts) {
+    for (index, (progressivo, amount)) in numbering.into_iter().zip(amounts).enumerate() {
         let text = party_name(random, lean);
-        nodes.push(Node::nodes(
-            format!("informazioni_{party}"),
-            vec![
-                Node::text(format!("progressivo_{party}"), padded(random, number, 3)),
-                Node::text(format!("importo_{party}"), amount_text(amount)),
-                Node::nodes(party, vec![Node::text(format!("anagrafica_{party}"), text)]),
-            ],
-        ));
+        let mut inside = vec![
+            Node::text(format!("progressivo_{party}"), padded(random, progressivo, 3)),
+            Node::text(format!("importo_{party}"), amount_text(amount)),
+            Node::nodes(party, vec![Node::text(format!("anagrafica_{party}"), text)]),
+        ];
+        match named.get(index) {
+            Some(line) => inside.push(replaces(random, &Named { kind, ..*line })),
+            // Another operation passes the structure over, wherever it stands and whatever it holds.
+            None if random.percent(4) => {
+                let line = Named { kind, number: random.between(1, 30), line: 1, esercizio: 2021, amount };
+                let mut passed = replaces(random, &line);
+                if random.percent(40) {
+                    passed = Node::text(passed.name, *random.pick(&["", "x", " "]));
+                }
+                inside.insert(random.below(4), passed);
+            }
+            None => {}
+        }
+        nodes.push(Node::nodes(format!("informazioni_{party}"), inside));
     }
     Node::nodes(name, nodes)
 }
@@ -705,7 +823,7 @@ pub(crate) fn edges(name: &[u8]) -> Names {
             "", "000471", "471", "0471", "0000000000000471", "00000000000000471", "47 1", "471 ", "47_1", "47-1", "é", "&amp;",
             "@", "[", "`", "{", "/", ":",
         ],
-        b"esercizio" => &[
+        b"esercizio" | b"esercizio_mandato_da_sostituire" | b"esercizio_reversale_da_sostituire" => &[
             "", "2000", "2099", "1999", "2100", "02021", "202", "20211", "2o21", " 2021", "2021 ", "-2021", "0000", "9999", "20/1",
             "20:1",
         ],
@@ -713,7 +831,7 @@ pub(crate) fn edges(name: &[u8]) -> Names {
             "", "INSERIMENTO", "VARIAZIONE", "ANNULLO", "SOSTITUZIONE", "inserimento", "INSERIMENT", "INSERIMENTOX", "ANNULLO ",
             " ANNULLO", "ANNULLA", "SOSTITUZIONI", "VARIAZIONE\n",
         ],
-        b"numero_mandato" | b"numero_reversale" => &[
+        b"numero_mandato" | b"numero_reversale" | b"numero_mandato_da_sostituire" | b"numero_reversale_da_sostituire" => &[
             "", "0", "0000000", "1", "0000001", "00000001", "9999999", "10000000", "09999999", "1a", " 1", "1 ", "-1", "+1", "1.0",
             "/", ":",
         ],
@@ -728,7 +846,8 @@ pub(crate) fn edges(name: &[u8]) -> Names {
             "1", "1.000", "1,00", "-1.00", "+1.00", " 1.00", "1.00 ", "1.0a", "a.00", "1..00", "10.00.00", "/.00", ":.00", "1.0:",
             "184467440737095516.16",
         ],
-        b"progressivo_beneficiario" | b"progressivo_versante" => &[
+        b"progressivo_beneficiario" | b"progressivo_versante" | b"progressivo_beneficiario_da_sostituire"
+        | b"progressivo_versante_da_sostituire" => &[
             "", "0", "00", "000", "1", "01", "001", "0001", "2", "8", "9", "999", "1000", "257", "/", ":", "1a", " 1", "1 ", "-1",
             "+1",
         ],

@@ -112,7 +112,7 @@ fn outcomes(random: &mut Random, table: &Table, edition: u64, flow: &[u8]) -> Ve
 }
 
 fn code(random: &mut Random) -> u8 {
-    if random.percent(40) { 0 } else { random.between(11, 19) as u8 }
+    if random.percent(40) { 0 } else { *random.pick(&[12, 13, 14, 15, 16, 17, 18, 19, 24, 25, 26]) }
 }
 
 fn damage_outcomes(random: &mut Random, outcomes: &mut Vec<u8>) {
@@ -128,7 +128,7 @@ fn damage_outcomes(random: &mut Random, outcomes: &mut Vec<u8>) {
             // Any code in place of one.
             let orders = outcomes.len() / OUTCOME;
             if let Some(code) = outcomes.get_mut(OUTCOME * random.below(orders) + 2) {
-                *code = *random.pick(&[0, 1, 5, 10, 11, 12, 13, 14, 15, 16, 17, 18, 19, 20, 21, 22, 24, 26, 255]);
+                *code = *random.pick(&[0, 1, 5, 10, 11, 12, 13, 14, 15, 16, 17, 18, 19, 20, 21, 22, 23, 24, 25, 26, 27, 255]);
             }
         }
         _ => {
@@ -407,7 +407,7 @@ fn edges(name: &[u8]) -> Names {
             "acquisito", "NON", "NONVARIATO", "NON SOSTITUITO ", "ACQUISITOX", "NON\tVARIATO",
         ],
         b"codice_errore" | b"descrizione" => &[
-            "", "0", "00", "1", "10", "11", "12", "13", "14", "15", "16", "17", "18", "19", "20", "24", "26", "99", "011", "1a", "a1", " 1",
+            "", "0", "00", "1", "10", "11", "12", "13", "14", "15", "16", "17", "18", "19", "20", "23", "24", "25", "26", "27", "99", "011", "1a", "a1", " 1",
             "1 ", "-1", "/1", "1:", "119",
         ],
         b"elemento" => &[

@@ -6,7 +6,7 @@
 use std::time::{Duration, Instant};
 
 use reference::table::{ENTRY, HEAD, SLOT, number_at};
-use reference::{Edition, Form, Table, fields, markup, structure};
+use reference::{Edition, Form, LineState, Table, fields, markup, structure};
 
 use crate::case::{Call, Case};
 use crate::compare::Yard;
@@ -176,7 +176,7 @@ impl<F: FnMut(&Case) -> bool> Search<F> {
                         0..8 if record.lines.len() > 1 => drop(record.lines.pop()),
                         8 => record.lines.iter_mut().for_each(|line| line.amount = 0),
                         9 => record.number = 1,
-                        10 => record.lines.iter_mut().for_each(|line| line.executed = false),
+                        10 => record.lines.iter_mut().for_each(|line| line.state = LineState::Waiting),
                         _ => record.esercizio = 2000,
                     }
                     record.total = record.lines.iter().map(|line| line.amount).sum();

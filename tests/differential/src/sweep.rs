@@ -2,28 +2,31 @@
 //! every day and every second at the edges.
 
 use reference::markup::is_character;
-use reference::{Body, Date, Form, Kind, Line, Notice, Order, State, Table};
+use reference::{Body, Date, Form, Kind, Line, LineState, Notice, Order, State, Table};
 
 use crate::case::{Call, Case};
 use crate::{messages, tables};
 
 /// A table with an order in each state, for the bodies 000471 and 471.
 fn table() -> Table {
-    let order = |kind, number, state, lines: &[(bool, u64)]| Order {
+    use LineState::{Executed, Replaced, Waiting};
+    let order = |kind, number, state, lines: &[(LineState, u64)]| Order {
         kind,
         state,
         esercizio: 2021,
         number,
         date: Date { year: 2021, month: 3, day: 1 },
         total: lines.iter().map(|line| line.1).sum(),
-        lines: lines.iter().map(|&(executed, amount)| Line { executed, amount }).collect(),
+        lines: lines.iter().map(|&(state, amount)| Line { state, amount }).collect(),
     };
     let first = vec![
-        order(Kind::Mandato, 12, State::Acquired, &[(false, 10_000), (false, 5_000)]),
-        order(Kind::Reversale, 12, State::Acquired, &[(true, 256), (false, 0), (true, 65_536)]),
-        order(Kind::Mandato, 13, State::Annulled, &[(false, 1)]),
+        order(Kind::Mandato, 12, State::Acquired, &[(Waiting, 10_000), (Waiting, 5_000)]),
+        order(Kind::Reversale, 12, State::Acquired, &[(Executed, 256), (Waiting, 0), (Executed, 65_536)]),
+        order(Kind::Mandato, 13, State::Annulled, &[(Waiting, 1)]),
     ];
-    let second = vec![order(Kind::Mandato, 12, State::Acquired, &[(true, 7); 8])];
+    let mut eight = [(Executed, 7); 8];
+    eight[3].0 = Replaced;
+    let second = vec![order(Kind::Mandato, 12, State::Acquired, &eight)];
     Table {
         abi: *b"01234",
         bodies: vec![
@@ -56,8 +59,14 @@ const DATE: &str = "2021-12-31";
 pub fn cases() -> impl Iterator<Item = Case> {
     let bytes = table().encode();
     let with_flow = move |flow| Case { table: bytes.clone(), calls: vec![Call::Flow { edition: 1, flow, room: 16 }] };
-    let flows =
-        dates().chain(times()).chain(numbers()).chain(characters()).chain(sequences()).chain(bytes_of_a_flow()).map(with_flow);
+    let flows = dates()
+        .chain(times())
+        .chain(numbers())
+        .chain(characters())
+        .chain(sequences())
+        .chain(bytes_of_a_flow())
+        .chain(bits_of_a_replacement())
+        .map(with_flow);
     bytes_of_a_table()
         .chain(bits_of_a_damaged_table())
         .chain(bytes_of_a_request())
@@ -104,13 +113,47 @@ fn bytes_of_a_request() -> impl Iterator<Item = Case> {
 }
 
 fn bytes_of_an_old_table() -> impl Iterator<Item = Case> {
-    let table = table();
+    let mut table = table();
+    tables::without_replaced(&mut table);
     replaced(table.encode_as(Form::One))
         .map(move |old| Case { table: Vec::new(), calls: vec![Call::Convert { old, room: table.length() }] })
 }
 
 fn bytes_of_a_flow() -> impl Iterator<Item = Vec<u8>> {
     replaced(flow(CREATED, DATE, "1", "R&amp;\u{e0}]".as_bytes(), b"<y></y>"))
+}
+
+/// A flow whose one order replaces both executed lines of the table's reversale 12.
+fn replacement() -> Vec<u8> {
+    let line = |progressivo: u8, amount: &str, named: u8| {
+        format!(
+            "<informazioni_versante><progressivo_versante>{progressivo}</progressivo_versante><importo_versante>{amount}</importo_versante>\
+             <versante><anagrafica_versante>R</anagrafica_versante></versante><sostituzione_reversale>\
+             <numero_reversale_da_sostituire>012</numero_reversale_da_sostituire>\
+             <progressivo_versante_da_sostituire>{named}</progressivo_versante_da_sostituire>\
+             <esercizio_reversale_da_sostituire>2021</esercizio_reversale_da_sostituire></sostituzione_reversale>\
+             </informazioni_versante>"
+        )
+    };
+    let flow = format!(
+        "<flusso_ordinativi><codice_ABI_BT>01234</codice_ABI_BT><identificativo_flusso>A1</identificativo_flusso>\
+         <data_ora_creazione_flusso>{CREATED}</data_ora_creazione_flusso><codice_ente_BT>000471</codice_ente_BT>\
+         <esercizio>2021</esercizio><reversale><tipo_operazione>SOSTITUZIONE</tipo_operazione><numero_reversale>13</numero_reversale>\
+         <data_reversale>{DATE}</data_reversale><importo_reversale>657.92</importo_reversale>{}{}</reversale></flusso_ordinativi>",
+        line(1, "2.56", 1),
+        line(2, "655.36", 3)
+    );
+    flow.into_bytes()
+}
+
+/// Each bit of a replacement's flow changed.
+fn bits_of_a_replacement() -> impl Iterator<Item = Vec<u8>> {
+    let flow = replacement();
+    (0..8 * flow.len()).map(move |bit| {
+        let mut changed = flow.clone();
+        changed[bit / 8] ^= 1 << (bit % 8);
+        changed
+    })
 }
 
 fn dates() -> impl Iterator<Item = Vec<u8>> {
@@ -167,5 +210,6 @@ mod tests {
         assert!(Table::decode(&bytes).is_some());
         let base = flow(CREATED, DATE, "1", "R&amp;\u{e0}]".as_bytes(), b"<y></y>");
         assert_eq!(reference::flow(&mut bytes, 1, &base, &mut [0; 16]).accepted, 1);
+        assert_eq!(reference::flow(&mut bytes, 1, &replacement(), &mut [0; 16]).accepted, 1);
     }
 }

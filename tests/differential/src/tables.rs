@@ -3,7 +3,7 @@
 use std::collections::HashSet;
 
 use reference::table::{ENTRY, HEAD, SLOT, number_at};
-use reference::{Body, Form, Kind, State, Table};
+use reference::{Body, Form, Kind, LineState, State, Table};
 
 use crate::flows;
 use crate::random::Random;
@@ -99,6 +99,9 @@ pub fn conversion(random: &mut Random) -> (Table, Vec<u8>, usize) {
         last.slots = if first < most { most - first + random.below(2) } else { most.min(512) };
         last.orders.truncate(last.slots);
     }
+    if random.percent(92) {
+        without_replaced(&mut table);
+    }
     let mut old = table.encode_as(if random.percent(97) { Form::One } else { Form::Two });
     if random.percent(40) && Table::decode_as(&old, Form::One).is_some() {
         damage_as(random, &mut old, Form::One);
@@ -113,6 +116,14 @@ pub fn conversion(random: &mut Random) -> (Table, Vec<u8>, usize) {
         };
     }
     (table, old, room)
+}
+
+const STATES: [LineState; 3] = [LineState::Waiting, LineState::Executed, LineState::Replaced];
+
+/// Makes replaced lines executed ones: a table 1 has none.
+pub fn without_replaced(table: &mut Table) {
+    let lines = table.bodies.iter_mut().flat_map(|body| &mut body.orders).flat_map(|order| &mut order.lines);
+    lines.filter(|line| line.state == LineState::Replaced).for_each(|line| line.state = LineState::Executed);
 }
 
 fn fill(random: &mut Random, body: &mut Body, count: usize) {
@@ -130,7 +141,7 @@ fn fill(random: &mut Random, body: &mut Body, count: usize) {
         let mut order = flows::record(random, esercizio, number, kind);
         match random.below(4) {
             0 => order.state = State::Annulled,
-            1 | 2 => order.lines.iter_mut().for_each(|line| line.executed = random.percent(50)),
+            1 | 2 => order.lines.iter_mut().for_each(|line| line.state = STATES[random.weighted(&[35, 50, 15])]),
             _ => {}
         }
         body.orders.push(order);
@@ -235,7 +246,7 @@ fn edge(random: &mut Random, table: &mut [u8], first_slot: usize, base: usize, f
         14 => (1, &[0, 1, 2, 4, 12, 13]),
         15 => (1, &[0, 1, 28, 29, 30, 31, 32]),
         16 => (8, &[0, 99_999_999_999, 100_000_000_000, u64::MAX]),
-        24 => (1, &[0, 1, 2, 3]),
+        24 => (1, &[0, 1, 2, 3, 4]),
         32 => (8, &[0, 99_999_999_999, 100_000_000_000, u64::MAX, 1 << 63]),
         _ => (1, &[1, 255]),
     };
@@ -277,10 +288,10 @@ fn together(random: &mut Random, table: &mut Vec<u8>, form: Form, first_slot: us
             table[slot + 2] = 0;
             table[slot + 16..slot + SLOT].fill(0);
         }
-        // An annulled order with an executed line.
+        // An annulled order with an executed or replaced line.
         6 => {
             table[slot + 1] = 2;
-            table[slot + 24] = 2;
+            table[slot + 24] = 2 + random.below(2) as u8;
         }
         // A line more, of no amount, said or not said in the count of lines.
         7 => {
@@ -411,10 +422,10 @@ fn slot_fault(random: &mut Random, bytes: &mut [u8], first_slot: usize) {
             let value = *random.pick(&[0, 0xFF, 1]);
             bytes[place..end].fill(value);
         }
-        // An annulled order with an executed line.
+        // An annulled order with an executed or replaced line.
         _ => {
             bytes[slot + 1] = 2;
-            bytes[slot + 24] = 2;
+            bytes[slot + 24] = 2 + random.below(2) as u8;
         }
     }
 }
@@ -446,7 +457,7 @@ pub fn beyond(random: &mut Random) -> (Table, Vec<u8>) {
         }
         5 => {
             order.state = State::Annulled;
-            order.lines[0].executed = random.percent(50);
+            order.lines[0].state = *random.pick(&STATES);
         }
         6 => {
             order.lines.clear();

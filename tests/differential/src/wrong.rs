@@ -2,9 +2,10 @@
 //!
 //! The first five are document 01's "Errors we have seen made".
 
+use reference::fields::{self, FlowOrder, Operation};
 use reference::message::{self, Given};
 use reference::table::{ENTRY, HEAD, SLOT, number_at};
-use reference::{Form, Notice, Order, State, Table, markup};
+use reference::{Body, Edition, Form, LineState, Notice, Order, State, Table, markup, structure};
 
 use crate::engine::{Engine, Reference};
 
@@ -55,6 +56,20 @@ pub enum Fault {
     LinesPassedOver,
     /// What is written again is what was read.
     RewrittenAsRead,
+    /// A line may be named twice in one SOSTITUZIONE.
+    NamedTwice,
+    /// The lines that a SOSTITUZIONE named before one that is refused stay replaced.
+    MarksLeft,
+    /// A SOSTITUZIONE that names its own key finds itself.
+    OwnKeyFound,
+    /// The searches for named lines are counted among the steps.
+    NamedCounted,
+    /// A replacement's new lines count as cash moved, and the replaced ones are not taken back.
+    CashMoved,
+    /// A replaced line can be reversed.
+    ReplacedReversed,
+    /// A journal may list a replaced line.
+    ReplacedListed,
     /// Of two records of one key a repair keeps the later.
     LaterCopyKept,
     /// A repair reports slots of zeros among the blanked.
@@ -68,7 +83,7 @@ pub enum Fault {
 }
 
 /// All of them.
-pub const FAULTS: [Fault; 27] = [
+pub const FAULTS: [Fault; 34] = [
     Fault::CodesAsIntegers,
     Fault::StaleAmounts,
     Fault::AnnulloByNumber,
@@ -91,6 +106,13 @@ pub const FAULTS: [Fault; 27] = [
     Fault::WrittenBeforeRoom,
     Fault::LinesPassedOver,
     Fault::RewrittenAsRead,
+    Fault::NamedTwice,
+    Fault::MarksLeft,
+    Fault::OwnKeyFound,
+    Fault::NamedCounted,
+    Fault::CashMoved,
+    Fault::ReplacedReversed,
+    Fault::ReplacedListed,
     Fault::LaterCopyKept,
     Fault::ZerosReported,
     Fault::TotalsLeft,
@@ -171,6 +193,28 @@ fn settled(table: &[u8]) -> Option<Vec<u8>> {
     Some(Table::decode_as(&old, Form::One)?.encode())
 }
 
+/// The replacement orders of a flow that was taken, each with its place among the orders, the body's code and the year.
+fn replacements(edition: u64, flow: &[u8]) -> (Vec<(usize, FlowOrder)>, Vec<u8>, u16) {
+    let edition = Edition::numbered(edition).expect("the flow was taken");
+    let root = markup::read(flow, edition == Edition::Opi).expect("the flow was taken");
+    let read = fields::read(&structure::read(&root, edition).expect("the flow was taken"), edition).expect("the flow was taken");
+    let orders = read.orders.into_iter().enumerate().filter(|(_, order)| order.operation == Operation::Sostituzione);
+    (orders.collect(), read.body, read.esercizio)
+}
+
+/// Replaces the executed lines of equal amount that an order names, up to the first that isn't.
+fn mark(body: &mut Body, order: &FlowOrder) {
+    for line in &order.lines {
+        let named = line.named.expect("a replacement's line names one");
+        let record = body.orders.iter_mut().find(|record| record.key() == (order.kind, named.esercizio, named.number));
+        let found = record.and_then(|record| record.lines.get_mut(usize::from(named.line).wrapping_sub(1)));
+        match found {
+            Some(found) if found.state == LineState::Executed && found.amount == line.amount => found.state = LineState::Replaced,
+            _ => return,
+        }
+    }
+}
+
 /// The places of a table's slots, body after body, as its entries count them.
 fn slots_of(table: &[u8]) -> Vec<Vec<usize>> {
     let Some(contents) = Table::contents(table) else { return Vec::new() };
@@ -246,7 +290,7 @@ impl Engine for Wrong {
                 for outcome in outcomes.chunks_mut(16).take(*orders as usize).filter(|outcome| outcome[2] == 19) {
                     let number = number_at(outcome, 4, 4) as u32;
                     let mut records = changed.bodies.iter_mut().flat_map(|body| &mut body.orders);
-                    let found = records.find(|record| record.number == number && !record.has_executed_line());
+                    let found = records.find(|record| record.number == number && record.waits());
                     if let Some(record) = found {
                         record.state = State::Annulled;
                         outcome[2] = 0;
@@ -277,6 +321,55 @@ impl Engine for Wrong {
             Fault::EmptySlotCounted if code == 0 => {
                 *steps += outcomes.chunks(16).take(*orders as usize).filter(|outcome| outcome[1..3] == [1, 0]).count() as u64
             }
+            Fault::NamedTwice if code == 0 => {
+                for (index, order) in replacements(edition, flow).0 {
+                    let twice =
+                        (1..order.lines.len()).any(|at| order.lines[..at].iter().any(|line| line.named == order.lines[at].named));
+                    if outcomes[16 * index + 2] == 25 && twice {
+                        outcomes[16 * index + 2] = 0;
+                        *accepted += 1;
+                    }
+                }
+            }
+            Fault::MarksLeft if code == 0 => {
+                let (orders, body, _) = replacements(edition, flow);
+                let mut changed = Table::decode(table).expect("the flow left a valid table");
+                for (index, order) in orders {
+                    if matches!(outcomes[16 * index + 2], 24..=26) {
+                        mark(changed.body_mut(&body).expect("the flow's body"), &order);
+                    }
+                }
+                table.copy_from_slice(&changed.encode());
+            }
+            Fault::OwnKeyFound if code == 0 => {
+                let (orders, _, esercizio) = replacements(edition, flow);
+                for (index, order) in orders {
+                    let own = |line: &fields::FlowLine| {
+                        line.named.is_some_and(|named| (named.number, named.esercizio) == (order.number, esercizio))
+                    };
+                    if outcomes[16 * index + 2] == 24 && order.lines.iter().any(own) {
+                        outcomes[16 * index + 2] = 25;
+                    }
+                }
+            }
+            Fault::NamedCounted if code == 0 => {
+                let accepted = |index: usize| outcomes[16 * index + 2] == 0;
+                let orders = replacements(edition, flow).0;
+                *steps +=
+                    orders.iter().filter(|(index, _)| accepted(*index)).map(|(_, order)| order.lines.len() as u64).sum::<u64>();
+            }
+            Fault::CashMoved if code == 0 => {
+                let (orders, body, _) = replacements(edition, flow);
+                let bodies = Table::contents(table).expect("the flow left a valid table").bodies;
+                let entry = HEAD + ENTRY * bodies.iter().position(|known| known.code == body).expect("the flow's body");
+                for (index, order) in orders {
+                    if outcomes[16 * index + 2] == 0 {
+                        let at = entry + 16 + 8 * order.kind as usize;
+                        let cents = number_at(table, at, 8) + order.total;
+                        table[at..at + 8].copy_from_slice(&cents.to_be_bytes());
+                    }
+                }
+            }
             Fault::OutcomesCleared if code == 0 => outcomes[16 * *orders as usize..].fill(0),
             Fault::PlaceWithoutMark if code == 5 && markup::read(flow, true).is_some() && flow.starts_with(b"\xEF\xBB\xBF") => {
                 *place -= 3
@@ -296,6 +389,22 @@ impl Engine for Wrong {
         let before = table.to_vec();
         let code = Reference.reverse(table, &self.code(table, body), &self.notice(notice), cents);
         self.cents(table, body, notice, code, cents);
+        if self.0 == Fault::ReplacedReversed
+            && code == 22
+            && let Some(mut changed) = Table::decode(table)
+            && let Some(body) = changed.body_mut(body)
+        {
+            let key = |order: &Order| (order.kind as u64, u64::from(order.esercizio), u64::from(order.number));
+            let named = (notice.kind, notice.esercizio, notice.number);
+            let order = body.orders.iter_mut().find(|order| key(order) == named).expect("22 is of an order that is there");
+            let line = &mut order.lines[notice.line as usize - 1];
+            if line.state == LineState::Replaced {
+                line.state = LineState::Waiting;
+                *cents = line.amount;
+                table.copy_from_slice(&changed.encode());
+                return 0;
+            }
+        }
         if self.0 == Fault::KeptNotTakenBack && code == 0 {
             let slots = HEAD + ENTRY * number_at(table, 0, 2) as usize;
             table[..slots].copy_from_slice(&before[..slots]);
@@ -369,6 +478,13 @@ impl Engine for Wrong {
 
     fn journal(&self, table: &[u8], body: &[u8], movements: &[u8]) -> u64 {
         let code = Reference.journal(&self.mended(table), &self.code(table, body), movements);
+        if self.0 == Fault::ReplacedListed
+            && code == 30
+            && let Some(mut changed) = Table::decode(table)
+        {
+            crate::tables::without_replaced(&mut changed);
+            return Reference.journal(&changed.encode(), body, movements);
+        }
         if self.0 == Fault::JournalListsTwice && code == 32 { 0 } else { code }
     }
 

@@ -81,9 +81,10 @@ fn every_code_is_reached() {
             }
         }
     }
-    // No call answers 24 to 26, or 36 to 39.
-    let given = |code: &usize| !(24..27).contains(code) && !(36..40).contains(code);
+    // 11 is given no more, and no call answers 36 to 39.
+    let given = |code: &usize| *code != 11 && !(36..40).contains(code);
     assert!((0..42).filter(given).all(|code| reached[code] > 0), "times each code was answered: {reached:?}");
+    assert_eq!(reached[11], 0);
     for causes in [causes, read_causes] {
         assert!(causes.iter().all(|&times| times > 0), "times each cause was answered: {causes:?}");
     }
@@ -102,7 +103,7 @@ fn every_wrong_engine_is_found() {
         let found = found.unwrap_or_else(|| panic!("{fault:?} is not found"));
         let short = shrink::shortest(&found, Duration::from_secs(20), |case| yard.compare(&Reference, &wrong, case).is_some());
         assert!(yard.compare(&Reference, &wrong, &short).is_some());
-        assert!(short.cost() < 1_500, "{fault:?}: the shortest case has {} bytes of {}", short.cost(), found.cost());
+        assert!(short.cost() < 1_700, "{fault:?}: the shortest case has {} bytes of {}", short.cost(), found.cost());
     }
 }
 
@@ -125,7 +126,7 @@ fn isolation_is_tried() {
     let found = cases_of(Theme::Sequence, 200).find(&mut fails).expect("bodies fill their slots in a sequence");
     let short = shrink::shortest(&found, Duration::from_secs(20), &mut fails);
     assert!(fails(&short) && short.calls.len() == 3, "{short:?}");
-    assert!(matches!(short.calls[0], Call::Open { .. }));
+    assert!(matches!(short.calls[0], Call::Open { .. } | Call::Convert { .. } | Call::Salvage { .. }));
 }
 
 /// A result that isn't written is found: it holds what it held before.

@@ -1,7 +1,7 @@
 //! The calls on a table.
 
-use crate::fields::{self, FlowOrder, Operation};
-use crate::table::{Body, Form, Kind, Line, Order, State, Table, number_at};
+use crate::fields::{self, FlowLine, FlowOrder, Operation};
+use crate::table::{Body, Form, Kind, Line, LineState, Order, State, Table, number_at};
 use crate::{Edition, LONGEST_FLOW, MOST_ORDERS, OUTCOME, markup, structure, target};
 use std::collections::{HashMap, HashSet};
 
@@ -62,7 +62,7 @@ pub struct Totals {
 }
 
 /// The step table: one row per operation, one column per situation of the order's record: absent; annulled; acquired with all lines
-/// waiting; acquired with a line executed.
+/// waiting; acquired with a line executed or replaced. A SOSTITUZIONE takes the row of an INSERIMENTO.
 pub const STEPS: [[u8; 4]; 3] = [[0, 14, 14, 14], [16, 17, 0, 18], [16, 17, 0, 18]];
 
 /// Opens a table: writes it into a buffer of exactly the needed length, every slot empty. The answer is a code.
@@ -172,7 +172,7 @@ fn taken(table: &[u8], edition: u64, flow: &[u8], room: usize) -> Result<(Table,
         // Before the order is served: an accepted one changes what there is to look at.
         let looked = looked_at(body, flow.esercizio, order);
         let code = serve(body, flow.esercizio, order);
-        if !matches!(code, 11..=13) {
+        if !matches!(code, 12 | 13) {
             steps += looked;
         }
         outcomes.extend([order.kind as u8, order.operation as u8, code, order.lines.len() as u8]);
@@ -193,31 +193,40 @@ fn looked_at(body: &Body, esercizio: u16, order: &FlowOrder) -> u64 {
 
 /// Serves one order; the answer is its outcome code.
 fn serve(body: &mut Body, esercizio: u16, order: &FlowOrder) -> u8 {
-    if order.operation == Operation::Sostituzione {
-        return 11;
-    }
-    let numbers = order.lines.iter().map(|line| line.0);
+    let numbers = order.lines.iter().map(|line| line.progressivo);
     if !numbers.eq(1..=order.lines.len() as u16) {
         return 12;
     }
-    if order.lines.iter().map(|line| line.1).sum::<u64>() != order.total {
+    if order.lines.iter().map(|line| line.amount).sum::<u64>() != order.total {
         return 13;
     }
     let record = body
         .orders
         .iter()
         .position(|record| record.kind == order.kind && record.esercizio == esercizio && record.number == order.number);
-    let step = STEPS[order.operation as usize - 1][situation(record.map(|at| &body.orders[at]))];
+    let (row, state) = match order.operation {
+        Operation::Sostituzione => (Operation::Inserimento, LineState::Executed),
+        operation => (operation, LineState::Waiting),
+    };
+    let step = STEPS[row as usize - 1][situation(record.map(|at| &body.orders[at]))];
     if step != 0 {
         return step;
     }
-    let lines = order.lines.iter().map(|&(_, amount)| Line { executed: false, amount });
+    let lines = order.lines.iter().map(|line| Line { state, amount: line.amount });
     match record.map(|at| &mut body.orders[at]) {
         None => {
+            // Marks are made on a copy, which is kept only when the whole order is accepted.
+            let mut after = body.clone();
+            for line in &order.lines {
+                let code = replace(&mut after, order.kind, line);
+                if code != 0 {
+                    return code;
+                }
+            }
             if body.orders.len() == body.slots {
                 return 15;
             }
-            body.orders.push(Order {
+            after.orders.push(Order {
                 kind: order.kind,
                 state: State::Acquired,
                 esercizio,
@@ -226,6 +235,7 @@ fn serve(body: &mut Body, esercizio: u16, order: &FlowOrder) -> u8 {
                 total: order.total,
                 lines: lines.collect(),
             });
+            *body = after;
         }
         Some(record) if order.operation == Operation::Variazione => {
             record.date = order.date;
@@ -243,27 +253,46 @@ fn serve(body: &mut Body, esercizio: u16, order: &FlowOrder) -> u8 {
     0
 }
 
+/// Marks the line that a new line replaces, where it names one; the answer is 0 or the refusal's code.
+fn replace(body: &mut Body, kind: Kind, new: &FlowLine) -> u8 {
+    let Some(named) = new.named else { return 0 };
+    let order = body.orders.iter_mut().find(|order| order.key() == (kind, named.esercizio, named.number));
+    let place = usize::from(named.line).checked_sub(1);
+    let Some(line) = order.zip(place).and_then(|(order, place)| order.lines.get_mut(place)) else {
+        return 24;
+    };
+    if line.state != LineState::Executed {
+        return 25;
+    }
+    if line.amount != new.amount {
+        return 26;
+    }
+    line.state = LineState::Replaced;
+    0
+}
+
 /// The step table's column for a record.
 fn situation(record: Option<&Order>) -> usize {
     match record {
         None => 0,
         Some(record) if record.state == State::Annulled => 1,
-        Some(record) if !record.has_executed_line() => 2,
+        Some(record) if record.waits() => 2,
         Some(_) => 3,
     }
 }
 
 /// Takes the bank's notice that a line is executed.
 pub fn execute(table: &mut [u8], body: &[u8], notice: &Notice) -> NoticeAnswer {
-    notified(table, body, notice, true)
+    notified(table, body, notice, LineState::Executed)
 }
 
 /// Takes the bank's notice that an executed line is reversed.
 pub fn reverse(table: &mut [u8], body: &[u8], notice: &Notice) -> NoticeAnswer {
-    notified(table, body, notice, false)
+    notified(table, body, notice, LineState::Waiting)
 }
 
-fn notified(bytes: &mut [u8], body: &[u8], notice: &Notice, executed: bool) -> NoticeAnswer {
+/// Brings the named line into a state: waiting lines are executed (else 21), executed ones reversed (else 22), replaced ones neither.
+fn notified(bytes: &mut [u8], body: &[u8], notice: &Notice, to: LineState) -> NoticeAnswer {
     let refused = |code| NoticeAnswer { code, cents: 0 };
     let Some(mut table) = Table::decode(bytes) else {
         return refused(1);
@@ -291,10 +320,11 @@ fn notified(bytes: &mut [u8], body: &[u8], notice: &Notice, executed: bool) -> N
         return refused(20);
     }
     let line = &mut order.lines[notice.line as usize - 1];
-    if line.executed == executed {
-        return refused(if executed { 21 } else { 22 });
+    match (line.state, to) {
+        (LineState::Waiting, LineState::Executed) | (LineState::Executed, LineState::Waiting) => line.state = to,
+        (_, LineState::Executed) => return refused(21),
+        _ => return refused(22),
     }
-    line.executed = executed;
     let cents = line.amount;
     bytes.copy_from_slice(&table.encode());
     NoticeAnswer { code: 0, cents }
@@ -309,12 +339,7 @@ pub fn totals(table: &[u8], body: &[u8]) -> Totals {
     let Some(body) = table.body(body) else {
         return refused(7);
     };
-    let executed = |kind: Kind| -> u64 {
-        let orders = body.orders.iter().filter(|order| order.kind == kind);
-        let lines = orders.flat_map(|order| &order.lines);
-        lines.filter(|line| line.executed).map(|line| line.amount).sum()
-    };
-    let (paid, collected) = (executed(Kind::Mandato), executed(Kind::Reversale));
+    let (paid, collected) = (body.cents(Kind::Mandato), body.cents(Kind::Reversale));
     Totals { code: 0, used: body.orders.len() as u64, paid, collected, balance: collected as i64 - paid as i64 }
 }
 
@@ -334,7 +359,7 @@ pub fn journal(table: &[u8], body: &[u8], movements: &[u8]) -> u64 {
     let mut listed = HashSet::new();
     for order in &body.orders {
         for (line, number) in order.lines.iter().zip(1u8..) {
-            if line.executed {
+            if line.state == LineState::Executed {
                 let mut name = vec![order.kind as u8, number];
                 name.extend(order.esercizio.to_be_bytes());
                 name.extend(order.number.to_be_bytes());

@@ -2,7 +2,7 @@
 
 use crate::Edition;
 use crate::markup::replaced;
-use crate::structure::{Field, RawFlow, RawLine, RawOrder};
+use crate::structure::{Field, RawFlow, RawLine, RawNamed, RawOrder};
 use crate::table::{Date, Kind};
 
 /// What an order asks for, numbered as in document 01's field table.
@@ -14,7 +14,7 @@ pub enum Operation {
     Variazione = 2,
     /// An order withdrawn.
     Annullo = 3,
-    /// An order put in place of another; refused in the base.
+    /// A new order whose lines replace executed ones.
     Sostituzione = 4,
 }
 
@@ -44,8 +44,30 @@ pub struct FlowOrder {
     pub date: Date,
     /// Its total in cents.
     pub total: u64,
-    /// Its lines: progressivo and cents.
-    pub lines: Vec<(u16, u64)>,
+    /// Its lines.
+    pub lines: Vec<FlowLine>,
+}
+
+/// A line of an order of a flow.
+#[derive(Clone, Copy, Debug, PartialEq, Eq)]
+pub struct FlowLine {
+    /// Its progressivo.
+    pub progressivo: u16,
+    /// Its amount in cents.
+    pub amount: u64,
+    /// The line that it replaces, in a SOSTITUZIONE.
+    pub named: Option<NamedLine>,
+}
+
+/// A line that is to be replaced, of the same kind and body.
+#[derive(Clone, Copy, Debug, PartialEq, Eq)]
+pub struct NamedLine {
+    /// Its order's number.
+    pub number: u32,
+    /// The line's number in it.
+    pub line: u16,
+    /// Its order's year.
+    pub esercizio: u16,
 }
 
 /// What is wrong with a field, numbered as in document 02, Req 03.
@@ -116,12 +138,21 @@ fn read_order(raw: &RawOrder) -> Result<FlowOrder, Broken> {
     })
 }
 
-fn read_line(raw: &RawLine) -> Result<(u16, u64), Broken> {
+fn read_line(raw: &RawLine) -> Result<FlowLine, Broken> {
     let progressivo = read_field(&raw.progressivo, progressivo, 3, &[])?;
     let amount = read_field(&raw.amount, amount, 12, &[])?;
     // A name that breaks is empty or too long, and one that is too long by its own count has still more bytes.
     read_field(&raw.name, party_name, 140, &[])?;
-    Ok((progressivo, amount))
+    let named = raw.named.as_ref().map(read_named).transpose()?;
+    Ok(FlowLine { progressivo, amount, named })
+}
+
+fn read_named(raw: &RawNamed) -> Result<NamedLine, Broken> {
+    Ok(NamedLine {
+        number: read_field(&raw.number, number, 7, NUMBER)?,
+        line: read_field(&raw.line, progressivo, 3, &[])?,
+        esercizio: read_field(&raw.esercizio, esercizio, 4, YEAR)?,
+    })
 }
 
 fn read_field<T>(field: &Field, form: fn(&[u8]) -> Option<T>, longest: usize, shapes: &[&[u8]]) -> Result<T, Broken> {

@@ -25,7 +25,7 @@ pub mod target;
 
 pub use desk::{FlowAnswer, Notice, NoticeAnswer, Totals, convert, execute, flow, journal, open, request, reverse, totals};
 pub use salvage::{SalvageAnswer, salvage};
-pub use table::{Body, Date, Form, Kind, Line, Order, State, Table};
+pub use table::{Body, Date, Form, Kind, Line, LineState, Order, State, Table};
 
 /// The editions of a flow.
 #[derive(Clone, Copy, Debug, PartialEq, Eq)]

@@ -110,7 +110,7 @@ pub struct ReadAnswer {
 
 /// Whether an order can get this outcome code.
 pub fn is_order_code(code: u8) -> bool {
-    code == 0 || (11..=19).contains(&code)
+    matches!(code, 0 | 12..=19 | 24..=26)
 }
 
 /// 10.2.5's word for an operation that was accepted or refused.
@@ -146,7 +146,6 @@ fn party_name(kind: Kind) -> &'static str {
 /// The name of the element that a refused order has its error in.
 pub fn element_in_error(kind: Kind, code: u8) -> String {
     match code {
-        11 => "tipo_operazione".into(),
         12 => format!("progressivo_{}", party_name(kind)),
         13 | 19 => format!("importo_{}", order_name(kind)),
         _ => format!("numero_{}", order_name(kind)),

@@ -58,6 +58,19 @@ pub struct RawLine<'f> {
     pub amount: Field<'f>,
     /// `anagrafica_...`
     pub name: Field<'f>,
+    /// The line that a line of a SOSTITUZIONE replaces; other operations name none.
+    pub named: Option<RawNamed<'f>>,
+}
+
+/// The fields of `sostituzione_...`.
+#[derive(Clone, Debug, PartialEq, Eq)]
+pub struct RawNamed<'f> {
+    /// `numero_..._da_sostituire`
+    pub number: Field<'f>,
+    /// `progressivo_..._da_sostituire`
+    pub line: Field<'f>,
+    /// `esercizio_..._da_sostituire`
+    pub esercizio: Field<'f>,
 }
 
 /// Reads the structure of a flow of an edition from the root element; `None` when it breaks.
@@ -96,10 +109,13 @@ fn order<'f>(element: &Element<'f>) -> Option<RawOrder<'f>> {
     let once = ["tipo_operazione", &format!("numero_{order}"), &format!("data_{order}"), &format!("importo_{order}")];
     let repeated = format!("informazioni_{party}");
     let (fields, lines) = children(element, once, &[&repeated], MOST_LINES)?;
-    let lines = lines.into_iter().map(|element| line(element, party));
+    let operation = field(fields[0])?;
+    // Only this very text asks for the structure; with any other, also a broken one, it is passed over.
+    let replaces = operation.text == b"SOSTITUZIONE";
+    let lines = lines.into_iter().map(|element| line(element, order, party, replaces));
     Some(RawOrder {
         kind,
-        operation: field(fields[0])?,
+        operation,
         number: field(fields[1])?,
         date: field(fields[2])?,
         total: field(fields[3])?,
@@ -107,11 +123,24 @@ fn order<'f>(element: &Element<'f>) -> Option<RawOrder<'f>> {
     })
 }
 
-fn line<'f>(element: &Element<'f>, party: &str) -> Option<RawLine<'f>> {
-    let once = [&*format!("progressivo_{party}"), &*format!("importo_{party}"), party];
-    let (fields, _) = children(element, once, &[], 0)?;
+fn line<'f>(element: &Element<'f>, order: &str, party: &str, replaces: bool) -> Option<RawLine<'f>> {
+    let [progressivo, amount, replaced] =
+        [format!("progressivo_{party}"), format!("importo_{party}"), format!("sostituzione_{order}")];
+    let (fields, named) = if replaces {
+        let ([a, b, c, d], _) = children(element, [&progressivo, &amount, party, &replaced], &[], 0)?;
+        ([a, b, c], Some(named_line(d, order, party)?))
+    } else {
+        (children(element, [&progressivo, &amount, party], &[], 0)?.0, None)
+    };
     let (names, _) = children(fields[2], [&*format!("anagrafica_{party}")], &[], 0)?;
-    Some(RawLine { progressivo: field(fields[0])?, amount: field(fields[1])?, name: field(names[0])? })
+    Some(RawLine { progressivo: field(fields[0])?, amount: field(fields[1])?, name: field(names[0])?, named })
+}
+
+fn named_line<'f>(element: &Element<'f>, order: &str, party: &str) -> Option<RawNamed<'f>> {
+    let once =
+        [("numero", order), ("progressivo", party), ("esercizio", order)].map(|(what, of)| format!("{what}_{of}_da_sostituire"));
+    let (fields, _) = children(element, once.each_ref().map(String::as_str), &[], 0)?;
+    Some(RawNamed { number: field(fields[0])?, line: field(fields[1])?, esercizio: field(fields[2])? })
 }
 
 /// The named children of an element: each of `once` exactly once and in this order, then 1 to `most` of the names `repeated` (none

@@ -92,10 +92,21 @@ pub struct Order {
 /// A line of a record.
 #[derive(Clone, Copy, Debug, PartialEq, Eq)]
 pub struct Line {
-    /// Whether the bank has executed it; it waits otherwise.
-    pub executed: bool,
+    /// Where it stands.
+    pub state: LineState,
     /// The amount in cents.
     pub amount: u64,
+}
+
+/// The state of a line that is there.
+#[derive(Clone, Copy, Debug, PartialEq, Eq)]
+pub enum LineState {
+    /// Not executed, or executed and reversed.
+    Waiting = 1,
+    /// Executed by the bank, or brought in by a replacement.
+    Executed = 2,
+    /// Executed, and then replaced by a line of another order; for good.
+    Replaced = 3,
 }
 
 /// A payment or a collection order.
@@ -143,9 +154,9 @@ impl Date {
 }
 
 impl Order {
-    /// Whether some line is executed.
-    pub fn has_executed_line(&self) -> bool {
-        self.lines.iter().any(|line| line.executed)
+    /// Whether every line waits.
+    pub fn waits(&self) -> bool {
+        self.lines.iter().all(|line| line.state == LineState::Waiting)
     }
 
     /// Whether the record keeps the rules that look at it alone.
@@ -156,7 +167,7 @@ impl Order {
             && self.total <= GREATEST_AMOUNT
             && self.lines.iter().all(|line| line.amount <= GREATEST_AMOUNT)
             && self.lines.iter().map(|line| line.amount).sum::<u64>() == self.total
-            && !(self.state == State::Annulled && self.has_executed_line())
+            && (self.state == State::Acquired || self.waits())
     }
 
     fn encode(&self) -> Vec<u8> {
@@ -170,7 +181,7 @@ impl Order {
         let mut states = [0; MOST_LINES];
         let mut amounts = [0; MOST_LINES];
         for (index, line) in self.lines.iter().enumerate() {
-            states[index] = if line.executed { 2 } else { 1 };
+            states[index] = line.state as u8;
             amounts[index] = line.amount;
         }
         slot.extend(states);
@@ -205,13 +216,14 @@ impl Order {
             return None;
         }
         let lines = (0..count).map(|index| {
-            let executed = match slot[24 + index] {
-                1 => false,
-                2 => true,
+            let state = match slot[24 + index] {
+                1 => LineState::Waiting,
+                2 => LineState::Executed,
+                3 => LineState::Replaced,
                 _ => return None,
             };
             let amount = number_at(slot, 32 + 8 * index, 8);
-            Some(Line { executed, amount })
+            Some(Line { state, amount })
         });
         let order = Order {
             kind,
@@ -230,7 +242,8 @@ impl Body {
     /// The cents of the executed lines of its orders of a kind.
     pub fn cents(&self, kind: Kind) -> u64 {
         let orders = self.orders.iter().filter(|order| order.kind == kind);
-        orders.flat_map(|order| &order.lines).filter(|line| line.executed).map(|line| line.amount).sum()
+        let lines = orders.flat_map(|order| &order.lines);
+        lines.filter(|line| line.state == LineState::Executed).map(|line| line.amount).sum()
     }
 
     fn stands(&self) -> bool {
@@ -275,6 +288,13 @@ impl Table {
             && self.length_as(form) <= form.longest()
             && self.bodies.iter().all(Body::stands)
             && self.bodies.iter().all(|body| codes.insert(&body.code))
+            && (form == Form::Two || !self.has_replaced_line())
+    }
+
+    /// Whether a line of some order is replaced: table 1 knows no such state.
+    fn has_replaced_line(&self) -> bool {
+        let lines = self.bodies.iter().flat_map(|body| &body.orders).flat_map(|order| &order.lines);
+        lines.into_iter().any(|line| line.state == LineState::Replaced)
     }
 
     /// The bytes of the table.
@@ -392,7 +412,7 @@ mod tests {
             number: 12,
             date: Date { year: 2021, month: 3, day: 1 },
             total: 15_000,
-            lines: vec![Line { executed: false, amount: 10_000 }, Line { executed: false, amount: 5_000 }],
+            lines: vec![Line { state: LineState::Waiting, amount: 10_000 }, Line { state: LineState::Waiting, amount: 5_000 }],
         });
         table
     }
@@ -461,10 +481,12 @@ mod tests {
         not_valid(|bytes| bytes[496 + 15] = 32);
         not_valid(|bytes| bytes[879] = 1);
         // An annulled order has every line waiting.
-        not_valid(|bytes| {
-            bytes[497] = 2;
-            bytes[496 + 24] = 2;
-        });
+        for state in [2, 3] {
+            let mut bytes = with_order().encode();
+            (bytes[497], bytes[496 + 24]) = (2, state);
+            assert_eq!(Table::decode(&bytes), None);
+        }
+        not_valid(|bytes| bytes[496 + 24] = 4);
         // An empty slot before a used one.
         not_valid(|bytes| bytes.copy_within(496..592, 592 + 96));
         // Two records of one body with the same key.
@@ -479,7 +501,7 @@ mod tests {
     #[test]
     fn kept_totals_agree() {
         let mut table = with_order();
-        table.bodies[1].orders[0].lines[1].executed = true;
+        table.bodies[1].orders[0].lines[1].state = LineState::Executed;
         let bytes = table.encode();
         assert_eq!((number_at(&bytes, 64 + 24, 8), number_at(&bytes, 64 + 32, 8)), (5_000, 0));
         assert_eq!(Table::decode(&bytes), Some(table));
@@ -497,6 +519,18 @@ mod tests {
         assert_eq!(Table::decode_as(&old, Form::One), Some(with_order()));
         assert_eq!(Table::decode(&old), None);
         assert_eq!(Table::decode_as(&with_order().encode(), Form::One), None);
+    }
+
+    /// A replaced line counts in no total, and no table 1 has one.
+    #[test]
+    fn replaced_lines() {
+        let mut table = with_order();
+        table.bodies[1].orders[0].lines[0].state = LineState::Executed;
+        table.bodies[1].orders[0].lines[1].state = LineState::Replaced;
+        assert_eq!(Table::decode_as(&table.encode_as(Form::One), Form::One), None);
+        let bytes = table.encode();
+        assert_eq!((&bytes[496 + 24..496 + 26], number_at(&bytes, 64 + 24, 8)), (&[2, 3][..], 10_000));
+        assert_eq!(Table::decode(&bytes), Some(table));
     }
 
     #[test]

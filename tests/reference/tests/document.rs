@@ -103,7 +103,7 @@ fn the_run_whole() {
     assert_eq!(used(b"471"), (0, 0, 0));
 }
 
-/// Document 02, Req 09: up to and including the slot found, or all used slots; none for 11, 12 and 13.
+/// Document 02, Req 09: up to and including the slot found, or all used slots; none for 12 and 13.
 #[test]
 fn steps_of_a_search() {
     let mut table = fresh();
@@ -115,7 +115,7 @@ fn steps_of_a_search() {
     assert_eq!(steps(&[insert("1"), insert("2"), annul("3"), annul("2")]), 1 + 2 + 2 + 2);
     assert_eq!(steps(&[insert("3"), insert("4"), insert("5")]), 2 + 3 + 4);
     assert_eq!(steps(&[annul("5"), annul("4"), reversale("VARIAZIONE", "1", "1.00", ONE)]), 3 * 4);
-    assert_eq!(steps(&[mandato("INSERIMENTO", "1", "1.01", ONE), mandato("SOSTITUZIONE", "1", "1.00", ONE)]), 0);
+    assert_eq!(steps(&[mandato("INSERIMENTO", "1", "1.01", ONE)]), 0);
     assert_eq!(steps(&[mandato("VARIAZIONE", "4", "1.00", &[("2", "1.00", "Rossi")])]), 0);
 }
 
@@ -171,7 +171,6 @@ fn the_order_of_outcome_codes() {
     let mut table = fresh();
     let two = [("1", "1.00", "a"), ("2", "0.00", "b")];
     let cases = [
-        (mandato("SOSTITUZIONE", "1", "9.00", &[("2", "1.00", "a")]), 11),
         (mandato("INSERIMENTO", "1", "9.00", &[("2", "1.00", "a")]), 12),
         (mandato("INSERIMENTO", "1", "9.00", &[("0", "1.00", "a")]), 12),
         (mandato("INSERIMENTO", "1", "1.00", &[("2", "1.00", "a"), ("1", "0.00", "b")]), 12),

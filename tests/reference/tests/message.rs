@@ -38,9 +38,15 @@ fn order(kind: &str, party: &str, operation: &str, number: &str, total: &str, am
     let lines: String = (1..)
         .zip(amounts)
         .map(|(line, amount)| {
+            let named = format!(
+                "<sostituzione_{kind}><numero_{kind}_da_sostituire>1</numero_{kind}_da_sostituire>\
+                 <progressivo_{party}_da_sostituire>1</progressivo_{party}_da_sostituire>\
+                 <esercizio_{kind}_da_sostituire>2021</esercizio_{kind}_da_sostituire></sostituzione_{kind}>"
+            );
             format!(
                 "<informazioni_{party}><progressivo_{party}>{line}</progressivo_{party}><importo_{party}>{amount}</importo_{party}>\
-                 <{party}><anagrafica_{party}>R</anagrafica_{party}></{party}></informazioni_{party}>"
+                 <{party}><anagrafica_{party}>R</anagrafica_{party}></{party}>{}</informazioni_{party}>",
+                if operation == "SOSTITUZIONE" { &named } else { "" }
             )
         })
         .collect();
@@ -177,7 +183,7 @@ fn words_and_elements() {
             let text = whole(&[order(name, party, operation, "7", "1.00", &["1.00"])]);
             for code in 0..=255 {
                 let outcome = [kind, number, code, 1, 0, 0, 0, 7, 0, 0, 0, 0, 0, 0, 0, 100];
-                if code != 0 && !(11..=19).contains(&code) {
+                if code != 0 && !(12..=19).contains(&code) && !(24..=26).contains(&code) {
                     assert_eq!(refusal(&text, &outcome, &GIVEN), 41, "{code}");
                     continue;
                 }
@@ -186,7 +192,6 @@ fn words_and_elements() {
                 assert!(message.contains(&format!("<esito_operazione>{wanted}</esito_operazione>")), "{message}");
                 let element = match code {
                     0 => None,
-                    11 => Some("tipo_operazione".to_string()),
                     12 => Some(format!("progressivo_{party}")),
                     13 | 19 => Some(format!("importo_{name}")),
                     _ => Some(format!("numero_{name}")),
@@ -320,15 +325,18 @@ fn reversali_stand_first() {
 
 #[test]
 fn the_longest_message() {
-    let outcome = [2, 4, 12, 1, 0, 0x98, 0x96, 0x7F, 0, 0, 0, 0x17, 0x48, 0x76, 0xE7, 0xFF];
-    let one = order("reversale", "versante", "SOSTITUZIONE", "9999999", "999999999.99", &["0.00"]);
+    let outcome = [2, 1, 12, 1, 0, 0x98, 0x96, 0x7F, 0, 0, 0, 0x17, 0x48, 0x76, 0xE7, 0xFF];
+    let one = order("reversale", "versante", "INSERIMENTO", "9999999", "999999999.99", &["0.00"]);
     let text = whole(&vec![one; 64]).replace(">A1<", ">A234567890123456789012345678901234.<").replace("000471", "0000000000000471");
     let mut given: Given = [&[b'x'; 140]; 9];
     (given[0], given[1]) = (GIVEN[0], GIVEN[1]);
     assert!(text.len() <= 32_768);
     let message = written(&text, &outcome.repeat(64), &given);
-    assert_eq!(message.len(), 35_122);
-    assert_eq!(taken(&message).len(), 3_152);
+    assert_eq!(message.len(), 35_122 - 64);
+    // No flow has room for 64 SOSTITUZIONE, whose word is longer by a letter; but such a message can be read and written again.
+    let longest = message.replace("NON ACQUISITO", "NON SOSTITUITO");
+    assert_eq!(longest.len(), 35_122);
+    assert_eq!(taken(&longest).len(), 3_152);
 }
 
 #[test]
@@ -482,7 +490,9 @@ fn fields_and_causes() {
     // The word that doesn't fit is told before the time that breaks after it.
     let both = changed("NON ACQUISITO", "ACQUISITO").replace("2021-03-01T09:30:30+01:00", "x");
     assert_eq!(refused(&both), (5, 3, "esito_operazione"));
-    for (code, cause) in [("", 1), ("013", 2), ("1", 3), ("1a", 3), ("10", 4), ("20", 4), ("00", 4), ("99", 4)] {
+    for (code, cause) in
+        [("", 1), ("013", 2), ("1", 3), ("1a", 3), ("10", 4), ("11", 4), ("20", 4), ("23", 4), ("27", 4), ("00", 4), ("99", 4)]
+    {
         breaks("13", code, "codice_errore", cause);
     }
     for (code, cause) in [("", 1), ("13 ", 2), ("14", 3), ("1", 3)] {
@@ -490,7 +500,9 @@ fn fields_and_causes() {
     }
     let fourteen = RUN.replace(">13<", ">14<");
     assert_eq!(refused(&fourteen), (5, 3, "elemento"));
-    taken(&fourteen.replace(">importo_reversale<", ">numero_reversale<"));
+    for code in ["14", "24", "25", "26"] {
+        taken(&RUN.replace(">13<", &format!(">{code}<")).replace(">importo_reversale<", ">numero_reversale<"));
+    }
     taken(&RUN.replace(">13<", ">12<").replace(">importo_reversale<", ">progressivo_versante<"));
     for (element, cause) in
         [("", 1), ("importo", 3), ("importo_mandato", 3), ("progressivo_beneficiario", 3), ("progressivo_beneficiario_", 2)]

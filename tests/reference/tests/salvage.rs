@@ -1,11 +1,11 @@
 //! Document 02, Req 13, case by case: what a repair keeps, blanks, moves and reports, and what it refuses.
 
 use reference::table::{ENTRY, HEAD, LONGEST, SLOT, number_at};
-use reference::{Body, Date, Kind, Line, Order, SalvageAnswer, State, Table, salvage, totals};
+use reference::{Body, Date, Kind, Line, LineState, Order, SalvageAnswer, State, Table, salvage, totals};
 
-const EXECUTED: &[(bool, u64)] = &[(true, 10_000), (false, 5_000)];
+const EXECUTED: &[(LineState, u64)] = &[(LineState::Executed, 10_000), (LineState::Waiting, 5_000)];
 
-fn order(kind: Kind, number: u32, lines: &[(bool, u64)]) -> Order {
+fn order(kind: Kind, number: u32, lines: &[(LineState, u64)]) -> Order {
     Order {
         kind,
         state: State::Acquired,
@@ -13,14 +13,14 @@ fn order(kind: Kind, number: u32, lines: &[(bool, u64)]) -> Order {
         number,
         date: Date { year: 2021, month: 3, day: 1 },
         total: lines.iter().map(|line| line.1).sum(),
-        lines: lines.iter().map(|&(executed, amount)| Line { executed, amount }).collect(),
+        lines: lines.iter().map(|&(state, amount)| Line { state, amount }).collect(),
     }
 }
 
 /// Body 000471 with mandati 1, 2 and 3 in four slots, body 471 with reversale 1 in two.
 fn table() -> Table {
     let first = (1..=3).map(|number| order(Kind::Mandato, number, EXECUTED)).collect();
-    let second = vec![order(Kind::Reversale, 1, &[(true, 700)])];
+    let second = vec![order(Kind::Reversale, 1, &[(LineState::Executed, 700)])];
     Table {
         abi: *b"01234",
         bodies: vec![
@@ -68,8 +68,8 @@ fn a_valid_table_comes_out_the_same() {
 /// One bit in each byte of the second record: the record goes unless the byte's value is free.
 #[test]
 fn one_bit_in_each_field() {
-    // Esercizio, number, year and month (2 for 3) have other values, and so has a waiting or executed line's state.
-    let free = |at: usize| matches!(at, 5 | 9..=11 | 13 | 14);
+    // Esercizio, number, year and month (2 for 3) have other values, and the executed line's state becomes replaced.
+    let free = |at: usize| matches!(at, 5 | 9..=11 | 13 | 14 | 24);
     for at in 0..SLOT {
         let bytes = changed(|bytes| bytes[slot(1).start + at] ^= 1);
         let (after, moved, blanked) = repaired(&bytes);
