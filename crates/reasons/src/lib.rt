@@ -220,9 +220,7 @@ pub fn of_order(code: u8) -> bool {
             b"  19, ANNULLO: total, number of lines or a line amount differs from the record\n",
         ),
         24 => say(b"  24, SOSTITUZIONE: a line names a line that is not there\n"),
-        25 => say(
-            b"  25, SOSTITUZIONE: a named line is not executed, or is replaced already\n",
-        ),
+        25 => say(b"  25, SOSTITUZIONE: a named line is not executed, or is replaced already\n"),
         _ => say(b"  26, SOSTITUZIONE: a named line has another amount\n"),
     }
 }
