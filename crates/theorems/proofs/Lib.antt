@@ -15,5 +15,6 @@ pub mod Condition1
 pub mod Exactly
 pub mod Totals
 pub mod Searches
+pub mod Replacements
 pub mod Journal
 pub mod Converted

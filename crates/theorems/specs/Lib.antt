@@ -8,4 +8,5 @@ pub mod Condition3
 pub mod History
 pub mod Totals
 pub mod Searches
+pub mod Replacements
 pub mod Journal

@@ -38,7 +38,7 @@ use Rattle.flow.specs.declared.Verdict.{Verdict}
 use Rattle.fields.specs.declared.Cause.{Cause}
 use Rattle.flow.specs.declared.Verdict.the-variants.{FieldBreaks, Stands}
 use Rattle.flow.specs.Flow.{headerOf, flowOrders}
-use Rattle.rules.specs.Listed.{Has, Applies, no-order, line-zero, line-past, not-executed, named-before, other-amount, misnumbered, missummed, present, full, absent, annulled, executed, differs}
+use Rattle.rules.specs.Listed.{Has, lastTurn, Applies, no-order, line-zero, line-past, not-executed, named-before, other-amount, misnumbered, missummed, present, full, absent, annulled, executed, differs}
 use Rattle.rules.specs.Rules.{keyFor, judgeOrder, orderCode}
 use Rattle.rules.specs.Effects.{recordsBy, allRecords}
 use Rattle.service.specs.Service.{outcomeSize, orderComes}
@@ -258,7 +258,7 @@ module _ (T : Taker) (keeps : Keeps T) where
       let c = ap (λ (l : List ℕ). getD l (length (r .before)) 0) (rw os at (k .codes)) in
       let x = outcome-byte (length (r .before ++ (r .order ∷ r .others))) (length (r .before)) (T .outcomes (w .table) (w .number) (w .flow) (w .lent)) (omega (arith, length-append (r .before) (r .order ∷ r .others))) in
       let z = sym (sym x ∙ c ∙ d) ∙ r .answered in
-      k .exactly (r .before) (r .order) (r .others) os .0 z 19 (differs (r .annuls) (r .old) has (r .meant))
+      k .exactly (r .before) (r .order) (r .others) os .0 z (lastTurn (r .order)) 19 (differs (r .annuls) (r .old) has (r .meant))
 
   -- 15 is given exactly where the body is full
   pub no-slot-for-others : NoSlotForOthers T → ⊥
@@ -271,7 +271,7 @@ module _ (T : Taker) (keeps : Keeps T) where
       let b = here-body w in
       let c = ap (λ (l : List ℕ). getD l 0 0) (rw (sym (here-orders w) ∙ r .first) at (k .codes)) in
       let v = condition2 .answer t (k .valid) (k .body) (found-body t (k .valid) (headerOf (k .edition) (w .flow) (k .at) .ente) (k .body) (k .named)) (headerOf (k .edition) (w .flow) (k .at) .esercizio) (r .order) 15 (λ q. omega arith) .0 (sym c ∙ r .answered) in
-      let l = full-body (v .0) refl in
+      let l = full-body (v .1) refl in
       let m = rw b at (r .empty) in
       omega arith
 
