@@ -42,7 +42,7 @@ use Rattle.opening.proofs.Valid.{opened-valid, opened-bodies, past}
 use Rattle.isolation.proofs.Runs.{good-run}
 use Rattle.isolation.proofs.History.{balance}
 use Rattle.theorems.specs.Engine.{Call, flow, execute, reverse, totals, journal, Answer, Engine, who, machine, tableAfter, namesOn, position, bodyRecords}
-use Rattle.theorems.specs.History.{Weight, ofExecution, ofReversal, executions, reversals, weight, cash, perTime, OrderWeight, ofOrders, ofFlowed, accepted, brought, given, centsIn, heldTimes, broughtTimes, logOf, History, HistoryValid, HistoryOpened}
+use Rattle.theorems.specs.History.{Weight, ofExecution, ofReversal, executions, reversals, weight, cash, perTime, OrderWeight, ofOrders, ofFlowed, accepted, brought, given, come, gone, centsIn, heldTimes, broughtTimes, logOf, History, HistoryValid, HistoryOpened}
 use Rattle.rules.specs.Worth.{Which, States, Value, worthOf, areExecuted, worth, areHeld, ofKind, ofKindIn, itsCents, withKey, onLine, broughtBy, givenBy, comeBy, goneBy}
 use Rattle.theorems.proofs.Steps.{answer, after, one-step}
 use Rattle.theorems.proofs.Good.{Good, fresh, base, size, inside, find-is, place-is, slots-is, ready, served, owned-alike}
@@ -209,24 +209,32 @@ history E t₀ r b l cs = record {
   cash-history = λ kind.
       let x = cents-worth kind (bodyRecords b (tableAfter E t₀ cs)) in
       let y = cents-worth kind (bodyRecords b t₀) in
-      let z : given (ofKind kind) itsCents L ≡ brought (ofKind kind) itsCents L = λ i. accepted (λ year o. kind-even kind year o (~ i)) L in
+      let z : brought (ofKind kind) itsCents L ≡ given (ofKind kind) itsCents L = λ i. accepted (λ year o. kind-even kind year o i) L in
       omega (arith, worths (ofKind kind) itsCents);
   years-history = λ kind years.
       let p = ofKindIn kind years in
       let x : accepted (λ year o. broughtBy p itsCents year o + goneBy kind years year o) L ≡ accepted (λ year o. givenBy p itsCents year o + comeBy kind years year o) L =
       λ i. accepted (λ year o. years-even kind years year o i) L in
-      omega (arith, worths p itsCents, x, accepted-adds (broughtBy p itsCents) (goneBy kind years) L, accepted-adds (givenBy p itsCents) (comeBy kind years) L);
+      let y : brought p itsCents L + gone kind years L ≡ given p itsCents L + come kind years L =
+      sym (accepted-adds (broughtBy p itsCents) (goneBy kind years) L) ∙ x ∙ accepted-adds (givenBy p itsCents) (comeBy kind years) L in
+      omega (arith, worths p itsCents);
   worth-history = worths;
   line-history = λ key line.
-      omega (arith, balances t₀ r (perTime key line) _ nothing _ (held-weighs (withKey key) (onLine line)) E b l cs, accepted-none L);
+      omega (arith, balances t₀ r (perTime key line) (broughtBy (withKey key) (onLine line)) nothing (heldTimes key line) (held-weighs (withKey key) (onLine line)) E b l cs, accepted-none L);
   line-most = λ key line. one-most key areHeld line (bodyRecords b (tableAfter E t₀ cs)) apart;
   brought-most = λ key line.
       let k = newWith key in
       let u = broughtBy (withKey key) (onLine line) in
       let z : accepted k L ≡ accepted (λ year o. u year o + (k year o - u year o)) L =
       λ i. accepted (λ year o. split (u year o) (k year o) (brought-new line key year o) i) L in
-      omega (arith, z, accepted-adds u (λ year o. k year o - u year o) L, balances t₀ r no-notice k nothing _ (there-weighs key) E b l cs,
-        there-once key (bodyRecords b (tableAfter E t₀ cs)) apart, accepted-none L, reversals-none L);
+      let y : accepted k L ≡ broughtTimes key line L + accepted (λ year o. k year o - u year o) L = z ∙ accepted-adds u (λ year o. k year o - u year o) L in
+      omega (
+        arith,
+        balances t₀ r no-notice k nothing (there key) (there-weighs key) E b l cs,
+        there-once key (bodyRecords b (tableAfter E t₀ cs)) apart,
+        accepted-none L,
+        reversals-none L,
+      );
   totals-are = λ code e a p.
       let g = good E t₀ r cs in
       let x = condition2 .totals (tableAfter E t₀ cs) (g .ok) code b (find-is t₀ r (tableAfter E t₀ cs) g code ∙ found-at (bodyOf t₀ code) b e) a p in
@@ -282,8 +290,8 @@ history-opened E q t t₀ p b l cs = record {
       let z : centsIn kind years (bodyRecords b t₀) ≡ 0 = ap (centsIn kind years) none in
       omega (arith, H .years-history kind years);
   line-held = line-held;
-  line-opened = λ key line e. nought-or-one (heldTimes key line now) _ _ (H .line-most key line) (omega (arith, line-held key line));
-  line-brought = λ key line e. nought-or-less (heldTimes key line now) _ _ (H .line-most key line) (omega (arith, line-held key line));
+  line-opened = λ key line e. nought-or-one (heldTimes key line now) (executions (perTime key line) L) (reversals (perTime key line) L) (H .line-most key line) (omega (arith, e, line-held key line));
+  line-brought = λ key line e. nought-or-less (heldTimes key line now) (executions (perTime key line) L) (reversals (perTime key line) L) (H .line-most key line) (omega (arith, e, line-held key line));
 }
   where
     H : History E t₀ b cs (bodyRecords b t₀)
