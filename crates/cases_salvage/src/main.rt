@@ -14,25 +14,40 @@ fn say_whether(right: bool, yes: &[u8], no: &[u8]) {
     }
 }
 
-// What salvage answers, and whether table and report are then these.
-fn say_salvaged(t: &mut [u8], r: &mut [u8], x: &[u8], y: &[u8]) {
+// What salvage answers.
+fn say_reply(t: &mut [u8], r: &mut [u8]) {
     let a = salvage::reply_of(salvage::salvage(t, r));
     say_number(a.code);
     say(b", blanked ");
     say_number(a.blanked);
-    say_whether(scan::same(t, x), b", table as expected", b", table differs");
+}
+
+// Whether table and report are these.
+fn say_left(t: &[u8], r: &[u8], x: &[u8], y: &[u8]) {
+    say_whether(
+        scan::same(t, x),
+        b", table as expected",
+        b", table differs",
+    );
     say_whether(
         scan::same(r, y),
         b", report as expected",
         b", report differs",
     );
     say_whether(table::table_ok(t), b", valid", b", not valid");
-    let b = salvage::reply_of(salvage::salvage(t, r));
+}
+
+// Once, and once more.
+fn say_salvaged(t: &mut [u8], r: &mut [u8], x: &[u8], y: &[u8]) {
+    say_reply(t, r);
+    say_left(t, r, x, y);
     say(b", then ");
-    say_number(b.code);
-    say(b", blanked ");
-    say_number(b.blanked);
-    say_whether(scan::same(t, x), b", table the same", b", table changes");
+    say_reply(t, r);
+    say_whether(
+        scan::same(t, x),
+        b", table the same",
+        b", table changes",
+    );
 }
 
 // In a report's buffer of k bytes, at most 64.
