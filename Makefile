@@ -60,7 +60,9 @@ dist: $(ARCHIVE) $(TOOL)
 	$(call put,$(TREE),$${pcfiledir}/../..)
 	cp KIT LICENSE README.md "$(TREE)/"
 	mkdir -p "$(TREE)/src/bindings"
-	git ls-files -z bindings/rust tool include | xargs -0 cp --parents -t "$(TREE)/src"
+	cp -r bindings/rust "$(TREE)/src/bindings/"
+	cp -r tool include "$(TREE)/src/"
+	rm -rf "$(TREE)/src/bindings/rust/target" "$(TREE)/src/tool/target"
 	cd "$(TREE)" && find . -type f ! -name SHA256SUMS -printf '%P\0' | LC_ALL=C sort -z | xargs -0 sha256sum > SHA256SUMS
 	tar --sort=name --owner=0 --group=0 --numeric-owner --mtime=@$(SOURCE_DATE_EPOCH) --mode=u+rw,go+r,go-w -C target/dist -cf - "$(NAME)" | gzip -9n > "$(TREE).tar.gz"
 	cd target/dist && sha256sum "$(NAME).tar.gz" > "$(NAME).tar.gz.sha256"

@@ -52,7 +52,7 @@ done
 holds absent n
 holds absent m.xml
 holds same t fresh
-for command in open flow execute reverse totals list journal convert check replay; do
+for command in open flow execute reverse totals list journal convert salvage check replay; do
   is 0 "$tool" "$command" --help
   holds out_has "usage: hondivole $command"
   holds grep -q "^\.BR \"$command " "$root/docs/man/hondivole.1"
@@ -147,6 +147,26 @@ is 0 "$tool" flow taken-over/f "$run"
 is 0 "$tool" check taken-over/f
 is 0 "$tool" replay taken-over/f.log taken-over/again
 holds same taken-over/f taken-over/again
+
+# A damaged table: a byte of the first record, then one of the head.
+cp t damaged
+printf '\377' | dd of=damaged bs=1 seek=$((16 + 48 * 2 + 8)) conv=notrunc status=none
+cp damaged kept
+is 1 "$tool" flow damaged "$run"
+is 0 "$tool" salvage damaged repaired
+holds out_has "repaired: repaired, 1 slot blanked"
+holds out_has "the slot at byte 112 of damaged: blanked"
+is 0 "$tool" salvage damaged repaired-2 --json
+holds json
+holds same damaged kept
+is 0 "$tool" flow repaired "$run"
+is 0 "$tool" check repaired
+is 0 "$tool" replay repaired.log repaired-again
+holds same repaired repaired-again
+printf '\377' | dd of=damaged bs=1 seek=3 conv=notrunc status=none
+is 1 "$tool" salvage damaged n
+holds out_has "refused, 34"
+holds absent n
 
 # A table is made where there is nothing yet.
 is 3 "$tool" open t --abi 01234 471:4

@@ -28,7 +28,7 @@ uses() {
 uses "$work/prefix/lib/pkgconfig"
 [ "$(pkg-config --variable=kit hondivole)" = "$(cat KIT)" ]
 mkdir -p "$work/away/bindings"
-git ls-files -z bindings/rust | xargs -0 cp --parents -t "$work/away"
+cp -r bindings/rust "$work/away/bindings/"
 (cd "$work/away/bindings/rust" && CARGO_TARGET_DIR=$work/cargo cargo --offline run --quiet --release --example message 2> "$work/err") > "$work/message.xml" || {
   cat "$work/err"
   exit 1

@@ -66,17 +66,12 @@ fn run(mut args: Args, say: Say) -> Result<bool, Fault> {
 fn logged(place: &Place, table: u64) -> Result<(u64, Option<Entry>), Fault> {
     let mut entries = Entries::of(&place.log)?;
     let (mut last, mut one_before): (Option<Entry>, Option<Entry>) = (None, None);
-    loop {
-        match entries.next().map_err(|error| Fault::file(&place.log, error))? {
-            Next::Whole(entry) => {
-                let (number, digest) = last.as_ref().map_or((0, digest(&[])), |last| (last.number, last.after));
-                if entry.number != number + 1 || entry.before != digest {
-                    return Err(Fault::file(&place.log, format!("entry {} doesn't follow on {number}", entry.number)));
-                }
-                one_before = last.replace(*entry);
-            }
-            Next::End | Next::Torn => break,
+    while let Next::Whole(entry) = entries.next().map_err(|error| Fault::file(&place.log, error))? {
+        let (number, digest) = last.as_ref().map_or((0, digest(&[])), |last| (last.number, last.after));
+        if entry.number != number + 1 || entry.before != digest {
+            return Err(Fault::file(&place.log, format!("entry {} doesn't follow on {number}", entry.number)));
         }
+        one_before = last.replace(*entry);
     }
     let damaged = || Fault::file(&place.log, format!("from byte {} on this is no log", entries.end));
     entries.torn().map_err(|error| Fault::file(&place.log, error))?.ok_or_else(damaged)?;

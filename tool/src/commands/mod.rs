@@ -10,6 +10,7 @@ mod message;
 mod notice;
 mod open;
 mod replay;
+mod salvage;
 mod totals;
 
 use std::ffi::OsString;
@@ -48,6 +49,7 @@ const COMMANDS: &[Command] = &[
     list::COMMAND,
     journal::COMMAND,
     convert::COMMAND,
+    salvage::COMMAND,
     check::COMMAND,
     replay::COMMAND,
 ];
@@ -56,6 +58,7 @@ const COMMANDS: &[Command] = &[
 pub(crate) const CHANGES: &[(&str, Apply)] = &[
     ("open", open::apply),
     ("convert", convert::apply),
+    ("salvage", salvage::apply),
     (FOUND, replay::found),
     ("flow", flow::apply),
     ("execute", notice::execute),

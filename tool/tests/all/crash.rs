@@ -142,7 +142,7 @@ fn at_random_moments() {
     let folder = folder("random");
     let mut random = Random(seed.wrapping_mul(0x9e37_79b9_7f4a_7c15) | 1);
     let (mut table, mut now) = (PathBuf::new(), Vec::new());
-    let mut longest = Duration::from_millis(5);
+    let mut usual = Duration::from_millis(5);
     let (mut plain, mut outside, mut inside) = (Seen::default(), Seen::default(), Seen::default());
     for i in 0..crashes {
         if i % 200 == 0 {
@@ -154,11 +154,11 @@ fn at_random_moments() {
         now = match random.below(20) {
             0..=1 => {
                 let now = plain.made(&table, &now, &step, Cut::Not);
-                longest = longest.max(start.elapsed());
+                usual = (3 * usual + start.elapsed()) / 4;
                 now
             }
             2..=10 => {
-                let time = longest.mul_f64(random.below(1_100) as f64 / 1_000.0);
+                let time = usual.mul_f64(random.below(1_200) as f64 / 1_000.0);
                 outside.made(&table, &now, &step, Cut::After(time))
             }
             other => {
@@ -168,6 +168,9 @@ fn at_random_moments() {
         };
         if i % 50 == 49 || i + 1 == crashes {
             explained(&folder, &table);
+        }
+        if i % 1_000 == 999 {
+            eprintln!("{} of {crashes} calls", i + 1);
         }
     }
     println!(
