@@ -6,7 +6,7 @@ use mathlib.Core.List.{List, [], _∷_, _++_}
 use lib.ListN.{length, take}
 use lib.Dec.{leb}
 use Rattle.order.specs.Ordinativo.{Ordinativo}
-use Rattle.orders.specs.Orders.{those, textIn as ordersTextIn, inside, lineOf, linesOf, eight, linesIn, orderOf, ordersOf}
+use Rattle.orders.specs.Orders.{those, textIn as ordersTextIn, inside, lineOf, linesOf, eight, linesIn, orderOf, ordersOf, namedOf, namedIn}
 use Rattle.editions.specs.declared.Edition.the-variants.{Oil}
 use Rattle.header.specs.Header.{Header}
 use Rattle.flow.specs.declared.Verdict.the-variants.{Stands}
@@ -30,6 +30,7 @@ use Rattle.tokens.specs.Tokens.{repeat, until, nameAt, tagEndAt, pieceAt, textA
 use Rattle.markup.specs.Markup.{elementBy, childBy, childrenBy, contentBy, elementAt, contentAt, rootAt, rootFrom, markupOf}
 use Rattle.children.specs.Child.{childAt, childrenBy as childrenChildrenBy, childrenFrom}
 use Rattle.rows.specs.Kept.{keep, keptFrom}
+use Rattle.rows.specs.Replaces.{replaces, rowsFor}
 use Rattle.rows.specs.Table.{nameIs}
 use Rattle.structure.specs.Structure.{allKept, rowsOf, inOrder, textOnly, fitBy, fitsAt}
 use Rattle.standing.specs.Readings.{fieldsBy, fieldsAt, firstBad}
@@ -48,7 +49,7 @@ pub record Flows : Type 0 where
   pub more : ReadAs two (headerFor "471") (order 1 ∷ order 2 ∷ [])
 
 pub flows : Flows
-unfolding isLetter isDigit isAlnum isNameByte isWhite all run runEnd startsWith hasAt textIs isChar sized isTail charSize pastOr charAt leap monthLength isDate isIdentifying codiceAbi identificativo codiceEnte tipoOperazione digitsAfter digits esercizio numero zeroInFront importo progressivo dataOf clock signs dataOraWritten dataOraWithin dataOra whichAt replacedAfter charactersAfter anagrafica fieldStands repeat until nameAt tagEndAt pieceAt textAt endTagAt optionalAt elementBy childBy childrenBy contentBy elementAt contentAt rootAt rootFrom markupOf childAt childrenChildrenBy childrenFrom keep keptFrom nameIs allKept rowsOf inOrder textOnly fitBy fitsAt fieldsBy fieldsAt firstBad those ordersTextIn inside lineOf linesOf eight linesIn orderOf ordersOf verdictBy
+unfolding isLetter isDigit isAlnum isNameByte isWhite all run runEnd startsWith hasAt textIs isChar sized isTail charSize pastOr charAt leap monthLength isDate isIdentifying codiceAbi identificativo codiceEnte tipoOperazione digitsAfter digits esercizio numero zeroInFront importo progressivo dataOf clock signs dataOraWritten dataOraWithin dataOra whichAt replacedAfter charactersAfter anagrafica fieldStands repeat until nameAt tagEndAt pieceAt textAt endTagAt optionalAt elementBy childBy childrenBy contentBy elementAt contentAt rootAt rootFrom markupOf childAt childrenChildrenBy childrenFrom keep keptFrom replaces rowsFor nameIs allKept rowsOf inOrder textOnly fitBy fitsAt fieldsBy fieldsAt firstBad those ordersTextIn inside namedOf namedIn lineOf linesOf eight linesIn orderOf ordersOf verdictBy
 flows = record {
   own = record { at = 19; short = refl; stands = refl; header = refl; orders = refl };
   other = record { at = 19; short = refl; stands = refl; header = refl; orders = refl };
