@@ -457,7 +457,8 @@ fn names_of(kind: Kind) -> (&'static str, &'static str) {
 
 /// An order for a body: new ones, ones that name a record the body has, and ones that replace executed lines.
 fn order(random: &mut Random, body: &Body, esercizio: u16, lean: bool, executed: &mut Vec<Named>) -> Node {
-    let operation = random.weighted(&[42, 20, 22, 16]);
+    // Where no line is executed, a replacement would nearly always be refused.
+    let operation = random.weighted(if executed.is_empty() { &[52, 22, 24, 2] } else { &[36, 18, 20, 26] });
     let wanted = [20, 85, 85, 6][operation];
     let known = if !body.orders.is_empty() && random.percent(wanted) { Some(random.pick(&body.orders)) } else { None };
     let kind = match known {
