@@ -24,11 +24,7 @@ fn say_reply(t: &mut [u8], r: &mut [u8]) {
 
 // Whether table and report are these.
 fn say_left(t: &[u8], r: &[u8], x: &[u8], y: &[u8]) {
-    say_whether(
-        scan::same(t, x),
-        b", table as expected",
-        b", table differs",
-    );
+    say_whether(scan::same(t, x), b", table as expected", b", table differs");
     say_whether(
         scan::same(r, y),
         b", report as expected",
@@ -43,11 +39,7 @@ fn say_salvaged(t: &mut [u8], r: &mut [u8], x: &[u8], y: &[u8]) {
     say_left(t, r, x, y);
     say(b", then ");
     say_reply(t, r);
-    say_whether(
-        scan::same(t, x),
-        b", table the same",
-        b", table changes",
-    );
+    say_whether(scan::same(t, x), b", table the same", b", table changes");
 }
 
 // In a report's buffer of k bytes, at most 64.
