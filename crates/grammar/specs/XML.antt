@@ -1,7 +1,8 @@
 -- Well-formed XML 1.0, from the recommendation (Extensible Markup Language 1.0, fifth edition), each production with its number there, over
 -- characters as there: numbers of Unicode. Alternatives that no document of ours takes are left out: a second attribute, references in an attribute's
 -- value, empty-element tags, comments, CDATA sections, instructions, character references, single quotes, standalone, doctype. So whatever is derived
--- here is derived there. The productions were written down without a copy of the recommendation at hand: they are to be compared with its text.
+-- here is derived there. They were compared with the second edition's text and, where the fifth changed them (4, 4a, 5, 26), with libxml2's: docs/PROMISES.md
+-- says exactly with what.
 use mathlib.Core.Path.{_≡_}
 use Prim.Native.Nat.{ℕ, _+_, _*_, _≤_, _<_}
 use Prim.Native.String.{String}
