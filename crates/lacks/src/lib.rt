@@ -53,6 +53,38 @@ fn say_reversale_lacks(flow: &[u8]) -> bool {
         && say_lack(flow, b"<anagrafica_versante>")
 }
 
+// The structure of each line of an order that replaces others.
+fn say_mandato_structure(flow: &[u8]) -> bool {
+    say_lack(flow, b"<sostituzione_mandato>")
+        && say_lack(flow, b"<numero_mandato_da_sostituire>")
+        && say_lack(flow, b"<progressivo_beneficiario_da_sostituire>")
+        && say_lack(flow, b"<esercizio_mandato_da_sostituire>")
+}
+
+fn say_reversale_structure(flow: &[u8]) -> bool {
+    say_lack(flow, b"<sostituzione_reversale>")
+        && say_lack(flow, b"<numero_reversale_da_sostituire>")
+        && say_lack(flow, b"<progressivo_versante_da_sostituire>")
+        && say_lack(flow, b"<esercizio_reversale_da_sostituire>")
+}
+
+// Where a flow has orders that replace others.
+fn say_structure_lacks(flow: &[u8]) -> bool {
+    if !occurs(flow, b">SOSTITUZIONE<") {
+        return true;
+    }
+    if occurs(flow, b"<mandato>") {
+        if occurs(flow, b"<reversale>") {
+            return true;
+        }
+        return say_mandato_structure(flow);
+    }
+    if occurs(flow, b"<reversale>") {
+        return say_reversale_structure(flow);
+    }
+    true
+}
+
 // The elements that a flow of mandati, of reversali or of both cannot do without.
 fn say_order_lacks(flow: &[u8]) -> bool {
     if occurs(flow, b"<mandato>") {
@@ -72,5 +104,5 @@ fn say_order_lacks(flow: &[u8]) -> bool {
 
 // The start tags that stand nowhere in a flow whose structure breaks.
 pub fn say_lacks(flow: &[u8]) -> bool {
-    say_header_lacks(flow) && say_order_lacks(flow)
+    say_header_lacks(flow) && say_order_lacks(flow) && say_structure_lacks(flow)
 }

@@ -63,18 +63,20 @@ fn wanted_in(name: &[u8], parent: Parent) -> Wanted {
 fn parent_at(i: usize) -> Parent {
     match i {
         0 => Parent::FlussoOrdinativi,
-        1 => Parent::Mandato,
-        2 => Parent::Reversale,
-        3 => Parent::InformazioniBeneficiario,
-        4 => Parent::InformazioniVersante,
+        1 => Parent::Mandato(true),
+        2 => Parent::Reversale(true),
+        3 => Parent::InformazioniBeneficiario(true),
+        4 => Parent::InformazioniVersante(true),
         5 => Parent::Beneficiario,
-        _ => Parent::Versante,
+        6 => Parent::Versante,
+        7 => Parent::SostituzioneMandato,
+        _ => Parent::SostituzioneReversale,
     }
 }
 
 // A name has one form, whichever parent names it.
 fn wanted_of(name: &[u8]) -> Wanted {
-    for i in 0..7 {
+    for i in 0..9 {
         match wanted_in(name, parent_at(i)) {
             Wanted::By(f) => {
                 return Wanted::By(f);
