@@ -10,7 +10,7 @@ use lib.ListN.{length}
 use lib.Dec.{eqb}
 use Rattle.record.specs.declared.Key.{Key}
 use Rattle.record.specs.declared.Record.{Record}
-use Rattle.record.specs.Slot.{mandatoKind, reversaleKind}
+use Rattle.record.specs.Slot.{mandatoKind, reversaleKind, replacedLine}
 use Rattle.body.specs.Body.{centsOf}
 use Rattle.table.specs.Table.{bodies, tableOk}
 use Rattle.editions.specs.declared.Edition.{Edition}
@@ -28,7 +28,7 @@ use Rattle.notices.specs.Notices.{TotalsPromise}
 use Rattle.opening.specs.Opening.{OpenReplies}
 use Rattle.desk.specs.declared.FlowAnswer.{FlowAnswer}
 use Rattle.desk.specs.Desk.{flowCode}
-use Rattle.rules.specs.Worth.{Which, Value, Years, worthOf, worth, areHeld, ofKind, ofKindIn, itsCents, withKey, onLine, broughtBy, givenBy, comeBy, goneBy}
+use Rattle.rules.specs.Worth.{Which, States, Value, Years, worthOf, worth, areHeld, ofKind, ofKindIn, itsCents, withKey, onLine, broughtBy, givenBy, comeBy, goneBy}
 use Rattle.isolation.specs.Order.{mine}
 use Rattle.isolation.specs.Machine.{whose, log}
 use Rattle.isolation.specs.Tally.{tally}
@@ -155,6 +155,13 @@ centsIn kind years rs = worth (ofKindIn kind years) itsCents rs
 abbrev pub heldTimes : Key → ℕ → List Record → ℕ
 heldTimes key line rs = worthOf areHeld (withKey key) (onLine line) rs
 
+-- 1 where the line is replaced: "it becomes replaced (line state 3)"; else 0
+abbrev pub areReplaced : States
+areReplaced s = eqb s replacedLine
+
+abbrev pub replacedTimes : Key → ℕ → List Record → ℕ
+replacedTimes key line rs = worthOf areReplaced (withKey key) (onLine line) rs
+
 -- A BODY'S LINES of the log of an engine's calls cs that start from t₀
 abbrev pub logOf : Engine → List ℕ → ℕ → List Call → List (Call × Answer)
 logOf E t₀ b cs = mine (whose (machine E t₀)) b (log (machine E t₀) cs t₀)
@@ -184,6 +191,10 @@ module _ (E : Engine) (t₀ : List ℕ) (b : ℕ) (cs : List Call) where
     -- at any moment it is held at most once, and at most one replacement brought it in
     pub line-most : (key : Key) (line : ℕ) → heldTimes key line (bodyRecords b now) ≤ 1
     pub brought-most : (key : Key) (line : ℕ) → broughtTimes key line L ≤ 1
+    -- it is replaced as often as it was at the start and as accepted replacements gave it up: a replaced line stays replaced ..
+    pub replaced-history : (key : Key) (line : ℕ) → replacedTimes key line (bodyRecords b now) ≡ replacedTimes key line start + given (withKey key) (onLine line) L
+    -- .. and none is replaced twice: "25 .. already replaced"
+    pub replaced-most : (key : Key) (line : ℕ) → replacedTimes key line start + given (withKey key) (onLine line) L ≤ 1
     -- what totals answer at that moment are the cents of those records
     pub totals-are : (code : List ℕ) → position t₀ (some code) ≡ some b → (a : TotalsAnswer) → TotalsPromise now code a
         → (a .paid ≡ centsOf mandatoKind (bodyRecords b now)) × (a .collected ≡ centsOf reversaleKind (bodyRecords b now))
