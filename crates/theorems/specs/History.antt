@@ -2,7 +2,7 @@
 -- tell of its records.
 use Prim.Native.Nat.{ℕ, _+_, _≤_, _<_}
 use mathlib.Core.Path.{_≡_}
-use mathlib.Core.Bool.{true, cond}
+use mathlib.Core.Bool.{true, not, cond}
 use mathlib.Core.Logic.{_⊎_}
 use mathlib.Core.Option.{some}
 use mathlib.Core.List.{List, [], _∷_}
@@ -150,6 +150,14 @@ broughtTimes key line ls = brought (withKey key) (onLine line) ls
 -- cents of a kind in some years
 abbrev pub centsIn : ℕ → Years → List Record → ℕ
 centsIn kind years rs = worth (ofKindIn kind years) itsCents rs
+
+-- which, in all years, are those that totals speak of. Proved: `all-years : AllYears`
+abbrev pub AllYears : Type 0
+AllYears = (kind : ℕ) (rs : List Record) → centsIn kind (λ y. true) rs ≡ centsOf kind rs
+
+-- and so are those in some years with those in the others. Proved: `other-years : OtherYears`
+abbrev pub OtherYears : Type 0
+OtherYears = (kind : ℕ) (years : Years) (rs : List Record) → centsIn kind years rs + centsIn kind (λ y. not (years y)) rs ≡ centsOf kind rs
 
 -- 1 where the line is held, executed or replaced since; else 0
 abbrev pub heldTimes : Key → ℕ → List Record → ℕ
