@@ -25,9 +25,12 @@ use Rattle.opening.specs.Opening.{openCode, openTable}
 use Rattle.convert.specs.declared.Converted.{Converted}
 use Rattle.convert.specs.declared.Converted.the-variants as Converted
 use Rattle.convert.specs.Convert.{convertCode, convertTable}
+use Rattle.salvage.specs.declared.Salvaged.{Salvaged}
+use Rattle.salvage.specs.declared.Salvaged.the-variants as Salvaged
+use Rattle.salvage.specs.Salvage.{salvageReply, salvageTable, salvageReport}
 use Rattle.desk.proofs.Refusals.{code-keeps}
 use Rattle.digits.specs.Digits.{isRefusal}
-use Rattle.theorems.specs.Codes.{oneOf, convertCodes, orderRefusals}
+use Rattle.theorems.specs.Codes.{oneOf, convertCodes, salvageCodes, orderRefusals}
 use Rattle.theorems.specs.Condition1.{Condition1}
 use Rattle.theorems.proofs.Steps.{answer, after, steps}
 use Rattle.theorems.proofs.Codes.{open-codes, call-codes, flow-causes}
@@ -70,6 +73,16 @@ convert-codes Converted.Converts = refl
 convert-codes Converted.InvalidTable = refl
 convert-codes Converted.WrongLength = refl
 
+salvage-keeps : (t r : List ℕ) (a : Salvaged) → (salvageReply a .code ≡ 0 → ⊥) → (salvageTable a t ≡ t) × (salvageReport a t r ≡ r)
+salvage-keeps t r (Salvaged.Repaired k) f = absurd (f refl)
+salvage-keeps t r Salvaged.InvalidContents f = (refl, refl)
+salvage-keeps t r Salvaged.ShortReport f = (refl, refl)
+
+salvage-codes : (a : Salvaged) → oneOf salvageCodes (salvageReply a .code) ≡ true
+salvage-codes (Salvaged.Repaired k) = refl
+salvage-codes Salvaged.InvalidContents = refl
+salvage-codes Salvaged.ShortReport = refl
+
 -- A MESSAGE'S CODES are those of a refused order: computed below 27, and from there on none is
 abbrev Same : ℕ → Type 0
 Same c = isRefusal c ≡ oneOf orderRefusals c
@@ -104,6 +117,7 @@ pub condition1 : Condition1
 condition1 = record {
   opening-numbered = λ q t a t′ p. open-codes a;
   conversion-numbered = λ o t a t′ p. convert-codes a;
+  salvage-numbered = λ t r a t′ r′ p. salvage-codes a;
   call-numbered = call-codes;
   orders-numbered = outcomes-coded;
   message-codes = message-code;
@@ -115,4 +129,5 @@ condition1 = record {
       p .1 ∙ dated-keeps t executing k line (addressed t code) (targetCode d) (λ e. f (ap noticeCodeOf (p .0) ∙ e));
   refused-opening = λ q t a t′ p f. p .1 ∙ opening-keeps q t a f;
   refused-conversion = λ o t a t′ p f. p .1 ∙ convert-keeps o t a f;
+  refused-salvage = λ t r a t′ r′ p f. let w = salvage-keeps t r a f in (p .1 ∙ w .0, p .2 ∙ w .1);
 }

@@ -42,7 +42,7 @@ use Rattle.opening.proofs.Valid.{opened-valid, opened-bodies, past}
 use Rattle.isolation.proofs.Runs.{good-run}
 use Rattle.isolation.proofs.History.{balance}
 use Rattle.theorems.specs.Engine.{Call, flow, execute, reverse, totals, journal, Answer, Engine, who, machine, tableAfter, namesOn, position, bodyRecords}
-use Rattle.theorems.specs.History.{Weight, ofExecution, ofReversal, executions, reversals, weight, cash, perTime, OrderWeight, ofOrders, ofFlowed, accepted, brought, given, come, gone, centsIn, heldTimes, broughtTimes, logOf, History, HistoryValid, HistoryOpened}
+use Rattle.theorems.specs.History.{Weight, ofExecution, ofReversal, executions, reversals, weight, cash, perTime, OrderWeight, ofOrders, ofFlowed, accepted, brought, given, come, gone, centsIn, heldTimes, areReplaced, replacedTimes, broughtTimes, logOf, History, HistoryValid, HistoryOpened}
 use Rattle.rules.specs.Worth.{Which, States, Value, worthOf, areExecuted, worth, areHeld, ofKind, ofKindIn, itsCents, withKey, onLine, broughtBy, givenBy, comeBy, goneBy}
 use Rattle.theorems.proofs.Steps.{answer, after, one-step}
 use Rattle.theorems.proofs.Good.{Good, fresh, base, size, inside, find-is, place-is, slots-is, ready, served, owned-alike}
@@ -50,6 +50,7 @@ use Rattle.theorems.proofs.Named.{Names, stray, body, names, Reads, ref
 use Rattle.theorems.proofs.Accepted.{orders-in-turn}
 use Rattle.theorems.proofs.Taken.{codes-over}
 use Rattle.theorems.proofs.Weighing.{tally-adds, accepted-adds, nothing, accepted-none, no-notice, reversals-none, Weighs, orders-balance, served-weighs}
+use Rattle.theorems.proofs.Split.{held-parts}
 use Rattle.theorems.proofs.Condition2.{condition2}
 use Rattle.theorems.proofs.Exactly.{found-valid}
 use Rattle.theorems.proofs.Condition3.{laws, found-at, OpenedBy, answered-0, open-valid}
@@ -219,8 +220,7 @@ history E t₀ r b l cs = record {
       sym (accepted-adds (broughtBy p itsCents) (goneBy kind years) L) ∙ x ∙ accepted-adds (givenBy p itsCents) (comeBy kind years) L in
       omega (arith, worths p itsCents);
   worth-history = worths;
-  line-history = λ key line.
-      omega (arith, balances t₀ r (perTime key line) (broughtBy (withKey key) (onLine line)) nothing (heldTimes key line) (held-weighs (withKey key) (onLine line)) E b l cs, accepted-none L);
+  line-history = helds;
   line-most = λ key line. one-most key areHeld line (bodyRecords b (tableAfter E t₀ cs)) apart;
   brought-most = λ key line.
       let k = newWith key in
@@ -235,6 +235,8 @@ history E t₀ r b l cs = record {
         accepted-none L,
         reversals-none L,
       );
+  replaced-history = replaced;
+  replaced-most = λ key line. omega (arith, replaced key line, one-most key areReplaced line (bodyRecords b (tableAfter E t₀ cs)) apart);
   totals-are = λ code e a p.
       let g = good E t₀ r cs in
       let x = condition2 .totals (tableAfter E t₀ cs) (g .ok) code b (find-is t₀ r (tableAfter E t₀ cs) g code ∙ found-at (bodyOf t₀ code) b e) a p in
@@ -255,6 +257,25 @@ history E t₀ r b l cs = record {
     worths : (p : Which) (v : Value)
         → worth p v (bodyRecords b (tableAfter E t₀ cs)) + reversals (weight p v) L + given p v L ≡ worth p v (bodyRecords b t₀) + executions (weight p v) L + brought p v L
     worths p v = omega (arith, balances t₀ r (weight p v) (broughtBy p v) (givenBy p v) (worth p v) (worth-weighs p v) E b l cs)
+
+    helds : (key : Key) (line : ℕ)
+        → heldTimes key line (bodyRecords b (tableAfter E t₀ cs)) + reversals (perTime key line) L ≡ heldTimes key line (bodyRecords b t₀) + executions (perTime key line) L + broughtTimes key line L
+    helds key line =
+        omega (arith, balances t₀ r (perTime key line) (broughtBy (withKey key) (onLine line)) nothing (heldTimes key line) (held-weighs (withKey key) (onLine line)) E b l cs, accepted-none L)
+
+    -- what is held and not executed
+    replaced : (key : Key) (line : ℕ)
+        → replacedTimes key line (bodyRecords b (tableAfter E t₀ cs)) ≡ replacedTimes key line (bodyRecords b t₀) + given (withKey key) (onLine line) L
+    replaced key line =
+        let p = withKey key in
+        let v = onLine line in
+        omega (
+          arith,
+          worths p v,
+          helds key line,
+          held-parts v p (bodyRecords b (tableAfter E t₀ cs)),
+          held-parts v p (bodyRecords b t₀),
+        )
 
 -- FROM OPENING ON
 empty : (q : List ℕ) → requestOk q ≡ true → (b : ℕ) → b < bodies (opened q) → bodyRecords b (opened q) ≡ []

@@ -9,6 +9,7 @@ pub mod Steps
 pub mod Calls
 pub mod Condition3
 pub mod Weighing
+pub mod Split
 pub mod History
 pub mod NoSecond
 pub mod Condition1

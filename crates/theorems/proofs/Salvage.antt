@@ -6,7 +6,6 @@ use mathlib.Core.List.{List, []}
 use native.Mathlib.Omega.{arith}
 use lib.ListN.{length}
 use lib.Dec.{leb}
-use Rattle.body.specs.Body.{centsOf}
 use Rattle.table.specs.Table.{table2, headSize, bodies, contentsOk, tableOk, entryOf}
 use Rattle.one_table.specs.One.{areBytes, Matching}
 use Rattle.one_table.proofs.One.{one-table}
@@ -18,6 +17,7 @@ use Rattle.salvage.proofs.Laws.{report-length}
 use Rattle.salvage.proofs.All.{repairs}
 use Rattle.salvage.proofs.Same.{bytes-repaired, unchanged, once}
 use Rattle.theorems.specs.Salvage.{SalvageCodes, Salvage, AfterSalvage}
+use Rattle.theorems.specs.History.{History}
 use Rattle.theorems.proofs.Condition3.{condition3}
 use Rattle.theorems.proofs.History.{history}
 
@@ -68,11 +68,9 @@ salvaged E t r k t₀ r₀ p = record {
   again = λ b. subst Unchanged (sym left) (once t b right);
   only = λ b u c U. one-table u t₀ c (ap areBytes left ∙ bytes-repaired (bodies t) t b headSize) (U .valid) (R .valid) (matching u U);
   isolated = condition3 E t₀ (R .valid);
-  history = λ b l cs kind.
+  history = λ b l cs.
       let m : b < bodies t₀ = omega (arith, R .number) in
-      let h = history E t₀ (R .valid) b m cs .cash-history kind in
-      let s = ap (centsOf kind) (R .records b l) in
-      omega arith;
+      subst (History E t₀ b cs) (R .records b l) (history E t₀ (R .valid) b m cs);
 }
   where
     A : (contentsOk table2 t ≡ true) × (p .0 ≡ Repaired (length (blanked t)))

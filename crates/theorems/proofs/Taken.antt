@@ -2,7 +2,8 @@
 use Prim.Native.Nat.{ℕ, _+_, _*_, _≤_, _<_}
 use mathlib.Core.Path.{_≡_, refl, sym, ap, _∙_}
 use mathlib.Core.Bool.{Bool, true, false, cond}
-use mathlib.Core.List.{List, [], _∷_, _++_}
+use mathlib.Core.Logic.{_⊎_, inl, inr}
+use mathlib.Core.List.{List, [], _∷_, _++_, List·Memᴰ, List·Memᴰ·not-nil, List·Memᴰ·cases-cons}
 use native.Mathlib.Omega.{arith}
 use lib.ListN.{length}
 use lib.Dec.{leb}
@@ -46,6 +47,14 @@ use Rattle.theorems.proofs.Named.{writables}
 front-writable : (xs zs : List Ordinativo) → Writables (xs ++ zs) → Writables xs
 front-writable [] zs w = none
 front-writable (x ∷ xs) zs (more w ws) = more w (front-writable xs zs ws)
+
+lines-few : (os : List Ordinativo) → Writables os → (o : Ordinativo) → List·Memᴰ o os → (1 ≤ length (o .lines)) × (length (o .lines) ≤ 8)
+lines-few [] none o m = absurd (List·Memᴰ·not-nil m)
+lines-few (x ∷ xs) (more w ws) o m = go (List·Memᴰ·cases-cons m) (lines-few xs ws o)
+  where
+    go : (o ≡ x) ⊎ List·Memᴰ o xs → (List·Memᴰ o xs → (1 ≤ length (o .lines)) × (length (o .lines) ≤ 8)) → (1 ≤ length (o .lines)) × (length (o .lines) ≤ 8)
+    go (inl q) next = rw q (w .count)
+    go (inr v) next = next v
 
 -- THE ORDERS on a valid body: over its table is over its records
 module _ (base n year : ℕ) (y : (2000 ≤ year) × (year ≤ 2099)) where
@@ -101,6 +110,7 @@ module _ (t : List ℕ) (ed : ℕ) (f out : List ℕ) (a : FlowAnswer) (t′ out
           bank = k;
           body = b;
           named = e;
+          lines = lines-few os ws;
           orders = x .0;
           codes = x .1 ∙ codes-over base n year g t os (v .inside) (v .holds .body) ws;
           records = ap (λ (u : List ℕ). recordsAt u base n) ((rw d at p) .1) ∙ all-records t base n year os (v .inside) (v .holds .body) ws g;

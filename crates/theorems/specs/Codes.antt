@@ -23,6 +23,10 @@ openCodes = 0 ∷ 9 ∷ 10 ∷ []
 abbrev pub convertCodes : List ℕ
 convertCodes = 0 ∷ 1 ∷ 10 ∷ []
 
+-- SALVAGE: "34 head or entries not valid, 35 report doesn't fit" (document 02, Req 13)
+abbrev pub salvageCodes : List ℕ
+salvageCodes = 0 ∷ 34 ∷ 35 ∷ []
+
 -- A CALL THAT NAMES NO BODY of a valid table. A flow: "2 the flow is longer than 32,768 bytes; 3 the markup breaks; 4 the structure breaks; 5 a field
 -- breaks; 6 codice_ABI_BT isn't the table's; 7 no body has this code", or "23, no such edition" (document 02, Req 05). A notice: 7, or "27 no date or outside the years, 28 closing day" (Req 08). Totals and a journal: 7
 abbrev pub strayCodes : Call → List ℕ

@@ -13,17 +13,20 @@ use Rattle.opening.specs.declared.Opened.{Opened}
 use Rattle.opening.specs.Opening.{openCode, OpenPromise}
 use Rattle.convert.specs.declared.Converted.{Converted}
 use Rattle.convert.specs.Convert.{convertCode, ConvertPromise}
+use Rattle.salvage.specs.declared.Salvaged.{Salvaged}
+use Rattle.salvage.specs.Salvage.{salvageReply, SalvagePromise}
 use Rattle.notices.specs.declared.NoticeAnswer.{NoticeAnswer}
 use Rattle.notices.specs.Notices.{noticeCodeOf, NoticePromise}
 use Rattle.desk.specs.declared.FlowAnswer.{FlowAnswer}
 use Rattle.desk.specs.Desk.{FlowPromise, flowCode, flowReply}
 use Rattle.theorems.specs.Engine.{Call, Answer, Step, answerCode}
-use Rattle.theorems.specs.Codes.{oneOf, each, openCodes, convertCodes, callCodes, causesWith, orderRefusals, orderCodes, outcomeCodes}
+use Rattle.theorems.specs.Codes.{oneOf, each, openCodes, convertCodes, salvageCodes, callCodes, causesWith, orderRefusals, orderCodes, outcomeCodes}
 
 pub record Condition1 : Type 0 where
   -- "Every call, on arbitrary flow, table or notice, ends with one of the numbered answers in document 01."
   pub opening-numbered : (q t : List ℕ) (a : Opened) (t′ : List ℕ) → OpenPromise q t a t′ → oneOf openCodes (openCode a) ≡ true
   pub conversion-numbered : (o t : List ℕ) (a : Converted) (t′ : List ℕ) → ConvertPromise o t a t′ → oneOf convertCodes (convertCode a) ≡ true
+  pub salvage-numbered : (t r : List ℕ) (a : Salvaged) (t′ r′ : List ℕ) → SalvagePromise t r a t′ r′ → oneOf salvageCodes (salvageReply a .code) ≡ true
   pub call-numbered : (c : Call) (t : List ℕ) (a : Answer) (t′ : List ℕ) → Step c t a t′ → oneOf (callCodes c) (answerCode a) ≡ true
   -- and so does every order of a flow taken
   pub orders-numbered : (t : List ℕ) (ed : ℕ) (f out : List ℕ) (a : FlowAnswer) (t′ out′ : List ℕ) → FlowPromise t ed f out a t′ out′ → flowCode a ≡ 0
@@ -44,3 +47,5 @@ pub record Condition1 : Type 0 where
   pub refused-opening : (q t : List ℕ) (a : Opened) (t′ : List ℕ) → OpenPromise q t a t′ → (openCode a ≡ 0 → ⊥) → t′ ≡ t
   -- and of conversion: it "leaves both buffers untouched"; the old one is lent to read only
   pub refused-conversion : (o t : List ℕ) (a : Converted) (t′ : List ℕ) → ConvertPromise o t a t′ → (convertCode a ≡ 0 → ⊥) → t′ ≡ t
+  -- and of salvage: its refusals "both leave table and report unchanged"
+  pub refused-salvage : (t r : List ℕ) (a : Salvaged) (t′ r′ : List ℕ) → SalvagePromise t r a t′ r′ → (salvageReply a .code ≡ 0 → ⊥) → (t′ ≡ t) × (r′ ≡ r)

@@ -3,7 +3,7 @@ use Prim.Native.Nat.{ℕ, _+_, _*_, _<_, _≤_}
 use lib.IntN.{pos, _-ℤ_}
 use mathlib.Core.Path.{_≡_}
 use mathlib.Core.Bool.{Bool, true, false, cond}
-use mathlib.Core.List.{List, [], _∷_, _++_}
+use mathlib.Core.List.{List, [], _∷_, _++_, List·Memᴰ}
 use lib.ListN.{length}
 use lib.Dec.{eqb}
 use Rattle.ranges.specs.declared.Found.the-variants.{At, Nothing}
@@ -102,6 +102,8 @@ pub record Taken (t : List ℕ) (ed : ℕ) (f : List ℕ) (a : FlowAnswer) (t′
   pub bank : textIs (abiOf t) (headerOf edition f at .abi) ≡ true
   pub body : ℕ
   pub named : bodyOf t (headerOf edition f at .ente) ≡ At body
+  -- each of its orders has "1 to 8 informazioni_beneficiario", or informazioni_versante
+  pub lines : (o : Ordinativo) → List·Memᴰ o (flowOrders edition f at) → (1 ≤ length (o .lines)) × (length (o .lines) ≤ 8)
   -- its orders, for the flow's esercizio, get the rules' codes over the body's records, and leave the records that the rules give (rules/specs/Effects)
   pub orders : flowReply a .orders ≡ length (flowOrders edition f at)
   pub codes : outcomeCodes (length (flowOrders edition f at)) out′

@@ -2,7 +2,7 @@
 -- tell of its records.
 use Prim.Native.Nat.{ℕ, _+_, _≤_, _<_}
 use mathlib.Core.Path.{_≡_}
-use mathlib.Core.Bool.{true, cond}
+use mathlib.Core.Bool.{true, not, cond}
 use mathlib.Core.Logic.{_⊎_}
 use mathlib.Core.Option.{some}
 use mathlib.Core.List.{List, [], _∷_}
@@ -10,7 +10,7 @@ use lib.ListN.{length}
 use lib.Dec.{eqb}
 use Rattle.record.specs.declared.Key.{Key}
 use Rattle.record.specs.declared.Record.{Record}
-use Rattle.record.specs.Slot.{mandatoKind, reversaleKind}
+use Rattle.record.specs.Slot.{mandatoKind, reversaleKind, replacedLine}
 use Rattle.body.specs.Body.{centsOf}
 use Rattle.table.specs.Table.{bodies, tableOk}
 use Rattle.editions.specs.declared.Edition.{Edition}
@@ -28,7 +28,7 @@ use Rattle.notices.specs.Notices.{TotalsPromise}
 use Rattle.opening.specs.Opening.{OpenReplies}
 use Rattle.desk.specs.declared.FlowAnswer.{FlowAnswer}
 use Rattle.desk.specs.Desk.{flowCode}
-use Rattle.rules.specs.Worth.{Which, Value, Years, worthOf, worth, areHeld, ofKind, ofKindIn, itsCents, withKey, onLine, broughtBy, givenBy, comeBy, goneBy}
+use Rattle.rules.specs.Worth.{Which, States, Value, Years, worthOf, worth, areHeld, ofKind, ofKindIn, itsCents, withKey, onLine, broughtBy, givenBy, comeBy, goneBy}
 use Rattle.isolation.specs.Order.{mine}
 use Rattle.isolation.specs.Machine.{whose, log}
 use Rattle.isolation.specs.Tally.{tally}
@@ -151,9 +151,24 @@ broughtTimes key line ls = brought (withKey key) (onLine line) ls
 abbrev pub centsIn : ℕ → Years → List Record → ℕ
 centsIn kind years rs = worth (ofKindIn kind years) itsCents rs
 
+-- which, in all years, are those that totals speak of. Proved: `all-years : AllYears`
+abbrev pub AllYears : Type 0
+AllYears = (kind : ℕ) (rs : List Record) → centsIn kind (λ y. true) rs ≡ centsOf kind rs
+
+-- and so are those in some years with those in the others. Proved: `other-years : OtherYears`
+abbrev pub OtherYears : Type 0
+OtherYears = (kind : ℕ) (years : Years) (rs : List Record) → centsIn kind years rs + centsIn kind (λ y. not (years y)) rs ≡ centsOf kind rs
+
 -- 1 where the line is held, executed or replaced since; else 0
 abbrev pub heldTimes : Key → ℕ → List Record → ℕ
 heldTimes key line rs = worthOf areHeld (withKey key) (onLine line) rs
+
+-- 1 where the line is replaced: "it becomes replaced (line state 3)"; else 0
+abbrev pub areReplaced : States
+areReplaced s = eqb s replacedLine
+
+abbrev pub replacedTimes : Key → ℕ → List Record → ℕ
+replacedTimes key line rs = worthOf areReplaced (withKey key) (onLine line) rs
 
 -- A BODY'S LINES of the log of an engine's calls cs that start from t₀
 abbrev pub logOf : Engine → List ℕ → ℕ → List Call → List (Call × Answer)
@@ -184,6 +199,10 @@ module _ (E : Engine) (t₀ : List ℕ) (b : ℕ) (cs : List Call) where
     -- at any moment it is held at most once, and at most one replacement brought it in
     pub line-most : (key : Key) (line : ℕ) → heldTimes key line (bodyRecords b now) ≤ 1
     pub brought-most : (key : Key) (line : ℕ) → broughtTimes key line L ≤ 1
+    -- it is replaced as often as it was at the start and as accepted replacements gave it up: a replaced line stays replaced ..
+    pub replaced-history : (key : Key) (line : ℕ) → replacedTimes key line (bodyRecords b now) ≡ replacedTimes key line start + given (withKey key) (onLine line) L
+    -- .. and none is replaced twice: "25 .. already replaced"
+    pub replaced-most : (key : Key) (line : ℕ) → replacedTimes key line start + given (withKey key) (onLine line) L ≤ 1
     -- what totals answer at that moment are the cents of those records
     pub totals-are : (code : List ℕ) → position t₀ (some code) ≡ some b → (a : TotalsAnswer) → TotalsPromise now code a
         → (a .paid ≡ centsOf mandatoKind (bodyRecords b now)) × (a .collected ≡ centsOf reversaleKind (bodyRecords b now))

@@ -7,14 +7,13 @@ use mathlib.Core.List.{List}
 use lib.ListN.{length}
 use lib.Dec.{leb}
 use Rattle.words.specs.Numbers.{put}
-use Rattle.body.specs.Body.{centsOf}
 use Rattle.table.specs.Table.{table2, bodies, contentsOk, tableOk, entryOf}
 use Rattle.one_table.specs.One.{areBytes}
 use Rattle.salvage.specs.Salvage.{keptOf, blanked, reportOf, SalvageReplies}
 use Rattle.salvage.specs.Repaired.{Repairs, Unchanged}
-use Rattle.theorems.specs.Engine.{Call, Engine, bodyRecords, tableAfter}
+use Rattle.theorems.specs.Engine.{Call, Engine}
 use Rattle.theorems.specs.Condition3.{Condition3}
-use Rattle.theorems.specs.History.{executions, reversals, cash, logOf}
+use Rattle.theorems.specs.History.{History}
 
 -- "Refusals: 34 head or entries not valid, 35 report doesn't fit; both leave table and report unchanged": a report of two bytes for each body and four for
 -- each blanked slot has to fit. "The answer has code and number blanked, 0 on refusal"
@@ -38,10 +37,8 @@ pub record Salvage (E : Engine) (t r t₀ r₀ : List ℕ) (k : ℕ) : Type 0 wh
   -- "Conditions 2 and 3 start afresh from the repaired table": condition 2 speaks of every valid table, and so of this one; condition 3 for any sequence
   -- of calls from it on
   pub isolated : Condition3 E t₀
-  -- and cash by history, from the cents of the kept records on
-  pub history : (b : ℕ) → b < bodies t → (cs : List Call) (kind : ℕ)
-      → centsOf kind (bodyRecords b (tableAfter E t₀ cs)) + reversals (cash kind) (logOf E t₀ b cs)
-      ≡ centsOf kind (keptOf t (entryOf b)) + executions (cash kind) (logOf E t₀ b cs)
+  -- and cash by history, from the kept records on
+  pub history : (b : ℕ) → b < bodies t → (cs : List Call) → History E t₀ b cs (keptOf t (entryOf b))
 
 abbrev pub AfterSalvage : Type 0
 AfterSalvage = (E : Engine) (t r : List ℕ) (k : ℕ) (t₀ r₀ : List ℕ) → SalvageReplies t r 0 k t₀ r₀ → Salvage E t r t₀ r₀ k
