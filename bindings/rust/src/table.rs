@@ -118,7 +118,7 @@ pub fn request(abi: &str, bodies: &[(&str, u16)]) -> Result<Vec<u8>, Refusal> {
     Ok(request)
 }
 
-/// An order table: its bytes, owned (`Table`, a `Vec<u8>`) or borrowed (`Table<&mut [u8]>`, or `Table<&[u8]>` for totals only).
+/// An order table: its bytes, owned (`Table`, a `Vec<u8>`) or borrowed (`Table<&mut [u8]>`, or `Table<&[u8]>` for totals and journals only).
 ///
 /// Every call looks at all the bytes first and refuses with [`Refusal::TableNotValid`] what is no valid table, so that any bytes may be
 /// taken for one. A refused call changes no byte.
