@@ -125,6 +125,33 @@ for out in m ./m.log m.lock m.new to-log; do
   holds same m before
 done
 is 0 "$tool" check m
+# A place that is there and is no file: nothing is taken, and what is there stays.
+mkdir folder
+for out in folder /dev/null; do
+  is 3 "$tool" flow m "$run" --message "$out" --values values --value identificativo_flusso_BT=BT-238444
+  holds err_has "a message can't be put here"
+  holds same m before
+  holds absent "$out.new"
+done
+holds test -d folder -a -c /dev/null
+{
+  cat values
+  head -c 65536 /dev/zero | tr '\0' '#'
+} > long-values
+is 3 "$tool" flow m "$run" --message n.xml --values long-values --value identificativo_flusso_BT=BT-238444
+holds err_has "this is longer than 65536 bytes"
+holds same m before
+
+# Names and lines that would command a terminal are escaped.
+printf 'code\033[2J=x\n' > bad-values
+is 3 "$tool" flow m "$run" --message n.xml --values bad-values
+holds err_has "'code\\u{1b}[2J=x' is no NAME=TEXT"
+printf '\033]0;x\007\n' > $'j\033[2J'
+is 3 "$tool" journal t 000471 $'j\033[2J'
+holds err_has "j\\u{1b}[2J: line 1 is no KIND"
+cp "$root/examples/field.xml" $'f\033[2J'
+is 1 "$tool" flow m $'f\033[2J'
+holds out_has "f\\u{1b}[2J: refused, 5"
 
 # Journals.
 printf '# 3 March\nmandato 2021 12 1 100.00\n\n' > j
@@ -181,6 +208,34 @@ holds absent n
 holds absent n.log
 holds absent n.lock
 
+# No table has the name of a file beside a table.
+for name in n.log n.lock n.new; do
+  is 3 "$tool" open "$name" --abi 01234 471:4
+  holds err_has "no table is named"
+  is 3 "$tool" convert "$root/examples/table-1.bin" "$name"
+  is 3 "$tool" salvage damaged "$name"
+  is 3 "$tool" replay t.log "$name"
+  holds absent "$name"
+  cp fresh "$name"
+  is 3 "$tool" flow "$name" "$run"
+  holds err_has "no table is named"
+  holds same "$name" fresh
+  holds absent "$name.log"
+  is 0 "$tool" totals "$name"
+  rm "$name"
+done
+
+# A new table and what stands beside it are their user's alone; a log and a lock made later are like the table.
+for name in t t.log t.lock; do
+  holds test "$(stat -c %a "$name")" = 600
+done
+cp fresh taken-over/g
+chmod 640 taken-over/g
+(umask 077 && exec "$tool" flow taken-over/g "$run" --message taken-over/g.xml --values values --value identificativo_flusso_BT=BT-1) > out 2> err
+for name in g g.log g.lock g.xml; do
+  holds test "$(stat -c %a "taken-over/$name")" = 640
+done
+
 # Too long, cut short, nothing in it, a folder, nothing at all.
 is 0 "$tool" open big --abi 01234 1:512 2:172
 holds test "$(stat -c %s big)" = 65776
@@ -228,10 +283,56 @@ sed 's/esercizio>2021</esercizio>2022</' t.log > damaged.log
 is 3 "$tool" replay damaged.log n
 holds err_has "on this is no log"
 holds absent n
+# One that is damaged before whole entries: the change that only adds an entry looks at the last one, but what can't be one torn entry isn't cut
+# off.
 cp t.log log
 cp damaged.log t.log
 is 3 "$tool" check t
+printf 'entry 00000153 1fef413790a30662\nnumber' >> t.log
+cp t.log kept
+is 3 "$tool" check t
+is 3 "$tool" flow t "$run"
+holds err_has "log is damaged"
+holds same t.log kept
+holds same t before
+is 3 "$tool" replay t.log n
+holds absent n
 cp log t.log
+
+# Another program's file that has the log's name stays.
+cp fresh foreign
+for text in '09:30 the desk opens' 'entry of 3 March: the desk opens at 09:30' 'entry 1'; do
+  echo "$text" > foreign.log
+  cp foreign.log kept
+  is 3 "$tool" flow foreign "$run"
+  holds err_has "log is damaged"
+  is 3 "$tool" check foreign
+  is 3 "$tool" replay foreign.log n
+  holds same foreign.log kept
+  holds same foreign fresh
+  rm foreign
+  is 3 "$tool" open foreign --abi 01234 471:4
+  holds same foreign.log kept
+  holds absent foreign
+  cp fresh foreign
+done
+head -c 300 /dev/zero > foreign.log
+is 0 "$tool" flow foreign "$run"
+is 0 "$tool" check foreign
+holds out_has ": flow 1, code 0, 1 of 2 orders accepted, $(stat -c %s "$run") bytes"
+is 1 "$tool" flow foreign "$root/examples/field.xml"
+is 0 "$tool" check foreign --json
+holds json
+holds out_has '"last":"flow 1","last_code":5,"last_orders":0,"last_accepted":0,"last_bytes":'
+
+# Of several flows those before a fault stand, and the fault says so: here the log has no room for the second.
+is 0 "$tool" open several --abi 01234 000471:4 471:4
+# shellcheck disable=SC2016
+is 3 bash -c 'trap "" XFSZ; ulimit -f 3; exec "$0" "$@"' "$tool" flow several "$run" "$run"
+holds err_has "1 of 2 flows were answered before: $(readlink -f several.log): File too large"
+holds out_has "taken, 1 of 2 orders accepted"
+is 0 "$tool" check several
+holds out_has ", 2 calls logged"
 
 # Symbolic links: the table is replaced, not the link, and the log stands beside the table.
 mkdir links
@@ -301,6 +402,12 @@ if "${as_user[@]}" "$tool" totals fresh > /dev/null 2>&1; then
   is 3 "${as_user[@]}" "$tool" open closed/n --abi 01234 471:4
   chmod 000 closed/t
   is 3 "${as_user[@]}" "$tool" totals closed/t
+  chmod 644 closed/t
+  : > closed/t.lock
+  chmod 600 closed/t.lock
+  [ ${#as_user[@]} -gt 0 ] || chmod 000 closed/t.lock
+  is 3 "${as_user[@]}" "$tool" check closed/t
+  holds err_has "t.lock: Permission denied"
 else
   echo "tests/tool/files.sh: nobody else can run the program here, so permissions were not tried"
 fi

@@ -2,10 +2,11 @@
 
 use std::collections::VecDeque;
 use std::ffi::OsString;
-use std::path::PathBuf;
+use std::path::{Path, PathBuf};
 use std::str::FromStr;
 
 use crate::fault::Fault;
+use crate::words;
 
 /// What a command is called with, after its name.
 pub struct Args {
@@ -102,7 +103,7 @@ impl Args {
     pub fn end(&self) -> Result<(), Fault> {
         match self.words.front() {
             None => Ok(()),
-            Some(word) => Err(self.wrong(&format!("'{}' is one word too many", word.display()))),
+            Some(word) => Err(self.wrong(&format!("'{}' is one word too many", words::path(Path::new(word))))),
         }
     }
 }

@@ -1,6 +1,6 @@
 //! A table file under its lock: calls are logged, then the table is replaced, then the answer is given.
 
-use std::fs::{self, File, Metadata, OpenOptions, TryLockError};
+use std::fs::{self, File, Metadata, TryLockError};
 use std::path::Path;
 
 use crate::call::{Answer, Call};
@@ -10,6 +10,7 @@ use crate::fault::Fault;
 use crate::log::{FOUND, Log};
 use crate::place::{Place, with};
 use crate::say::Say;
+use crate::words;
 
 /// A table that this process alone may change.
 pub struct Desk {
@@ -24,7 +25,7 @@ pub struct Desk {
 impl Desk {
     /// Takes the lock of a table that is there, and reads it.
     pub fn of_table(path: &Path, say: Say) -> Result<Desk, Fault> {
-        let place = Place::of_table(path)?;
+        let place = Place::of_table(path)?.named()?;
         let lock = locked(&place, say)?;
         let table = disk::read(&place.table, MOST_TABLE_BYTES)?;
         Ok(Desk { place, _lock: lock, table, log: None })
@@ -50,16 +51,16 @@ impl Desk {
 
     /// Makes a call. When it is back, entry and table are on disk. Where it fails, the table is as before, unless the fault says otherwise.
     pub fn take(&mut self, call: &Call) -> Result<Answer, Fault> {
-        self.take_with(call, |_| Ok(())).map(|(answer, ())| answer)
+        self.take_with(call, |_| Ok(()))
     }
 
     /// Makes a call, and something that its answer is needed for and that may fail, before anything is changed.
-    pub fn take_with<T>(&mut self, call: &Call, first: impl FnOnce(&Answer) -> Result<T, Fault>) -> Result<(Answer, T), Fault> {
+    pub fn take_with(&mut self, call: &Call, first: impl FnOnce(&Answer) -> Result<(), Fault>) -> Result<Answer, Fault> {
         let taken = call.apply(&self.table).ok_or_else(|| Fault::Use(format!("'{}' is no call", call.line())))?;
-        let made = first(&taken.answer)?;
+        first(&taken.answer)?;
         // What is no table has no history.
         if taken.answer.code == 1 || taken.table.is_empty() {
-            return Ok((taken.answer, made));
+            return Ok(taken.answer);
         }
         let before = digest(&self.table);
         let mut log = match self.log.take() {
@@ -73,11 +74,16 @@ impl Desk {
                 return Err(fault);
             }
             self.table = taken.table;
-            let unsure = |fault| Fault::File(format!("the table has this call, but may lose it with the power: {fault}"));
+            let unsure = |fault| Fault::Late(format!("the table has this call, but may lose it with the power: {fault}"));
             sync_folder(&self.place.folder).map_err(unsure)?;
         }
         self.log = Some(log);
-        Ok((taken.answer, made))
+        Ok(taken.answer)
+    }
+
+    /// The table's owner and permissions; `None` where there is no table yet.
+    pub fn like(&self) -> Option<Metadata> {
+        like(&self.place)
     }
 
     /// Whether a path names the table or a file beside it that is this program's.
@@ -91,12 +97,15 @@ impl Desk {
     /// Puts a table there that comes from a log: its calls are logged already.
     pub fn put(&mut self, table: &[u8]) -> Result<(), Fault> {
         self.replaced(table)?;
-        sync_folder(&self.place.folder)
+        let unsure = |fault: Fault| fault.after("the table is made, but may be lost with the power: ");
+        sync_folder(&self.place.folder).map_err(unsure)
     }
 
     /// The log, with the table as its first entry where the table was there before it.
     fn begun(&self, table: u64) -> Result<Log, Fault> {
-        let mut log = Log::open(&self.place, table)?;
+        let mut log = Log::open(&self.place.log, self.like().as_ref(), table)?;
+        // The log's name, and names that a process left which was killed before it synced them.
+        sync_folder(&self.place.folder)?;
         if log.is_empty() && !self.table.is_empty() {
             let found = Call { words: vec![FOUND.into()], bytes: self.table.clone() };
             log.add(&found, &Answer::default(), digest(&[]), table)?;
@@ -105,19 +114,21 @@ impl Desk {
     }
 
     fn replaced(&self, table: &[u8]) -> Result<(), Fault> {
-        let like: Option<Metadata> = fs::metadata(&self.place.table).ok();
-        Draft::write(&self.place.table, table, like.as_ref())?.rename()
+        Draft::write(&self.place.table, table, self.like().as_ref())?.rename()
     }
+}
+
+fn like(place: &Place) -> Option<Metadata> {
+    fs::metadata(&place.table).ok()
 }
 
 /// Takes the lock, and says so where it has to wait.
 fn locked(place: &Place, say: Say) -> Result<File, Fault> {
-    let lock = OpenOptions::new().append(true).create(true).open(&place.lock);
-    let lock = lock.map_err(|error| Fault::file(&place.lock, error))?;
+    let lock = disk::open_or_make(&place.lock, like(place).as_ref()).map_err(|error| Fault::file(&place.lock, error))?;
     match lock.try_lock() {
         Ok(()) => Ok(lock),
         Err(TryLockError::WouldBlock) => {
-            say.progress(&format!("{}: waiting for another process", place.table.display()));
+            say.progress(&format!("{}: waiting for another process", words::path(&place.table)));
             lock.lock().map_err(|error| Fault::file(&place.lock, error))?;
             Ok(lock)
         }

@@ -1,8 +1,8 @@
 //! Files read up to a limit, and written whole or not at all.
 
 use std::fs::{self, File, Metadata, OpenOptions};
-use std::io::{Read, Write};
-use std::os::unix::fs::{MetadataExt, fchown};
+use std::io::{self, ErrorKind, Read, Write};
+use std::os::unix::fs::{MetadataExt, OpenOptionsExt, PermissionsExt, fchown};
 use std::path::{Path, PathBuf};
 
 use crate::fault::Fault;
@@ -19,33 +19,85 @@ pub fn read(path: &Path, limit: u64) -> Result<Vec<u8>, Fault> {
     Ok(bytes)
 }
 
-/// A new file beside the one that it is to replace, synced. It is removed again unless it is renamed.
+/// A file's bytes, or the fault that there are more than the limit.
+pub fn read_whole(path: &Path, limit: u64) -> Result<Vec<u8>, Fault> {
+    let bytes = read(path, limit)?;
+    if bytes.len() as u64 > limit {
+        return Err(Fault::file(path, format!("this is longer than {limit} bytes")));
+    }
+    Ok(bytes)
+}
+
+/// What a new file's permissions are where there is no table to take them from.
+const OWN: u32 = 0o600;
+
+/// Opens a log or a lock to read it and to add to it. Where there is none it is made with the table's permissions, its user's own in any case,
+/// and with the table's owner where that can be set; without a table it is its user's alone.
+pub fn open_or_make(path: &Path, like: Option<&Metadata>) -> io::Result<File> {
+    let mode = like.map_or(0, |like| like.mode() & 0o777) | OWN;
+    let mut options = OpenOptions::new();
+    options.read(true).append(true);
+    match options.clone().create_new(true).mode(mode).open(path) {
+        Ok(file) => {
+            if let Some(like) = like {
+                owned_as_can_be(&file, like)?;
+                file.set_permissions(fs::Permissions::from_mode(mode))?;
+            }
+            Ok(file)
+        }
+        Err(error) if error.kind() == ErrorKind::AlreadyExists => options.open(path),
+        Err(error) => Err(error),
+    }
+}
+
+fn owned_like(file: &File, like: &Metadata) -> io::Result<()> {
+    let own = file.metadata()?;
+    if (own.uid(), own.gid()) == (like.uid(), like.gid()) {
+        return Ok(());
+    }
+    fchown(file, Some(like.uid()), Some(like.gid()))
+}
+
+fn owned_as_can_be(file: &File, like: &Metadata) -> io::Result<()> {
+    match owned_like(file, like) {
+        Err(error) if error.kind() == ErrorKind::PermissionDenied => Ok(()),
+        other => other,
+    }
+}
+
+/// A new file beside the one that it is to replace, synced. It is removed again unless it is renamed or kept.
 pub struct Draft {
     draft: PathBuf,
     target: PathBuf,
-    renamed: bool,
+    kept: bool,
 }
 
 impl Draft {
-    /// Writes and syncs it, with owner and permissions of the file that it will replace.
+    /// Writes and syncs it, with owner and permissions of the file that it will replace; without one it is its user's alone.
     pub fn write(target: &Path, bytes: &[u8], like: Option<&Metadata>) -> Result<Draft, Fault> {
-        let draft = Draft { draft: with(target, ".new"), target: target.into(), renamed: false };
-        draft.fill(bytes, like).map_err(|error| Fault::file(&draft.draft, error))?;
+        Draft::filled(target, |draft| draft.fill(bytes, like, owned_like))
+    }
+
+    /// The same, with the owner only where that can be set.
+    pub fn write_as_can_be(target: &Path, bytes: &[u8], like: Option<&Metadata>) -> Result<Draft, Fault> {
+        Draft::filled(target, |draft| draft.fill(bytes, like, owned_as_can_be))
+    }
+
+    fn filled(target: &Path, fill: impl FnOnce(&Draft) -> io::Result<()>) -> Result<Draft, Fault> {
+        let draft = Draft { draft: with(target, ".new"), target: target.into(), kept: false };
+        fill(&draft).map_err(|error| Fault::file(&draft.draft, error))?;
         Ok(draft)
     }
 
-    fn fill(&self, bytes: &[u8], like: Option<&Metadata>) -> std::io::Result<()> {
+    fn fill(&self, bytes: &[u8], like: Option<&Metadata>, owned: fn(&File, &Metadata) -> io::Result<()>) -> io::Result<()> {
         // What a crash left there is nobody's any more: whoever writes here holds the lock.
         match fs::remove_file(&self.draft) {
-            Err(error) if error.kind() != std::io::ErrorKind::NotFound => return Err(error),
+            Err(error) if error.kind() != ErrorKind::NotFound => return Err(error),
             _ => {}
         }
-        let mut file = OpenOptions::new().write(true).create_new(true).open(&self.draft)?;
+        let mut file = OpenOptions::new().write(true).create_new(true).mode(OWN).open(&self.draft)?;
         if let Some(like) = like {
-            let own = file.metadata()?;
-            if (own.uid(), own.gid()) != (like.uid(), like.gid()) {
-                fchown(&file, Some(like.uid()), Some(like.gid()))?;
-            }
+            owned(&file, like)?;
             file.set_permissions(like.permissions())?;
         }
         file.write_all(bytes)?;
@@ -55,14 +107,19 @@ impl Draft {
     /// Renames it over the file that it replaces. It lasts once the folder is synced.
     pub fn rename(mut self) -> Result<(), Fault> {
         fs::rename(&self.draft, &self.target).map_err(|error| Fault::file(&self.target, error))?;
-        self.renamed = true;
+        self.kept = true;
         Ok(())
+    }
+
+    /// Leaves it where it is, whatever becomes of it.
+    pub fn keep(&mut self) {
+        self.kept = true;
     }
 }
 
 impl Drop for Draft {
     fn drop(&mut self) {
-        if !self.renamed {
+        if !self.kept {
             let _ = fs::remove_file(&self.draft);
         }
     }

@@ -88,7 +88,7 @@ fn quoted(text: &str, to: &mut fmt::Formatter) -> fmt::Result {
     for c in text.chars() {
         match c {
             '"' | '\\' => write!(to, "\\{c}")?,
-            '\0'..='\u{1F}' | '\u{7F}' | '\u{2028}' | '\u{2029}' => write!(to, "\\u{:04x}", u32::from(c))?,
+            _ if c.is_control() || matches!(c, '\u{2028}' | '\u{2029}') => write!(to, "\\u{:04x}", u32::from(c))?,
             _ => write!(to, "{c}")?,
         }
     }

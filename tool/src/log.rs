@@ -3,21 +3,24 @@
 //! An entry is text around the call's bytes, so that it can be read as it stands. Its first and its last line have 32 bytes and say length and
 //! digest of what is between them: the last entry is found from the log's end, and one that was torn is known.
 
-use std::fs::{File, OpenOptions};
+use std::fs::{File, Metadata};
 use std::io::{self, BufReader, Read, Seek, SeekFrom, Write};
+use std::os::unix::fs::FileExt;
 use std::path::{Path, PathBuf};
 
 use crate::call::{Answer, Call};
 use crate::digest::digest;
-use crate::disk::sync_folder;
+use crate::disk;
 use crate::fault::Fault;
-use crate::place::Place;
 
 /// The name of the entry that a log begins with where the table was there before it.
 pub const FOUND: &str = "found";
 
 /// The bytes of an entry's first and of its last line.
 const LINE: usize = 32;
+
+/// Why nothing follows on an entry of the highest number.
+const NO_NUMBER: &str = "the log is damaged: no number follows on its last entry's";
 
 /// More bytes than any call's entry has between these lines.
 const MOST: usize = 1 << 20;
@@ -99,6 +102,33 @@ fn line_says(line: &[u8], word: &str) -> Option<(usize, u64)> {
     Some((length, u64::from_str_radix(sum, 16).ok()?))
 }
 
+/// Whether bytes behind the last whole entry of a log can be what a crash left of one entry: bytes that never reached the disk and read as
+/// zeros, the beginning of a first line, or a first line and no more than it announces. Anything else is damage, or another program's.
+fn one_torn(tail: &[u8]) -> bool {
+    let of_line = |at: usize, byte: u8| match at {
+        0..6 => byte == b"entry "[at],
+        6..14 => byte.is_ascii_digit(),
+        14 => byte == b' ',
+        _ => matches!(byte, b'0'..=b'9' | b'a'..=b'f'),
+    };
+    let begun = match tail.split_at_checked(LINE) {
+        None => tail.iter().enumerate().all(|(at, byte)| of_line(at, *byte)),
+        Some((first, _)) => line_says(first, "entry").is_some_and(|(length, _)| tail.len() <= length + 2 * LINE),
+    };
+    begun || tail.iter().all(|byte| *byte == 0)
+}
+
+/// Whether a log of this size, whose whole entries end here, ends with what is left of one torn entry.
+fn ends_torn(file: &File, end: u64, size: u64) -> io::Result<bool> {
+    let left = size.saturating_sub(end);
+    if left > MOST_ENTRY {
+        return Ok(false);
+    }
+    let mut tail = vec![0; left as usize];
+    file.read_exact_at(&mut tail, end)?;
+    Ok(one_torn(&tail))
+}
+
 /// What stands next in a log.
 pub enum Next {
     /// A whole entry.
@@ -146,14 +176,14 @@ impl Entries {
         Ok(Next::Whole(Box::new(entry)))
     }
 
-    /// How many bytes stand behind the whole entries, once one that isn't was met: what an entry that was torn left. `None` where a whole entry
-    /// follows on them, or they are too many: the log is damaged then.
+    /// How many bytes stand behind the whole entries, once one that isn't was met: what one entry that was torn left. `None` where they can't be
+    /// that, or a whole entry follows on them: the log is damaged then.
     pub fn torn(&self) -> io::Result<Option<u64>> {
         let file = self.from.get_ref();
         let size = file.metadata()?.len();
         let left = size.saturating_sub(self.end);
-        let damaged = left > MOST_ENTRY || (left > 0 && last_from_the_end(file, size)?.is_some());
-        Ok((!damaged).then_some(left))
+        let torn = left == 0 || (ends_torn(file, self.end, size)? && last_from_the_end(file, size)?.is_none());
+        Ok(torn.then_some(left))
     }
 
     /// So many bytes, or what is left.
@@ -187,7 +217,6 @@ fn last_from_the_end(mut file: &File, size: u64) -> io::Result<Option<(Entry, u6
 /// A log that entries are added to. Whoever has it holds the table's lock.
 pub struct Log {
     path: PathBuf,
-    folder: PathBuf,
     file: File,
     /// The number of the next entry.
     next: u64,
@@ -199,15 +228,17 @@ pub struct Log {
 
 impl Log {
     /// Opens the log of a table of this digest, and settles what a crash left: an entry that was torn, and one whose table did not reach the
-    /// disk, are cut off, for neither call was answered.
-    pub fn open(place: &Place, table: u64) -> Result<Log, Fault> {
-        let path = place.log.clone();
-        let file = OpenOptions::new().read(true).append(true).create(true).open(&path);
-        let file = file.map_err(|error| Fault::file(&path, error))?;
-        let mut log = Log { folder: place.folder.clone(), file, next: 1, end: 0, added: None, path };
-        let size = log.file.metadata().map_err(|error| Fault::file(&log.path, error))?.len();
-        let (last, end) = log.last(size).map_err(|error| Fault::file(&log.path, error))?;
-        (log.next, log.end) = settled(last.as_ref(), end, size, table).map_err(|what| Fault::file(&log.path, what))?;
+    /// disk, are cut off, for neither call was answered. Nothing else is. A log that is made here is `like` the table; its name lasts once
+    /// the folder is synced.
+    pub fn open(path: &Path, like: Option<&Metadata>, table: u64) -> Result<Log, Fault> {
+        let file = disk::open_or_make(path, like).map_err(|error| Fault::file(path, error))?;
+        let mut log = Log { file, next: 1, end: 0, added: None, path: path.into() };
+        let size = log.file.metadata().map_err(|error| Fault::file(path, error))?.len();
+        let (last, end) = log.last(size).map_err(|error| Fault::file(path, error))?;
+        if end < size && !ends_torn(&log.file, end, size).map_err(|error| Fault::file(path, error))? {
+            return Err(Fault::file(path, format!("the log is damaged, or no log of this table: byte {end} begins no entry")));
+        }
+        (log.next, log.end) = settled(last.as_ref(), end, size, table).map_err(|what| Fault::file(path, what))?;
         if log.end < size {
             log.cut(log.end).map_err(|error| Fault::file(&log.path, error))?;
         }
@@ -240,16 +271,17 @@ impl Log {
     pub fn add(&mut self, call: &Call, answer: &Answer, before: u64, after: u64) -> Result<(), Fault> {
         let entry = Entry { number: self.next, at: crate::time::now(), call: call.clone(), before, after, answer: answer.clone() };
         let bytes = entry.bytes();
+        let next = self.next.checked_add(1).ok_or_else(|| Fault::file(&self.path, NO_NUMBER))?;
+        if bytes.len() as u64 > MOST_ENTRY {
+            return Err(Fault::file(&self.path, format!("the call is longer than an entry can be, {MOST} bytes")));
+        }
         if let Err(error) = self.file.write_all(&bytes).and_then(|()| self.file.sync_data()) {
             // What is left of it would be cut off by the next call in any case.
             let _ = self.cut(self.end);
             return Err(Fault::file(&self.path, error));
         }
-        if self.end == 0 {
-            sync_folder(&self.folder)?;
-        }
         self.added = Some(self.end);
-        (self.next, self.end) = (self.next + 1, self.end + bytes.len() as u64);
+        (self.next, self.end) = (next, self.end + bytes.len() as u64);
         Ok(())
     }
 
@@ -271,12 +303,9 @@ impl Log {
 /// The number of the next entry and where it begins, by the table that is there: the one that the last whole entry left, or the one that it
 /// was made on. Any other is not this log's.
 fn settled(last: Option<&(Entry, u64)>, end: u64, size: u64, table: u64) -> Result<(u64, u64), &'static str> {
-    if size - end > MOST_ENTRY {
-        return Err("the log is damaged: see 'hondivole check', and 'hondivole replay' for what stands before");
-    }
     match last {
         None => Ok((1, 0)),
-        Some((entry, _)) if entry.after == table => Ok((entry.number + 1, end)),
+        Some((entry, _)) if entry.after == table => Ok((entry.number.checked_add(1).ok_or(NO_NUMBER)?, end)),
         Some((entry, length)) if entry.before == table && end == size && entry.call.name() != FOUND => {
             Ok((entry.number, end - length))
         }
@@ -317,17 +346,54 @@ mod tests {
         for cut in (0..=all.len()).filter(|cut| cut % 5 == 0 || cut % whole[0].len() == 0) {
             std::fs::write(&path, &all[..cut]).unwrap();
             let entries = cut / whole[0].len();
-            let place = Place { table: path.clone(), log: path.clone(), lock: path.clone(), folder: std::env::temp_dir() };
-            let log = Log::open(&place, entries as u64).unwrap();
+            let log = Log::open(&path, None, entries as u64).unwrap();
             assert_eq!((log.next, log.end), (entries as u64 + 1, (entries * whole[0].len()) as u64));
             assert_eq!(std::fs::metadata(&path).unwrap().len(), log.end);
         }
         // The last call's table did not reach the disk; then a table of another history.
         std::fs::write(&path, &all).unwrap();
-        let place = Place { table: path.clone(), log: path.clone(), lock: path.clone(), folder: std::env::temp_dir() };
-        assert!(Log::open(&place, 1).is_err());
-        let log = Log::open(&place, 2).unwrap();
+        assert!(Log::open(&path, None, 1).is_err());
+        let log = Log::open(&path, None, 2).unwrap();
         assert_eq!((log.next, log.end), (3, (2 * whole[0].len()) as u64));
+        std::fs::remove_file(&path).unwrap();
+    }
+
+    /// What can't be one torn entry stays, byte for byte, and so does a log that can't be counted on; a torn one is cut off, zeros too.
+    #[test]
+    fn only_one_torn_entry_is_cut() {
+        let path = std::env::temp_dir().join(format!("hondivole-torn-{}", std::process::id()));
+        let whole: Vec<_> = [entry(1, 0, 1), entry(2, 1, 2), entry(3, 2, 3)].iter().map(Entry::bytes).collect();
+        let (all, length) = (whole.concat(), whole[0].len());
+        let damaged = |at: usize, end: usize| {
+            let mut bytes = all[..end].to_vec();
+            bytes[at] ^= 1;
+            bytes
+        };
+        let last = entry(u64::MAX, 0, 1).bytes();
+        let kept: [&[u8]; 7] = [
+            b"09:30 the desk opens\n",
+            &[b"entry 00000009 0123456789abcdef\n".as_slice(), &[b'x'; 74]].concat(),
+            &[&whole[0][..], b"entry x"].concat(),
+            &damaged(40, 2 * length + 40),
+            &damaged(length + 40, 2 * length + 40),
+            &damaged(length + 3, 3 * length - 1),
+            &last,
+        ];
+        for (i, bytes) in kept.into_iter().enumerate() {
+            std::fs::write(&path, bytes).unwrap();
+            assert!(Log::open(&path, None, 1).is_err(), "{i}");
+            assert_eq!(std::fs::read(&path).unwrap(), bytes, "{i}");
+        }
+        for tail in [&[0; 100][..], b"entry", b"entry 00000", &whole[1][..40], &whole[1][..length - 1]] {
+            std::fs::write(&path, [&whole[0], tail].concat()).unwrap();
+            assert_eq!(Log::open(&path, None, 1).unwrap().end, length as u64);
+            assert_eq!(std::fs::read(&path).unwrap(), whole[0]);
+        }
+        // A call that no entry can hold is not written.
+        let mut log = Log::open(&path, None, 1).unwrap();
+        let call = Call { words: vec!["flow".into(), "1".into()], bytes: vec![b' '; MOST] };
+        assert!(log.add(&call, &Answer::default(), 1, 1).is_err());
+        assert_eq!(std::fs::read(&path).unwrap(), whole[0]);
         std::fs::remove_file(&path).unwrap();
     }
 }

@@ -9,6 +9,9 @@ use std::path::{Path, PathBuf};
 
 use crate::fault::Fault;
 
+/// What the names of the files beside a table end in.
+const BESIDE: [&str; 3] = [".log", ".lock", ".new"];
+
 /// A table's place.
 #[derive(Clone, Debug)]
 pub struct Place {
@@ -37,7 +40,16 @@ impl Place {
         if fs::symlink_metadata(path).is_ok() {
             return Err(Fault::file(path, "there is such a file already"));
         }
-        Place::of(path)
+        Place::of(path)?.named()
+    }
+
+    /// The place, where its table's name can't be that of a file beside another table.
+    pub fn named(self) -> Result<Place, Fault> {
+        let name = self.table.file_name().unwrap_or_default().as_encoded_bytes();
+        match BESIDE.into_iter().find(|end| name.ends_with(end.as_bytes())) {
+            None => Ok(self),
+            Some(end) => Err(Fault::file(&self.table, format!("no table is named *{end}: a file beside a table is"))),
+        }
     }
 
     /// The place of a path, whether there is something or not.

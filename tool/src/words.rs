@@ -1,5 +1,7 @@
 //! What answers are put together from: amounts, kinds, operations and refusals in words.
 
+use std::path::Path;
+
 use hondivole::{Date, Kind, Operation, Refusal};
 
 use crate::json::{Json, number, object};
@@ -64,6 +66,16 @@ pub fn count(number: usize, noun: &str) -> String {
     format!("{number} {noun}{}", if number == 1 { "" } else { "s" })
 }
 
+/// A text of a file's, as a terminal may be told it: control characters are escaped, so that they command nothing.
+pub fn shown(text: &str) -> String {
+    text.escape_debug().to_string().replace("\\'", "'").replace("\\\"", "\"")
+}
+
+/// A file's name, as a terminal may be told it.
+pub fn path(path: &Path) -> String {
+    shown(&path.display().to_string())
+}
+
 /// A refusal in words: its code, and the rule's sentence.
 pub fn refused(refusal: Refusal, sentence: impl std::fmt::Display) -> String {
     format!("refused, {}: {sentence}", refusal.code())
@@ -94,6 +106,12 @@ mod tests {
         }
         assert_eq!(balance(-5), "-0.05");
         assert_eq!(balance(i64::MIN), "-92233720368547758.08");
+    }
+
+    #[test]
+    fn nothing_shown_commands_the_terminal() {
+        assert_eq!(shown("I.C. \"Pascoli\", l'Aquila, nicolò"), "I.C. \"Pascoli\", l'Aquila, nicolò");
+        assert_eq!(shown("a\u{1b}[2J\n\u{9b}\\'\u{202e}"), r"a\u{1b}[2J\n\u{9b}\\'\u{202e}");
     }
 
     #[test]

@@ -1,6 +1,7 @@
 //! `check`: whether a table is valid, and whether its log leads to it.
 
 use std::fs::File;
+use std::io::ErrorKind;
 
 use hondivole::{Refusal, Table};
 
@@ -19,7 +20,8 @@ pub const COMMAND: Command = Command {
     name: "check",
     usage: "TABLE",
     about: "tells whether a table is valid, and whether its log leads to it",
-    more: "It tells the last call that the table has, too: after a crash, that is the last one that was taken. Nothing is changed.",
+    more: "It tells the last call that the table has, too, with its code and, of a flow, its orders, how many of them are accepted, and its\n\
+           length in bytes: after a crash, that is the last one that was taken. Nothing is changed.",
     taking: &[],
     run,
 };
@@ -29,7 +31,10 @@ fn run(mut args: Args, say: Say) -> Result<bool, Fault> {
     args.end()?;
     let place = Place::of_table(&path)?;
     // Table and log are read while nobody changes them; where there is no lock file, nobody ever did.
-    let lock = File::open(&place.lock).ok();
+    let lock = match File::open(&place.lock) {
+        Err(error) if error.kind() == ErrorKind::NotFound => None,
+        lock => Some(lock.map_err(|error| Fault::file(&place.lock, error))?),
+    };
     if let Some(lock) = &lock {
         lock.lock_shared().map_err(|error| Fault::file(&place.lock, error))?;
     }
@@ -37,29 +42,58 @@ fn run(mut args: Args, say: Say) -> Result<bool, Fault> {
     if Table::over(&table).totals("") == Err(Refusal::TableNotValid) {
         let refusal = Refusal::TableNotValid;
         let json = words::verdict(Some((refusal, refusal.to_string())));
-        say.answer(&format!("{}: {}", path.display(), words::refused(refusal, refusal)), &json)?;
+        say.answer(&format!("{}: {}", words::path(&path), words::refused(refusal, refusal)), &json)?;
         return Ok(false);
     }
-    let logged = if place.log.exists() { logged(&place, digest(&table))? } else { (0, None) };
-    let (calls, last) = logged;
+    let there = place.log.try_exists().map_err(|error| Fault::file(&place.log, error))?;
+    let (calls, last) = if there { logged(&place, digest(&table))? } else { (0, None) };
     let text = match &last {
-        None => format!("{}: valid, {}, no log", path.display(), words::count(table.len(), "byte")),
+        None => format!("{}: valid, {}, no log", words::path(&path), words::count(table.len(), "byte")),
         Some(last) => format!(
-            "{}: valid, {}, {} logged, the last one {}: {}",
-            path.display(),
+            "{}: valid, {}, {} logged, the last one {}: {}, {}",
+            words::path(&path),
             words::count(table.len(), "byte"),
             words::count(calls as usize, "call"),
-            last.at,
-            last.call.line()
+            words::shown(&last.at),
+            last.call.line(),
+            answer_words(last)
         ),
     };
     let json = words::verdict(None).with([("bytes", number(table.len() as u64)), ("calls", number(calls))]);
     let json = match last {
         None => json,
-        Some(last) => json.with([("last", last.call.line().into()), ("at", last.at.into())]),
+        Some(last) => {
+            let json = json.with([("last", last.call.line().into()), ("last_code", number(last.answer.code))]);
+            let json = match of_flow(&last) {
+                None => json,
+                Some((orders, accepted, bytes)) => json.with([
+                    ("last_orders", number(orders as u64)),
+                    ("last_accepted", number(accepted)),
+                    ("last_bytes", number(bytes as u64)),
+                ]),
+            };
+            json.with([("at", last.at.into())])
+        }
     };
     say.answer(&text, &json)?;
     Ok(true)
+}
+
+/// The answer to a logged call: its code and, of a flow, what tells it from others.
+fn answer_words(entry: &Entry) -> String {
+    let code = format!("code {}", entry.answer.code);
+    match of_flow(entry) {
+        None => code,
+        Some((orders, accepted, bytes)) => {
+            format!("{code}, {accepted} of {} accepted, {}", words::count(orders, "order"), words::count(bytes, "byte"))
+        }
+    }
+}
+
+/// A logged flow's orders, how many are accepted, and its length; a refused flow answers no orders.
+fn of_flow(entry: &Entry) -> Option<(usize, u64, usize)> {
+    let accepted = if entry.answer.code == 0 { entry.answer.number(1) } else { 0 };
+    (entry.call.name() == "flow").then_some((entry.answer.rows.len(), accepted, entry.call.bytes.len()))
 }
 
 /// How many calls the log has that led to the table of this digest, and the last of them.
@@ -68,17 +102,17 @@ fn logged(place: &Place, table: u64) -> Result<(u64, Option<Entry>), Fault> {
     let (mut last, mut one_before): (Option<Entry>, Option<Entry>) = (None, None);
     while let Next::Whole(entry) = entries.next().map_err(|error| Fault::file(&place.log, error))? {
         let (number, digest) = last.as_ref().map_or((0, digest(&[])), |last| (last.number, last.after));
-        if entry.number != number + 1 || entry.before != digest {
+        if number.checked_add(1) != Some(entry.number) || entry.before != digest {
             return Err(Fault::file(&place.log, format!("entry {} doesn't follow on {number}", entry.number)));
         }
         one_before = last.replace(*entry);
     }
     let damaged = || Fault::file(&place.log, format!("from byte {} on this is no log", entries.end));
-    entries.torn().map_err(|error| Fault::file(&place.log, error))?.ok_or_else(damaged)?;
+    let torn = entries.torn().map_err(|error| Fault::file(&place.log, error))?.ok_or_else(damaged)?;
     // As every change has it: what is torn, and a call whose table did not reach the disk, count for nothing.
     match last {
         Some(last) if last.after == table => Ok((last.number, Some(last))),
-        Some(last) if last.before == table => Ok((last.number - 1, one_before)),
+        Some(last) if last.before == table && torn == 0 => Ok((last.number - 1, one_before)),
         None => Ok((0, None)),
         _ => Err(Fault::file(&place.log, format!("it is whole up to byte {}, and doesn't lead to this table", entries.end))),
     }

@@ -27,8 +27,8 @@ fn run(mut args: Args, say: Say) -> Result<bool, Fault> {
     let answer = Desk::make(&path, &call, say)?;
     let refusal = answer.refusal().map(|refusal| (refusal, refusal.to_string()));
     let text = match &refusal {
-        None => format!("{}: converted, {}", path.display(), words::count(answer.number(0) as usize, "byte")),
-        Some((refusal, sentence)) => format!("{}: {}", old.display(), words::refused(*refusal, sentence)),
+        None => format!("{}: converted, {}", words::path(&path), words::count(answer.number(0) as usize, "byte")),
+        Some((refusal, sentence)) => format!("{}: {}", words::path(&old), words::refused(*refusal, sentence)),
     };
     let taken = refusal.is_none();
     say.answer(&text, &words::verdict(refusal).with([("bytes", number(answer.number(0)))]))?;

@@ -1,5 +1,6 @@
 //! `flow`: a body's flows of orders, and the outcome message of one.
 
+use std::fs::{self, Metadata};
 use std::path::{Path, PathBuf};
 
 use hondivole::{Edition, MOST_OUTCOME_BYTES, MOST_WRITTEN_BYTES, OrderOutcome, Refusal, Table, write_message};
@@ -12,6 +13,7 @@ use crate::desk::Desk;
 use crate::disk::{self, Draft, sync_folder};
 use crate::fault::Fault;
 use crate::json::{Json, number, object};
+use crate::place::with;
 use crate::say::Say;
 use crate::words;
 
@@ -20,10 +22,11 @@ pub const COMMAND: Command = Command {
     usage: "TABLE FILE.. [--edition 1|2] [--message OUT.xml [--values FILE] [--value NAME=TEXT]..]",
     about: "takes flows of orders, one after the other",
     more: "Each flow is taken or refused by itself, and each order of a flow that is taken is accepted or refused by itself.\n\
-           --edition 2 is for flows with the header of OPI 1.2.2. --message writes the outcome message of one flow that is taken; what it\n\
-           says of the body comes from lines NAME=TEXT of --values and from --value: codice_ente, descrizione_ente, codice_istat_ente,\n\
-           codice_fiscale_ente, codice_tramite_ente, codice_tramite_BT, identificativo_flusso_BT, data_ora_creazione_flusso and\n\
-           data_ora_esito_operazione, both times being the clock's where they aren't given.",
+           --edition 2 is for flows with the header of OPI 1.2.2. --message writes the outcome message of one flow that is taken, by\n\
+           way of OUT.xml.new; an OUT.xml that is there and is no file is refused. What it says of the body comes from lines NAME=TEXT of\n\
+           --values and from --value: codice_ente, descrizione_ente, codice_istat_ente, codice_fiscale_ente, codice_tramite_ente,\n\
+           codice_tramite_BT, identificativo_flusso_BT, data_ora_creazione_flusso and data_ora_esito_operazione, both times being the\n\
+           clock's where they aren't given.",
     taking: &["--edition", "--message", "--values", "--value"],
     run,
 };
@@ -53,6 +56,11 @@ fn run(mut args: Args, say: Say) -> Result<bool, Fault> {
         // Before the flow: none is taken whose message can't be written.
         return refused(out, Refusal::ValuesWrong { given: Some(given) }, given.to_string(), say);
     }
+    if let Some((out, _)) = &message
+        && fs::metadata(out).is_ok_and(|there| !there.is_file())
+    {
+        return Err(Fault::file(out, "a message can't be put here: this is there and is no file"));
+    }
     // All are read before the first is taken: a name that was mistyped stops none halfway.
     let flows = files.iter().map(|file| disk::read(file, MOST_FLOW_BYTES)).collect::<Result<Vec<_>, _>>()?;
     let mut desk = Desk::of_table(&path, say)?;
@@ -62,9 +70,10 @@ fn run(mut args: Args, say: Say) -> Result<bool, Fault> {
     let mut all = true;
     for (i, (file, flow)) in files.iter().zip(flows).enumerate() {
         if files.len() > 1 {
-            say.progress(&format!("flow {} of {}: {}", i + 1, files.len(), file.display()));
+            say.progress(&format!("flow {} of {}: {}", i + 1, files.len(), words::path(file)));
         }
-        all &= taken(&mut desk, edition, file, flow, message.as_ref(), say)?;
+        let before = if i == 0 { String::new() } else { format!("{i} of {} flows were answered before: ", files.len()) };
+        all &= taken(&mut desk, edition, file, flow, message.as_ref(), say).map_err(|fault| fault.after(&before))?;
     }
     Ok(all)
 }
@@ -79,20 +88,31 @@ fn taken(
     say: Say,
 ) -> Result<bool, Fault> {
     let call = Call { words: vec!["flow".into(), (edition as u64).to_string()], bytes: flow };
-    let (answer, draft) = desk.take_with(&call, |answer| match message {
-        Some((out, values)) if answer.code == 0 => drafted(edition, &call.bytes, answer, out, values).map(Some),
-        _ => Ok(None),
-    })?;
+    let (mut draft, like) = (None, desk.like());
+    let answer = desk.take_with(&call, |answer| {
+        if let Some((out, values)) = message.filter(|_| answer.code == 0) {
+            let text = written(edition, &call.bytes, answer, out, values)?;
+            draft = Some(drafted(out, text.as_bytes(), like.as_ref())?);
+        }
+        Ok(())
+    });
+    let answer = match (answer, &mut draft, message) {
+        // The flow is taken by now, and its message is needed.
+        (Err(fault @ Fault::Late(_)), Some(draft), Some((out, _))) => {
+            draft.keep();
+            return Err(fault.after(&format!("its message is in {}; ", words::path(&with(out, ".new")))));
+        }
+        (answer, ..) => answer?,
+    };
     if let Some(refusal) = answer.refusal() {
         return refused(file, refusal, refusal.of_flow(&call.bytes).to_string(), say);
     }
     if let (Some(draft), Some((out, _))) = (draft, message) {
-        placed(draft, out)
-            .map_err(|fault| Fault::File(format!("the flow is taken, but its message could not be written: {fault}")))?;
+        placed(draft, out)?;
     }
     let outcomes: Vec<_> = answer.rows.iter().filter_map(OrderOutcome::from_bytes).collect();
     let accepted = format!("{} of {} accepted", answer.number(1), words::count(outcomes.len(), "order"));
-    let mut text = format!("{}: taken, {accepted}", file.display());
+    let mut text = format!("{}: taken, {accepted}", words::path(file));
     for outcome in &outcomes {
         text += &format!("\n  {}", order_words(outcome));
     }
@@ -110,7 +130,7 @@ fn taken(
 
 /// Says that a file is refused.
 fn refused(file: &Path, refusal: Refusal, sentence: String, say: Say) -> Result<bool, Fault> {
-    let text = format!("{}: {}", file.display(), words::refused(refusal, &sentence));
+    let text = format!("{}: {}", words::path(file), words::refused(refusal, &sentence));
     let mut json = vec![("file", file.display().to_string().into())];
     if let Json::Object(members) = words::verdict(Some((refusal, sentence))) {
         json.extend(members);
@@ -144,18 +164,33 @@ fn order_json(outcome: &OrderOutcome) -> Json {
     }
 }
 
-/// Writes a flow's message beside its place, while the flow is not yet taken.
-fn drafted(edition: Edition, flow: &[u8], answer: &Answer, out: &Path, values: &Values) -> Result<Draft, Fault> {
+/// A flow's message.
+fn written(edition: Edition, flow: &[u8], answer: &Answer, out: &Path, values: &Values) -> Result<String, Fault> {
     let mut buffer = vec![0; MOST_WRITTEN_BYTES];
     let message = write_message(edition, flow, answer.rows.as_flattened(), &values.lent(), &mut buffer);
-    let message = message.map_err(|refusal| Fault::file(out, format!("{}: {refusal}", refusal.code())))?;
-    Draft::write(out, message.as_bytes(), None)
+    message.map(str::to_string).map_err(|refusal| Fault::file(out, format!("{}: {refusal}", refusal.code())))
 }
 
-fn placed(draft: Draft, out: &Path) -> Result<(), Fault> {
-    draft.rename()?;
-    let folder = out.parent().filter(|folder| !folder.as_os_str().is_empty());
-    sync_folder(folder.unwrap_or(Path::new(".")))
+/// Writes a message beside its place, while its flow is not yet taken, so that it lasts there. It is like the file that it replaces, or like
+/// the table.
+fn drafted(out: &Path, message: &[u8], table: Option<&Metadata>) -> Result<Draft, Fault> {
+    let there = fs::metadata(out).ok();
+    let draft = Draft::write_as_can_be(out, message, there.as_ref().or(table))?;
+    sync_folder(folder_of(out))?;
+    Ok(draft)
+}
+
+/// Puts a message in its place once its flow is taken. Where that fails it stays beside it.
+fn placed(mut draft: Draft, out: &Path) -> Result<(), Fault> {
+    draft.keep();
+    let beside = format!("the flow is taken, and its message is in {}: ", words::path(&with(out, ".new")));
+    draft.rename().map_err(|fault| fault.after(&beside))?;
+    sync_folder(folder_of(out))
+        .map_err(|fault| fault.after("the flow is taken, but its message may lose its place with the power: "))
+}
+
+fn folder_of(out: &Path) -> &Path {
+    out.parent().filter(|folder| !folder.as_os_str().is_empty()).unwrap_or(Path::new("."))
 }
 
 fn edition_of(text: &str) -> Option<Edition> {

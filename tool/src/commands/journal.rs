@@ -45,15 +45,12 @@ fn run(mut args: Args, say: Say) -> Result<bool, Fault> {
 
 /// The movements of a file, as the library takes them.
 fn movements(path: &Path) -> Result<Vec<u8>, Fault> {
-    let bytes = disk::read(path, MOST_BYTES)?;
-    if bytes.len() as u64 > MOST_BYTES {
-        return Err(Fault::file(path, format!("this is longer than {MOST_BYTES} bytes")));
-    }
-    let text = String::from_utf8(bytes).map_err(|_| Fault::file(path, "this is no text"))?;
+    let text = String::from_utf8(disk::read_whole(path, MOST_BYTES)?).map_err(|_| Fault::file(path, "this is no text"))?;
     let mut movements = Vec::new();
     for (i, line) in text.lines().enumerate().filter(|(_, line)| !line.trim().is_empty() && !line.starts_with('#')) {
         let movement = movement(line);
-        let wrong = || Fault::file(path, format!("line {} is no KIND ESERCIZIO NUMBER LINE AMOUNT: '{line}'", i + 1));
+        let wrong =
+            || Fault::file(path, format!("line {} is no KIND ESERCIZIO NUMBER LINE AMOUNT: '{}'", i + 1, words::shown(line)));
         movements.extend(movement.ok_or_else(wrong)?.bytes());
     }
     Ok(movements)

@@ -8,6 +8,7 @@ use crate::args::Args;
 use crate::disk;
 use crate::fault::Fault;
 use crate::time;
+use crate::words;
 
 /// The values' names, as the message has them.
 const NAMES: [&str; 9] = [
@@ -34,9 +35,10 @@ impl Values {
         let mut values = Values(Default::default());
         if let Some(path) = args.one("--values")? {
             let path = Path::new(path);
-            let text = String::from_utf8(disk::read(path, MOST_BYTES)?).map_err(|_| Fault::file(path, "this is no text"))?;
+            let text = String::from_utf8(disk::read_whole(path, MOST_BYTES)?).map_err(|_| Fault::file(path, "this is no text"))?;
             for line in text.lines().filter(|line| !line.is_empty() && !line.starts_with('#')) {
-                values.set(line).ok_or_else(|| Fault::file(path, format!("'{line}' is no NAME=TEXT of a message's values")))?;
+                let wrong = || Fault::file(path, format!("'{}' is no NAME=TEXT of a message's values", words::shown(line)));
+                values.set(line).ok_or_else(wrong)?;
             }
         }
         for value in args.all("--value") {

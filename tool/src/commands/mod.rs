@@ -107,7 +107,7 @@ impl Command {
 
 /// What every command's help ends with.
 const STATUS: &str = "--json  answers for programs, one object a line; amounts in cents\n--help  this\n\nExit status: 0 taken, 1 refused, \
-                      2 wrong use, 3 a file could not be read or written.";
+                      2 wrong use, 3 a file could not be read or written: the table is\nas before, unless standard error says otherwise.";
 
 fn usage() -> String {
     let mut text = String::from("usage: hondivole COMMAND ..\n\n");

@@ -36,13 +36,13 @@ fn run(mut args: Args, say: Say) -> Result<bool, Fault> {
         None => {
             format!(
                 "{}: opened for ABI {} and {}, {}",
-                path.display(),
+                words::path(&path),
                 call[1],
                 bodies(call.len() - 2),
                 words::count(answer.number(0) as usize, "byte")
             )
         }
-        Some((refusal, sentence)) => format!("{}: {}", path.display(), words::refused(*refusal, sentence)),
+        Some((refusal, sentence)) => format!("{}: {}", words::path(&path), words::refused(*refusal, sentence)),
     };
     let taken = refusal.is_none();
     say.answer(&text, &words::verdict(refusal).with([("bytes", number(answer.number(0)))]))?;

@@ -29,7 +29,8 @@ fn run(mut args: Args, say: Say) -> Result<bool, Fault> {
     let mut desk = Desk::of_new(&path, say)?;
     let Replayed { table, calls, torn } = replayed(&log)?;
     desk.put(&table)?;
-    let mut text = format!("{}: {} made again, {}", path.display(), words::count(calls, "call"), words::count(table.len(), "byte"));
+    let mut text =
+        format!("{}: {} made again, {}", words::path(&path), words::count(calls, "call"), words::count(table.len(), "byte"));
     if torn > 0 {
         text += &format!("; the log's last {} are no whole entry", words::count(torn as usize, "byte"));
     }

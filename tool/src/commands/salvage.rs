@@ -32,16 +32,16 @@ fn run(mut args: Args, say: Say) -> Result<bool, Fault> {
     let call = Call { words: vec!["salvage".into()], bytes: desk::look(&damaged)? };
     let answer = Desk::make(&path, &call, say)?;
     if let Some(refusal) = answer.refusal() {
-        let text = format!("{}: {}", damaged.display(), words::refused(refusal, refusal));
+        let text = format!("{}: {}", words::path(&damaged), words::refused(refusal, refusal));
         say.answer(&text, &words::verdict(Some((refusal, refusal.to_string()))))?;
         return Ok(false);
     }
     // What the call answers: the bodies' counts, then the places.
     let bodies = records::bodies(&desk::look(&path)?);
     let (moved, blanked) = answer.numbers.split_at_checked(bodies.len()).unwrap_or_default();
-    let mut text = format!("{}: repaired, {} blanked", path.display(), words::count(blanked.len(), "slot"));
+    let mut text = format!("{}: repaired, {} blanked", words::path(&path), words::count(blanked.len(), "slot"));
     for place in blanked {
-        text += &format!("\n  the slot at byte {place} of {}: blanked", damaged.display());
+        text += &format!("\n  the slot at byte {place} of {}: blanked", words::path(&damaged));
     }
     for (body, moved) in bodies.iter().zip(moved).filter(|(_, moved)| **moved > 0) {
         text += &format!("\n  {}: {} moved up", body.code, words::count(*moved as usize, "record"));

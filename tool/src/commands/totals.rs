@@ -36,7 +36,7 @@ fn run(mut args: Args, say: Say) -> Result<bool, Fault> {
     };
     let mut all = true;
     for body in asked {
-        let told = if body.is_empty() { path.display().to_string() } else { body.clone() };
+        let told = if body.is_empty() { words::path(&path) } else { body.clone() };
         match table.totals(&body) {
             Ok(totals) => say.answer(&format!("{told}: {}", totals_words(&totals)), &totals_json(&body, &totals))?,
             Err(refusal) => {

@@ -99,6 +99,51 @@ fn at_every_call_on_files() {
     println!("flow: {calls} calls on files, {seen:?}");
 }
 
+/// The same of a flow with a message: where the table has the flow, the message is in its place or beside it.
+#[test]
+fn message_at_every_call_on_files() {
+    let folder = folder("message");
+    let mut table = opened(&folder);
+    let before = fs::read(&table).unwrap();
+    let (file, text) = (folder.join("flow.xml"), flow("471", &[(Kind::Mandato, 1)]));
+    fs::write(&file, &text).unwrap();
+    let values = "codice_ente=UFABCD descrizione_ente=Pascoli codice_fiscale_ente=80012345678 codice_tramite_ente=A2A-12345678 \
+                  codice_tramite_BT=A2A-87654321 identificativo_flusso_BT=BT-1 data_ora_creazione_flusso=2021-03-01T09:31:00+01:00 \
+                  data_ora_esito_operazione=2021-03-01T09:30:30+01:00";
+    let apart = folder.join("messages");
+    fs::create_dir(&apart).unwrap();
+    let (out, beside) = (apart.join("m.xml"), apart.join("m.xml.new"));
+    let mut words = vec!["flow", table.to_str().unwrap(), file.to_str().unwrap(), "--message", out.to_str().unwrap()];
+    words.extend(values.split_ascii_whitespace().flat_map(|value| ["--value", value]));
+    let words: Vec<_> = words.into_iter().map(String::from).collect();
+    let words: Vec<_> = words.iter().map(String::as_str).collect();
+    let calls = calls_of(&words, &folder.join("count"));
+    let (message, after) = (fs::read(&out).unwrap(), fs::read(&table).unwrap());
+    assert!(!beside.exists() && before != after);
+    for how in HOW {
+        for at in 1..=calls + 1 {
+            table = opened(&folder);
+            let _ = (fs::remove_file(&out), fs::remove_file(&beside), fs::remove_file(apart.join("m.xml.old")));
+            let output = run(&words, Cut::At(at, how));
+            let told = || format!("{how} {at} of {calls} {output:?}");
+            let now = fs::read(&table).unwrap();
+            let placed = fs::read(&out).is_ok_and(|bytes| bytes == message);
+            let kept = fs::read(&beside).is_ok_and(|bytes| bytes == message);
+            let fault = String::from_utf8_lossy(&output.stderr);
+            assert!(now == before || now == after, "{}", told());
+            assert!(placed <= (now == after) && (now == after) <= (placed || kept), "{}", told());
+            assert!(!output.status.success() || placed, "{}", told());
+            if how == "fail" && at <= calls && now == after {
+                assert_eq!(output.status.code(), Some(3), "{}", told());
+                assert!(fault.contains(if kept { "its message is in" } else { "may lose its place" }), "{}", told());
+            } else if how == "fail" && at <= calls {
+                assert!(!beside.exists(), "{}", told());
+            }
+        }
+    }
+    println!("flow with a message: {calls} calls on files");
+}
+
 /// The same of `open`: there is the table or none, and where there is none it can be opened.
 #[test]
 fn opening_at_every_call_on_files() {
