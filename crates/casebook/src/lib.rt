@@ -204,3 +204,28 @@ pub fn number(s: &[u8], a: usize, e: usize, k: usize) -> u64
     }
     v
 }
+
+// Where the last column of the line from a up to e begins.
+fn last_column(s: &[u8], a: usize, e: usize) -> usize
+    requires { ⌜ (a ≤ e) × (e ≤ length (now s)) ⌝ }
+    ensures { λ r. ⌜ (a ≤ r) × (r ≤ e) ⌝ }
+{
+    let mut i = e;
+    while a < i {
+        if s[i - 1] == b'\t' {
+            return i;
+        }
+        i -= 1;
+    }
+    i
+}
+
+// What a case expects, its last column, at the end of a line.
+pub fn say_expected(s: &[u8], a: usize, e: usize)
+    requires { ⌜ (a ≤ e) × (e ≤ length (now s)) ⌝ }
+{
+    let from = last_column(s, a, e);
+    say(b"; expected ");
+    say(&s[from..e]);
+    say(b"\n");
+}

@@ -1,18 +1,18 @@
 -- Laws of tests over a range, an index at a time.
 use mathlib.Core.Path.{_≡_, refl, sym, ap, _∙_}
 use mathlib.Core.List.{List, [], _∷_}
-use mathlib.Core.Bool.{Bool, true, false, _&&_}
+use mathlib.Core.Bool.{Bool, true, false, _&&_, cond}
 use Prim.Native.Nat.{ℕ, zero, suc, _+_, _*_, _-_, _≤_, _<_}
 use native.Mathlib.Numerals.{add-one}
 use native.Mathlib.Omega.{arith}
 use lib.ListN.{length, getD, take, drop, length-take}
 use lib.Seq.{drop-cons, getD-take, getD-drop}
-use lib.Dec.{eqb, leb}
-use borrow.Author.Tests.{eq-eqb, eqb-true, leb-true, leb-false}
+use lib.Dec.{eqb, leb, ltb}
+use borrow.Author.Tests.{eq-eqb, lt-ltb, le-ltb, eqb-true, ltb-true, ltb-false, leb-true, leb-false}
 use Rattle.scan.specs.Bytes.{part, all}
 use Rattle.scan.proofs.Laws.{both}
-use Rattle.words.specs.Numbers.{be2, be4, be8}
 use Rattle.ranges.specs.Ranges.{zeros}
+use Rattle.ranges.specs.Inner.{greaterOf}
 
 -- the part from i up to e begins with the byte at i
 part-cons : (t : List ℕ) (i e : ℕ) → i < e → i < length t → part t i e ≡ getD t i 0 ∷ part t (i + 1) e
@@ -93,48 +93,31 @@ module _ (t : List ℕ) (a m e : ℕ) (h : a ≤ m) (k : m ≤ e) where
 pub zeros-none : (t : List ℕ) (a e : ℕ) → e ≤ a → zeros t a e ≡ true
 zeros-none t a e h = get-zeros t a e (λ i l u. absurd (omega arith))
 
--- eight bytes are zero where the number in them is
-module _ (t : List ℕ) (a : ℕ) where
-  pub eight-zero : be8 t a ≡ 0 → zeros t a (a + 8) ≡ true
-  unfolding be8 be4 be2
-  eight-zero z = get-zeros t a (a + 8) (λ i l u. go (i - a) (omega arith) i (omega arith))
+-- the greater of two
+pub greater-second : (a b : ℕ) → a < b → b ≡ greaterOf a b
+greater-second a b l = rw (lt-ltb a b l)
+
+pub greater-first : (a b : ℕ) → b ≤ a → a ≡ greaterOf a b
+greater-first a b l = rw (le-ltb a b l)
+
+-- the greatest byte up to i, and of one byte more
+module _ (t : List ℕ) (a i top : ℕ) (h : a ≤ i) (z : eqb top 0 ≡ zeros t a i) where
+  pub greatest-more : eqb (greaterOf top (getD t i 0)) 0 ≡ zeros t a (i + 1)
+  greatest-more = go (getD t i 0) refl (ltb top (getD t i 0)) refl
     where
-      at : (i j : ℕ) → i ≡ j → getD t j 0 ≡ 0 → getD t i 0 ≡ 0
-      at i j q h = ap (λ (x : ℕ). getD t x 0) q ∙ h
-
-      go : (k : ℕ) → k < 8 → (i : ℕ) → i ≡ a + k → getD t i 0 ≡ 0
-      go zero h i q = at i (a) (omega arith) (omega arith)
-      go (suc zero) h i q = at i (a + 1) (omega arith) (omega arith)
-      go (suc (suc zero)) h i q = at i (a + 2) (omega arith) (omega arith)
-      go (suc (suc (suc zero))) h i q = at i (a + 2 + 1) (omega arith) (omega arith)
-      go (suc (suc (suc (suc zero)))) h i q = at i (a + 4) (omega arith) (omega arith)
-      go (suc (suc (suc (suc (suc zero))))) h i q = at i (a + 4 + 1) (omega arith) (omega arith)
-      go (suc (suc (suc (suc (suc (suc zero)))))) h i q = at i (a + 4 + 2) (omega arith) (omega arith)
-      go (suc (suc (suc (suc (suc (suc (suc zero))))))) h i q = at i (a + 4 + 2 + 1) (omega arith) (omega arith)
-      go (suc (suc (suc (suc (suc (suc (suc (suc k)))))))) h i q = absurd (omega arith)
-
-  pub eight-not : (be8 t a ≡ 0 → ⊥) → zeros t a (a + 8) ≡ false
-  unfolding be8 be4 be2
-  eight-not n =
-      same (zeros t a (a + 8)) false
-      (λ w. absurd (n (
-      let b0 = zeros-get t a (a + 8) w a (omega arith) (omega arith) in
-      let b1 = zeros-get t a (a + 8) w (a + 1) (omega arith) (omega arith) in
-      let b2 = zeros-get t a (a + 8) w (a + 2) (omega arith) (omega arith) in
-      let b3 = zeros-get t a (a + 8) w (a + 2 + 1) (omega arith) (omega arith) in
-      let b4 = zeros-get t a (a + 8) w (a + 4) (omega arith) (omega arith) in
-      let b5 = zeros-get t a (a + 8) w (a + 4 + 1) (omega arith) (omega arith) in
-      let b6 = zeros-get t a (a + 8) w (a + 4 + 2) (omega arith) (omega arith) in
-      let b7 = zeros-get t a (a + 8) w (a + 4 + 2 + 1) (omega arith) (omega arith) in
-      omega arith)))
-      (λ w. let v : _≡_ {A = ℕ} 0 1 = cc in absurd (omega arith))
-
--- eight bytes at a time: one step on, and the way out
-module _ (t : List ℕ) (at n : ℕ) (h : 0 < n) where
-  pub eights-more : be8 t at ≡ 0 → zeros t at (at + 8 * n) ≡ zeros t (at + 8) (at + 8 + 8 * (n - 1))
-  eights-more z =
-      let q : at + 8 * n ≡ at + 8 + 8 * (n - 1) = omega arith in
-      rw (← q) (zeros-past t at (at + 8) (at + 8 * n) (omega arith) (omega arith) (eight-zero t at z))
-
-  pub eights-not : (be8 t at ≡ 0 → ⊥) → zeros t at (at + 8 * n) ≡ false
-  eights-not z = zeros-not t at (at + 8) (at + 8 * n) (omega arith) (omega arith) (eight-not t at z)
+      go : (b : ℕ) → getD t i 0 ≡ b → (x : Bool) → ltb top b ≡ x → eqb (cond x b top) 0 ≡ zeros t a (i + 1)
+      go b q true f =
+          same (eqb b 0) (zeros t a (i + 1))
+          (λ w. absurd (omega (arith, eqb-true b 0 w, ltb-true top b f)))
+          (λ w. eq-eqb b 0 (sym q ∙ zeros-get t a (i + 1) w i h (omega arith)))
+      go b q false f =
+          same (eqb top 0) (zeros t a (i + 1))
+          (λ w. get-zeros t a (i + 1) (λ j l u. at j l u w (leb (suc j) i) refl))
+          (λ w. z ∙ get-zeros t a i (λ j l u. zeros-get t a (i + 1) w j l (omega arith)))
+        where
+          at : (j : ℕ) → a ≤ j → j < i + 1 → eqb top 0 ≡ true → (y : Bool) → leb (suc j) i ≡ y → getD t j 0 ≡ 0
+          at j l u w true g = zeros-get t a i (sym z ∙ w) j l (leb-true (suc j) i g)
+          at j l u w false g =
+              let e : j ≡ i = omega (arith, leb-false (suc j) i g) in
+              let r : getD t j 0 ≡ b = ap (λ (x : ℕ). getD t x 0) e ∙ q in
+              omega (arith, r, eqb-true top 0 w, ltb-false top b f)

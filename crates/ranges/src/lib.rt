@@ -1,9 +1,10 @@
 // Tests of the bytes from one index of a buffer up to another, and the answer of a search.
 ghost use mathlib.Core.Path.{_≡_};
-ghost use Prim.Native.Nat.{_+_, _*_, _≤_};
+ghost use Prim.Native.Nat.{_≤_};
 ghost use lib.ListN.{length};
 ghost use Rattle.scan.specs.Bytes.{part, all};
 ghost use Rattle.ranges.specs.Ranges.{zeros, isIdentifying, isOf, isNothing};
+ghost use Rattle.ranges.specs.Inner.{greaterOf};
 
 // Where a search found what it looked for.
 pub enum Found {
@@ -69,31 +70,23 @@ pub fn are_of(t: &[u8], a: usize, e: usize, c: Class) -> bool
     true
 }
 
-// Whether n times eight bytes from a on are zero, looked at eight at a time.
-fn eights_zero(t: &[u8], a: usize, n: usize) -> bool
-    requires { ⌜ a + 8 * n ≤ length (now t) ⌝ }
-    ensures { λ r. ⌜ r ≡ zeros (now (t .entry)) a (a + 8 * n) ⌝ }
+// The greater of two bytes.
+fn greater(a: u8, b: u8) -> u8
+    ensures { λ r. ⌜ r ≡ greaterOf a b ⌝ }
 {
-    let mut at = a;
-    let mut left = n;
-    while 0 < left {
-        if words::read8(t, at) != 0 {
-            return false;
-        }
-        at += 8;
-        left -= 1;
-    }
-    true
+    if a < b { b } else { a }
 }
 
-// Whether the bytes from a up to e are zero.
+// Whether the bytes from a up to e are zero: whether the greatest is. There is no way out of the loop before its end, so that many bytes are compared at once.
 pub fn are_zero(t: &[u8], a: usize, e: usize) -> bool
     requires { ⌜ (a ≤ e) × (e ≤ length (now t)) ⌝ }
     ensures { λ r. ⌜ r ≡ zeros (now (t .entry)) a e ⌝ }
 {
-    let n = (e - a) / 8;
-    if !eights_zero(t, a, n) {
-        return false;
+    let mut i = a;
+    let mut top: u8 = 0;
+    while i < e {
+        top = greater(top, t[i]);
+        i += 1;
     }
-    are_of(t, a + 8 * n, e, Class::Zero)
+    top == 0
 }

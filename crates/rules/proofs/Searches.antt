@@ -16,12 +16,12 @@ use Rattle.rules.specs.Searches.{lookedAt, stepsOf}
 
 pub steps-most : (year : ℕ) (o : Ordinativo) (rs : List Record) → stepsOf year o rs ≤ length rs
 unfolding stepsOf
-steps-most year o rs = lined (lineCode (o .lines) (o .total))
+steps-most year o rs = lined (lineCode (o .lines) (o .total)) (looked (findIn rs 0 (keyFor year o)) refl)
   where
     looked : (f : Found) → findIn rs 0 (keyFor year o) ≡ f → lookedAt rs f ≤ length rs
     looked (At i) e = omega (arith, found-below rs (keyFor year o) i noRecord e)
     looked Nothing e = omega arith
 
-    lined : (code : ℕ) → unless (λ c. 0) code (lookedAt rs (findIn rs 0 (keyFor year o))) ≤ length rs
-    lined zero = looked (findIn rs 0 (keyFor year o)) refl
-    lined (suc code) = omega arith
+    lined : (code : ℕ) {n : ℕ} → n ≤ length rs → unless (λ c. 0) code n ≤ length rs
+    lined zero n≤ = n≤
+    lined (suc code) n≤ = omega arith

@@ -1,10 +1,10 @@
 use borrow.Author.Needs.{needs}
 use Prim.Native.Nat.{_≤_}
 use native.Mathlib.Omega.{arith}
-use Rattle.cases_desk.proofs.last_column.Statement.{statement}
-use Rattle.cases_desk.proofs.last_column.Tie as tie
-use Rattle.cases_desk.proofs.last_column.Reads as reads
-use Rattle.cases_desk.proofs.last_column.Lts as lts
+use Rattle.casebook.proofs.last_column.Statement.{statement}
+use Rattle.casebook.proofs.last_column.Tie as tie
+use Rattle.casebook.proofs.last_column.Reads as reads
+use Rattle.casebook.proofs.last_column.Lts as lts
 
 abbrev Inv-loop : tie.InvT-loop
 Inv-loop s a e i₀ i = (a ≤ i) × (i ≤ e)
