@@ -1,6 +1,6 @@
 #!/usr/bin/env bash
-# A day at the desk for two schools, 000471 and 471: flows, a refusal explained, messages, the bank's notices, its journal, totals, and how the
-# day's table can be made again from its log. What it prints is examples/day.out. The program is $HONDIVOLE, or 'hondivole' of the PATH.
+# A day at the desk for two schools, 000471 and 471: flows, a refusal explained, messages, the bank's notices, its journal, totals, a year closed,
+# and how the day's table can be made again from its log. What it prints is examples/day.out. The program is $HONDIVOLE, or 'hondivole' of the PATH.
 set -u
 examples=$(cd "$(dirname "$(readlink -f "${BASH_SOURCE[0]}")")" && pwd -P)
 program=${HONDIVOLE:-hondivole}
@@ -73,6 +73,21 @@ hondivole totals desk.table
 hondivole list desk.table 000471
 hondivole totals desk.table 471 --json
 hondivole check desk.table
+
+told "The first school closes 2021. That can be done once no order of the year waits."
+hondivole close desk.table 000471 2021
+hondivole execute desk.table 000471 mandato 2021 12 2 2021-12-30
+hondivole execute desk.table 000471 reversale 2021 12 1 2021-12-30
+hondivole totals desk.table 000471
+hondivole close desk.table 000471 2021
+
+told "Its orders of 2021 are gone and their slots free, totals speak of what is left, and a late flow of that year is refused. The second is as it was."
+hondivole totals desk.table
+hondivole list desk.table 000471
+hondivole flow desk.table pascoli.xml
+hondivole reverse desk.table 000471 mandato 2021 12 1 2021-12-31
+sed 's/<esercizio>2021</<esercizio>2022</' pascoli.xml > pascoli-2022.xml
+hondivole flow desk.table pascoli-2022.xml
 
 told "Where did these balances come from? Every call of the log, made again, gives the same table."
 hondivole replay desk.table.log again.table

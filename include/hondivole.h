@@ -5,9 +5,9 @@
  *
  * Six functions open an order table, convert one of the old form, take a body's flow of payment and collection orders, take the bank's
  * notices of execution and reversal, and report a body's totals. A seventh checks the bank's cash journal against a body's executed lines,
- * an eighth repairs a damaged table. Two answer questions about dates. Three write the outcome message of a flow for the school, read one,
- * and write again what was read. Each answers with a code: 0, or the number of a refusal in the list below. A fourteenth shows the field that
- * a flow was refused for.
+ * an eighth closes a year of a body's books, a ninth repairs a damaged table. Two answer questions about dates. Three write the outcome
+ * message of a flow for the school, read one, and write again what was read. Each answers with a code: 0, or the number of a refusal in the
+ * list below. A fifteenth shows the field that a flow was refused for.
  * Each checks its own inputs: tables, flows, messages, journals, requests, codes and numbers may be any bytes and any values. Each writes
  * all its results on every path. What stands below them, written in C and not proved, says codes in words and lays out a request.
  * None reads or writes anything but the buffers and results it is lent, and none keeps anything from one call to the next, so that
@@ -40,7 +40,7 @@
 extern "C" {
 #endif
 
-/* The codes: of calls (1 to 10, 16, 17, 20 to 23, 27 to 35, 40, 41) and of orders (12 to 19, 24 to 26). 11 is given no more. */
+/* The codes: of calls (1 to 10, 16, 17, 20 to 23, 27 to 41) and of orders (12 to 19, 24 to 26). 11 is given no more. */
 enum hondivole_code {
     HONDIVOLE_DONE = 0,                 /* nothing is refused */
     HONDIVOLE_TABLE_NOT_VALID = 1,      /* the table isn't valid */
@@ -77,6 +77,10 @@ enum hondivole_code {
     HONDIVOLE_LINE_MISSING = 33,        /* journal: an executed line is missing */
     HONDIVOLE_CONTENTS_NOT_VALID = 34,  /* salvage: the table's head or entries aren't valid */
     HONDIVOLE_REPORT_TOO_SHORT = 35,    /* salvage: the report doesn't fit */
+    HONDIVOLE_YEAR_CLOSED = 36,         /* flow, close: the body has closed this year, or a later one */
+    HONDIVOLE_NO_YEAR_SERVED = 37,      /* close: not a year of 2000 to 2099 */
+    HONDIVOLE_EARLIER_YEAR_REMAINS = 38, /* close: a record of an earlier year remains */
+    HONDIVOLE_LINE_WAITING = 39,        /* close: an acquired order of the year has a waiting line */
     HONDIVOLE_BUFFER_TOO_SHORT = 40,    /* the buffer is shorter than the message or its values */
     HONDIVOLE_VALUES_WRONG = 41         /* the outcome bytes aren't this flow's, or a caller's value has a wrong form */
 };
@@ -146,6 +150,7 @@ enum {
 #define HONDIVOLE_TOTALS_STACK 8192u
 #define HONDIVOLE_JOURNAL_STACK 32768u
 #define HONDIVOLE_SALVAGE_STACK 16384u
+#define HONDIVOLE_CLOSE_STACK 16384u
 #define HONDIVOLE_FIELD_AT_STACK 8192u
 #define HONDIVOLE_MESSAGE_WRITE_STACK 49152u
 #define HONDIVOLE_MESSAGE_READ_STACK 73728u
@@ -163,8 +168,8 @@ uint64_t hondivole_open(const uint8_t *request, size_t request_len, uint8_t *tab
 /*
  * Converts a table 1, of entries of 32 bytes and the number 1 in its head, into a table 2, in a second buffer of exactly the length that
  * HONDIVOLE_CONVERTED_BYTES says. It answers 0 and fills the whole second buffer, whatever it held, with the same bank, bodies and records,
- * each entry keeping the cents paid and collected of its body's records; or 1 when the old table isn't a valid table 1, or 10 when the second
- * buffer's length isn't right. It never changes the old table, and no byte with 1 or 10. Every other call takes tables 2 alone.
+ * each entry keeping the cents paid and collected of its body's records and no closed year; or 1 when the old table isn't a valid table 1, or
+ * 10 when the second buffer's length isn't right. It never changes the old table, and no byte with 1 or 10. Every other call takes tables 2 alone.
  */
 uint64_t hondivole_convert(const uint8_t *old, size_t old_len, uint8_t *table, size_t table_len);
 
@@ -176,7 +181,7 @@ uint64_t hondivole_convert(const uint8_t *old, size_t old_len, uint8_t *table, s
  * name an executed line of the same kind and body, of equal amount: that one becomes replaced, for good, and the new one is executed at once,
  * so that no cash moves. Each order has written
  * 16 outcome bytes: 0 kind, 1 operation (1 INSERIMENTO, 2 VARIAZIONE, 3 ANNULLO, 4 SOSTITUZIONE), 2 code (0, 12 to 19, 24 to 26), 3 lines, 4-7
- * number, 8-15 total, numbers with the highest byte first. Otherwise it answers the first code of 1, 23 and 2 to 8 that applies, with *orders, *accepted
+ * number, 8-15 total, numbers with the highest byte first. Otherwise it answers the first code of 1, 23, 2 to 7, 36 (the body has closed the flow's esercizio, or a later year) and 8 that applies, with *orders, *accepted
  * and *steps 0, and *place and *cause 0 but for code 5, where *place is the byte of `<` of the first element whose field breaks, counted
  * from 0, and *cause what is wrong with that field, 1 to 4: hondivole_cause_text says it in words. It never changes table or outcomes with
  * a code other than 0, never changes the record of a refused order or of another body, and never writes outcome bytes past the last
@@ -221,7 +226,8 @@ uint64_t hondivole_days_between(uint64_t year, uint64_t month, uint64_t day, uin
 
 /*
  * Reports a body's totals. It answers 0 with *used, the body's used slots (an annulled order keeps its slot), *paid and *collected, the
- * cents of executed lines of its mandati and of its reversali, replaced ones not counted, and *balance, collected less paid, which may be below zero; or 1 (table
+ * cents of executed lines of its mandati and of its reversali, replaced ones not counted, and *balance, collected less paid, which may be below zero; they speak of the orders that are in the table, so that
+ * those of a year fall away when it is closed; or 1 (table
  * not valid) or 7 (no such body), all four being 0. It never changes the table.
  */
 uint64_t hondivole_totals(const uint8_t *table, size_t table_len, const uint8_t *body, size_t body_len, uint64_t *used, uint64_t *paid,
@@ -241,9 +247,20 @@ uint64_t hondivole_journal(const uint8_t *table, size_t table_len, const uint8_t
                            size_t movements_len);
 
 /*
+ * Closes a year of a body's books: the body's orders of that esercizio are removed, the others move up in their order, and the freed slots are
+ * used by later orders. The entry holds the year, and what it keeps of cents is that of the orders still there. From then on a flow of that
+ * or an earlier esercizio is answered 36, and notices, replacement lines and journals that name one of its orders find none (16, 24, 30). It
+ * answers 0, *removed being how many orders were removed, annulled ones among them; or the first of 1 (table not valid), 7 (no such body), 37
+ * (not a year of 2000 to 2099), 36 (not later than the last one closed), 38 (an order of an earlier year remains, an annulled one too) and 39
+ * (an acquired order of that year has a waiting line) that applies, *removed being 0. It changes the body's slots and bytes 24 to 41 of its
+ * entry, and no other byte, and none on a refusal. A year that is closed is never opened again.
+ */
+uint64_t hondivole_close(uint8_t *table, size_t table_len, const uint8_t *body, size_t body_len, uint64_t year, uint64_t *removed);
+
+/*
  * Repairs a table that every call answers with 1, as far as its head and entries are valid but for the cents that the entries keep. Of each
- * body's slots, in order, it keeps those whose record is valid by itself and has a key (kind, esercizio, number) that hasn't been kept
- * earlier in that body; it blanks the others, moves the kept ones up to the body's first slots in their order, and sets the kept cents anew.
+ * body's slots, in order, it keeps those whose record is valid by itself, is of a year later than the one that the body closed
+ * last, and has a key (kind, esercizio, number) that hasn't been kept earlier in that body; it blanks the others, moves the kept ones up to the body's first slots in their order, and sets the kept cents anew.
  * It answers 0 with *blanked, how many slots were blanked; a slot that was all zero isn't blanked. The table is then valid, and a valid one
  * comes out the same. The report, whose bytes past it stay, says what was lost: first for each body, in the order of the entries, two bytes
  * with how many of its kept records stand in another slot now; then for each blanked slot, in the order of the table, four bytes with the
@@ -348,6 +365,10 @@ static inline const char *hondivole_code_text(uint64_t code)
     case HONDIVOLE_LINE_MISSING: return "an executed line is missing in the journal";
     case HONDIVOLE_CONTENTS_NOT_VALID: return "the table's head or entries aren't valid";
     case HONDIVOLE_REPORT_TOO_SHORT: return "the buffer is shorter than the report";
+    case HONDIVOLE_YEAR_CLOSED: return "the body has closed this year, or a later one";
+    case HONDIVOLE_NO_YEAR_SERVED: return "no year of 2000 to 2099";
+    case HONDIVOLE_EARLIER_YEAR_REMAINS: return "the body has an order of an earlier year";
+    case HONDIVOLE_LINE_WAITING: return "an acquired order of this year has a waiting line";
     default: return "no code of the order desk";
     }
 }

@@ -24,6 +24,7 @@ uint64_t all(uint8_t *table, size_t length, const uint8_t *flow, uint64_t *numbe
     code += hondivole_totals(table, length, flow, 0, numbers, numbers + 1, numbers + 2, balance);
     code += hondivole_journal(table, length, flow, 0, flow, HONDIVOLE_MOVEMENT_BYTES * HONDIVOLE_MOST_MOVEMENTS);
     code += hondivole_salvage(table, HONDIVOLE_TABLE_BYTES(1, 1), table + HONDIVOLE_TABLE_BYTES(1, 1), HONDIVOLE_REPORT_BYTES(1, 1), numbers);
+    code += hondivole_close(table, length, flow, 0, 2021, numbers);
     code += hondivole_first_target_day(2021, 4, 2, numbers, numbers + 1, numbers + 2) + HONDIVOLE_MOST_REPORT_BYTES;
     code += hondivole_days_between(2021, 4, 2, 2021, 4, 6, balance);
     hondivole_field_at(flow, 0, 0, numbers, numbers + 1, numbers + 2, numbers + 3);

@@ -203,6 +203,14 @@ uint64_t hondivole_salvage(uint8_t *table, size_t table_len, uint8_t *report, si
     return answer.code;
 }
 
+uint64_t hondivole_close(uint8_t *table, size_t table_len, const uint8_t *body, size_t body_len, uint64_t year, uint64_t *removed)
+{
+    struct call call = {.function = CLOSE, .lengths = {table_len, body_len, 0}, .numbers = {year}};
+    struct answer answer = forward(&call, table, body, none);
+    *removed = answer.results[0];
+    return answer.code;
+}
+
 void hondivole_field_at(const uint8_t *flow, size_t flow_len, uint64_t place, uint64_t *name, uint64_t *name_len, uint64_t *text,
                         uint64_t *text_len)
 {

@@ -181,6 +181,8 @@ static uint64_t make(const struct call *call)
         return hondivole_journal(table, table_len, input, n[0], input + n[0], input_len - n[0]);
     case SALVAGE:
         return hondivole_salvage(table, table_len, outcomes, outcomes_len, results[0]);
+    case CLOSE:
+        return hondivole_close(table, table_len, input, input_len, n[0], results[0]);
     case FIELD_AT:
         hondivole_field_at(input, input_len, n[0], results[0], results[1], results[2], results[3]);
         return 0;

@@ -22,6 +22,7 @@ enum function {
     TOTALS,
     JOURNAL,
     SALVAGE,
+    CLOSE,
     FIELD_AT,
     FIRST_TARGET_DAY,
     DAYS_BETWEEN,
@@ -50,7 +51,7 @@ static inline int writes_outcomes(uint64_t function)
 struct call {
     uint64_t function;
     uint64_t lengths[BUFFERS];
-    uint64_t numbers[7]; /* a notice's kind, esercizio, number, line, year, month and day; a flow's or message's edition; a field's place; dates */
+    uint64_t numbers[7]; /* a notice's kind, esercizio, number, line, year, month and day; a flow's or message's edition; a field's place; a year; dates */
 };
 
 struct answer {
@@ -60,7 +61,8 @@ struct answer {
 
 static const char *const function_names[FUNCTIONS] = {"hondivole_open", "hondivole_convert", "hondivole_flow", "hondivole_execute",
                                                       "hondivole_reverse", "hondivole_totals", "hondivole_journal", "hondivole_salvage",
-                                                      "hondivole_field_at", "hondivole_first_target_day", "hondivole_days_between",
+                                                      "hondivole_close", "hondivole_field_at", "hondivole_first_target_day",
+                                                      "hondivole_days_between",
                                                       "hondivole_message_write", "hondivole_message_read", "hondivole_message_rewrite"};
 
 #endif

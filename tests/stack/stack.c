@@ -163,6 +163,8 @@ static void call_journal(void)
     code = hondivole_journal(table, table_len, body, sizeof body, table, 0);
 }
 static void call_salvage(void) { code = hondivole_salvage(table, table_len, report, sizeof report, &results[0]); }
+static uint64_t close_year = 2021;
+static void call_close(void) { code = hondivole_close(table, table_len, body, sizeof body, close_year, &results[0]); }
 static void call_field_at(void)
 {
     hondivole_field_at(flow, flow_len, 0, &results[0], &results[1], &results[2], &results[3]);
@@ -312,6 +314,22 @@ int main(void)
     hold("salvage of two slots", call_salvage, 0, HONDIVOLE_SALVAGE_STACK);
     hold("salvage of a valid table", call_salvage, 0, HONDIVOLE_SALVAGE_STACK);
     hold("totals of the repaired table", call_totals, 0, HONDIVOLE_TOTALS_STACK);
+    hold("close of a year that waits", call_close, 39, HONDIVOLE_CLOSE_STACK);
+    /* Every order of the first body annulled, its state being byte 1 of its slot, its line states bytes 24 to 31; all amounts are 0. */
+    for (size_t at = 112; at < 112 + 96 * 300 && table[at] != 0; at += 96) {
+        table[at + 1] = 2;
+        for (size_t line = 0; line < table[at + 2]; line++)
+            table[at + 24 + line] = 1;
+    }
+    close_year = 2020;
+    hold("close of a year without orders", call_close, 0, HONDIVOLE_CLOSE_STACK);
+    close_year = 2021;
+    hold("close of a year", call_close, 0, HONDIVOLE_CLOSE_STACK);
+    if (results[0] == 0)
+        wrong = 1;
+    hold("close once more", call_close, 36, HONDIVOLE_CLOSE_STACK);
+    hold("flow of a closed year", call_flow, 36, HONDIVOLE_FLOW_STACK);
+    hold("totals of what is left", call_totals, 0, HONDIVOLE_TOTALS_STACK);
     table[3] = 1;
     hold("salvage of a damaged head", call_salvage, 34, HONDIVOLE_SALVAGE_STACK);
     say(wrong ? "a call answered otherwise\n" : "each call is made on the stack that the header states\n");

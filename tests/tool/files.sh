@@ -44,7 +44,7 @@ for words in "" "nothing" "open" "open n 471:4" "open n --abi" "open n --abi 012
   "flow t" "flow" "flow t $run --edition 3" "flow t $run --other" "flow t $run $run --message m.xml" "flow t $run --value codice_ente=U" \
   "flow t $run --message m.xml --value no=U" "execute t 471 mandato 2021 1 1" "execute t 471 order 2021 1 1 2021-03-03" \
   "execute t 471 mandato 2021 1 x 2021-03-03" "execute t 471 mandato 2021 1 1 3.3.2021" "execute t 471 mandato 2021 1 1 2021-03-03 more" \
-  "totals" "totals t 471 471" "list t" "journal t 471" "convert t" "check" "check t t" "replay t.log" "help nothing"; do
+  "totals" "totals t 471 471" "close t 471" "close t 471 x" "close t 471 2021 more" "close t 471 65536" "list t" "journal t 471" "convert t" "check" "check t t" "replay t.log" "help nothing"; do
   # shellcheck disable=SC2086
   is 2 "$tool" $words
   holds err_has usage
@@ -52,7 +52,7 @@ done
 holds absent n
 holds absent m.xml
 holds same t fresh
-for command in open flow execute reverse totals list journal convert salvage check replay; do
+for command in open flow execute reverse totals list journal close convert salvage check replay; do
   is 0 "$tool" "$command" --help
   holds out_has "usage: hondivole $command"
   holds grep -q "^\.BR \"$command " "$root/docs/man/hondivole.1"
@@ -162,6 +162,59 @@ holds out_has "refused, 31"
 printf 'mandato 2021 12 1\n' > j
 is 3 "$tool" journal t 000471 j
 holds err_has "j: line 1 is no KIND"
+
+# Years closed: each refusal, what is left, and the same from the log.
+is 0 "$tool" open y --abi 01234 000471:1 471:4
+is 0 "$tool" flow y "$run"
+sed 's/<esercizio>2021</<esercizio>2022</' "$run" > run-2022.xml
+cp y before
+for words in "000471 1999:37: no year of 2000 to 2099" "000471 2100:37: no year of 2000 to 2099" "0471 2021:7: no body of the table has this code" \
+  "000471 2022:38: the body has an order of an earlier year" "000471 2021:39: an acquired order of this year has a waiting line"; do
+  # shellcheck disable=SC2086
+  is 1 "$tool" close y ${words%%:*}
+  holds out_has "${words%%:*}: refused, ${words#*:}"
+  holds same y before
+done
+is 0 "$tool" flow y run-2022.xml
+holds out_has "refused, 15: the body has no empty slot"
+for line in 1 2; do
+  is 0 "$tool" execute y 000471 mandato 2021 12 "$line" 2021-03-03
+done
+is 0 "$tool" close y 000471 2021
+holds out_has "000471 2021: closed, 1 order removed"
+is 0 "$tool" list y 000471
+holds out_has "000471: 0 orders in 1 slot, closed up to 2021"
+is 0 "$tool" list y 471
+holds out_has "471: 0 orders in 4 slots"
+is 0 "$tool" totals y 000471
+holds out_has "000471: 0 slots used, paid 0.00"
+is 1 "$tool" close y 000471 2021
+holds out_has "refused, 36: the body has closed this year, or a later one"
+is 1 "$tool" flow y "$run"
+holds out_has "refused, 36: the body has closed this year, or a later one"
+is 1 "$tool" reverse y 000471 mandato 2021 12 1 2021-03-03
+holds out_has "refused, 16"
+is 0 "$tool" flow y run-2022.xml
+holds out_has "taken, 1 of 2 orders accepted"
+is 0 "$tool" list y 000471 --json
+holds json
+holds out_has '"slots":1,"closed":2021,"orders":[{"kind":"mandato","esercizio":2022'
+is 1 "$tool" close y 000471 2022 --json
+holds json
+holds out_has '{"taken":false,"code":39,"refusal":"an acquired order of this year has a waiting line","removed":0}'
+is 0 "$tool" close y 471 2099 --json
+holds out_has '{"taken":true,"code":0,"removed":0}'
+is 0 "$tool" check y
+holds out_has "close 471 2099, code 0"
+is 0 "$tool" replay y.log y-again
+holds same y y-again
+# A record of a closed year is none of a valid table, and a repair blanks it: byte 41 of the first entry is the year's lower one.
+printf '\346' | dd of=y-again bs=1 seek=$((16 + 41)) conv=notrunc status=none
+is 1 "$tool" totals y-again
+is 0 "$tool" salvage y-again y-repaired
+holds out_has "the slot at byte 112 of y-again: blanked"
+is 0 "$tool" list y-repaired 000471
+holds out_has "000471: 0 orders in 1 slot, closed up to 2022"
 
 # A table of the old form; a table that was there before its log.
 is 0 "$tool" convert "$root/examples/table-1.bin" c
@@ -402,13 +455,15 @@ if "${as_user[@]}" "$tool" totals fresh > /dev/null 2>&1; then
   is 3 "${as_user[@]}" "$tool" open closed/n --abi 01234 471:4
   chmod 000 closed/t
   is 3 "${as_user[@]}" "$tool" totals closed/t
-  # A lock that can't be opened is a lock.
-  chmod 755 closed
+  # A lock that can't be opened is a lock; whoever only looks needs none.
+  chmod 777 closed
   chmod 644 closed/t
   : > closed/t.lock
   chmod 000 closed/t.lock
-  is 3 "${as_user[@]}" "$tool" check closed/t
+  is 0 "${as_user[@]}" "$tool" check closed/t
+  is 3 "${as_user[@]}" "$tool" flow closed/t run.xml
   holds err_has "t.lock: Permission denied"
+  holds same closed/t fresh
 else
   echo "tests/tool/files.sh: nobody else can run the program here, so permissions were not tried"
 fi

@@ -1,6 +1,6 @@
 //! A table file under its lock: calls are logged, then the table is replaced, then the answer is given.
 
-use std::fs::{self, File, Metadata, TryLockError};
+use std::fs::{self, File, Metadata};
 use std::path::Path;
 
 use crate::call::{Answer, Call};
@@ -15,8 +15,10 @@ use crate::words;
 /// A table that this process alone may change.
 pub struct Desk {
     place: Place,
-    /// Closing it gives the lock back, whichever way the process ends.
-    _lock: File,
+    /// What others wait for. Closing it gives the lock back, whichever way the process ends.
+    lock: File,
+    /// The table's own file, locked too: it holds others up where somebody removed the lock file, and another was made.
+    held: Option<File>,
     /// The file's bytes; none where there is no file yet.
     table: Vec<u8>,
     log: Option<Log>,
@@ -27,8 +29,9 @@ impl Desk {
     pub fn of_table(path: &Path, say: Say) -> Result<Desk, Fault> {
         let place = Place::of_table(path)?.named()?;
         let lock = locked(&place, say)?;
-        let table = disk::read(&place.table, MOST_TABLE_BYTES)?;
-        Ok(Desk { place, _lock: lock, table, log: None })
+        let held = disk::locked(&place.table, || disk::open_to_lock(&place.table), || waits(&place, say))?;
+        let table = disk::read_from(&held, &place.table, MOST_TABLE_BYTES)?;
+        Ok(Desk { place, lock, held: Some(held), table, log: None })
     }
 
     /// Makes a new table by a call that needs none. One that is refused leaves no file.
@@ -46,7 +49,7 @@ impl Desk {
         let lock = locked(&place, say)?;
         // Another process may have made it before it gave the lock back.
         Place::of_new(path)?;
-        Ok(Desk { place, _lock: lock, table: Vec::new(), log: None })
+        Ok(Desk { place, lock, held: None, table: Vec::new(), log: None })
     }
 
     /// Makes a call. When it is back, entry and table are on disk. Where it fails, the table is as before, unless the fault says otherwise.
@@ -62,6 +65,7 @@ impl Desk {
         if taken.answer.code == 1 || taken.table.is_empty() {
             return Ok(taken.answer);
         }
+        self.ours()?;
         let before = digest(&self.table);
         let mut log = match self.log.take() {
             Some(log) => log,
@@ -96,6 +100,7 @@ impl Desk {
 
     /// Puts a table there that comes from a log: its calls are logged already.
     pub fn put(&mut self, table: &[u8]) -> Result<(), Fault> {
+        self.ours()?;
         self.replaced(table)?;
         let unsure = |fault: Fault| fault.after("the table is made, but may be lost with the power: ");
         sync_folder(&self.place.folder).map_err(unsure)
@@ -113,8 +118,23 @@ impl Desk {
         Ok(log)
     }
 
-    fn replaced(&self, table: &[u8]) -> Result<(), Fault> {
-        Draft::write(&self.place.table, table, self.like().as_ref())?.rename()
+    fn replaced(&mut self, table: &[u8]) -> Result<(), Fault> {
+        self.held = Draft::write(&self.place.table, table, self.like().as_ref())?.rename_locked()?;
+        Ok(())
+    }
+
+    /// Holds that the table is still this process's: nobody put another file in its place. Where there is no table yet, the lock file has to be
+    /// the one that was locked.
+    fn ours(&self) -> Result<(), Fault> {
+        let (file, path) = match &self.held {
+            Some(held) => (held, &self.place.table),
+            None => (&self.lock, &self.place.lock),
+        };
+        match disk::is_named(file, path) {
+            Ok(true) => Ok(()),
+            Ok(false) => Err(Fault::file(path, "somebody removed or replaced this file meanwhile: nothing is changed")),
+            Err(error) => Err(Fault::file(path, error)),
+        }
     }
 }
 
@@ -124,16 +144,11 @@ fn like(place: &Place) -> Option<Metadata> {
 
 /// Takes the lock, and says so where it has to wait.
 fn locked(place: &Place, say: Say) -> Result<File, Fault> {
-    let lock = disk::open_or_make(&place.lock, like(place).as_ref()).map_err(|error| Fault::file(&place.lock, error))?;
-    match lock.try_lock() {
-        Ok(()) => Ok(lock),
-        Err(TryLockError::WouldBlock) => {
-            say.progress(&format!("{}: waiting for another process", words::path(&place.table)));
-            lock.lock().map_err(|error| Fault::file(&place.lock, error))?;
-            Ok(lock)
-        }
-        Err(TryLockError::Error(error)) => Err(Fault::file(&place.lock, error)),
-    }
+    disk::locked(&place.lock, || disk::open_or_make(&place.lock, like(place).as_ref()), || waits(place, say))
+}
+
+fn waits(place: &Place, say: Say) {
+    say.progress(&format!("{}: waiting for another process", words::path(&place.table)));
 }
 
 /// The bytes of a table that is only looked at. No lock is needed: a table's file is never changed, but replaced.

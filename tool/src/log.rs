@@ -186,11 +186,77 @@ impl Entries {
         Ok(torn.then_some(left))
     }
 
+    /// Goes back to where an entry began, or to the end of those read so far, to read again what others may have written since.
+    fn back_to(&mut self, start: u64) -> io::Result<()> {
+        self.end = start;
+        self.from.seek(SeekFrom::Start(start)).map(|_| ())
+    }
+
     /// So many bytes, or what is left.
     fn some(&mut self, count: usize) -> io::Result<Vec<u8>> {
         let mut bytes = Vec::new();
         (&mut self.from).take(count as u64).read_to_end(&mut bytes)?;
         Ok(bytes)
+    }
+}
+
+/// Where a log leads.
+pub struct Led {
+    /// Whether it is to the table that is there; `None` where there is none, or no entry.
+    pub here: Option<bool>,
+    /// How many bytes behind the whole entries are what is left of a torn one, or what is written just now.
+    pub torn: u64,
+    /// Where the whole entries end.
+    pub end: u64,
+}
+
+/// Reads a log from its beginning and gives each entry that counts to `each`, while another process may be adding to it: no lock is taken, so that
+/// nobody is held up. `table` tells the digest of the table beside the log as it is now. The log is read before the table, and an entry is
+/// on disk before its table is: so a last entry whose table isn't there yet did not count when this was read. Whatever else doesn't fit may be
+/// another process's work, and is read again until nothing has changed between two looks.
+pub fn led(
+    path: &Path,
+    mut table: impl FnMut() -> Option<u64>,
+    mut each: impl FnMut(Entry) -> Result<(), String>,
+) -> Result<Led, Fault> {
+    let fault = |error| Fault::file(path, error);
+    let mut given = |entry: Entry| {
+        let number = entry.number;
+        each(entry).map_err(|what| Fault::file(path, format!("entry {number}: {what}")))
+    };
+    let mut entries = Entries::of(path)?;
+    // The last entry read, and where it began; and what was there at the last look.
+    let (mut last, mut looked): (Option<(Entry, u64)>, _) = (None, None);
+    loop {
+        let begins = entries.end;
+        if let Next::Whole(entry) = entries.next().map_err(fault)? {
+            // An entry that another one follows on counts: a torn one, and one without its table, are cut off before.
+            if let Some((counts, _)) = last.replace((*entry, begins)) {
+                given(counts)?;
+            }
+            continue;
+        }
+        let end = entries.end;
+        let size = entries.from.get_ref().metadata().map_err(fault)?.len();
+        let torn = entries.torn().map_err(fault)?;
+        let now = table();
+        let here = last.as_ref().zip(now).map(|((last, _), now)| last.after == now);
+        let ahead = here == Some(false)
+            && torn == Some(0)
+            && last.as_ref().is_some_and(|(last, _)| last.number > 1 && Some(last.before) == now);
+        if (torn.is_none() || here == Some(false) && !ahead) && looked != Some((size, now)) {
+            looked = Some((size, now));
+            entries.back_to(last.take().map_or(end, |(_, began)| began)).map_err(fault)?;
+            continue;
+        }
+        let torn = torn.ok_or_else(|| Fault::file(path, format!("from byte {end} on this is no log")))?;
+        if ahead {
+            return Ok(Led { here: Some(true), torn, end });
+        }
+        if let Some((last, _)) = last {
+            given(last)?;
+        }
+        return Ok(Led { here, torn, end });
     }
 }
 
@@ -355,6 +421,55 @@ mod tests {
         assert!(Log::open(&path, None, 1).is_err());
         let log = Log::open(&path, None, 2).unwrap();
         assert_eq!((log.next, log.end), (3, (2 * whole[0].len()) as u64));
+        std::fs::remove_file(&path).unwrap();
+    }
+
+    /// A log that grows, or whose last entry is cut off and written anew, between the look at it and the look at its table.
+    #[test]
+    fn led_while_others_write() {
+        let path = std::env::temp_dir().join(format!("hondivole-led-{}", std::process::id()));
+        let [one, two, three, other] = [entry(1, 0, 1), entry(2, 1, 2), entry(3, 2, 3), entry(2, 1, 7)].map(|entry| entry.bytes());
+        let whole = [&one[..], &two, &three].concat();
+        // What stands there at first, what another process leaves there just before the table is looked at, and that table; then what has to count.
+        let cases: [(&[u8], &[u8], u64, &[u64]); 9] = [
+            (&whole, &whole, 3, &[1, 2, 3]),
+            // The last entry's table isn't there yet.
+            (&whole, &whole, 2, &[1, 2]),
+            // An entry that is half written, and its table isn't there; or both are, in the meantime.
+            (&whole[..whole.len() - 9], &whole[..whole.len() - 9], 2, &[1, 2]),
+            (&whole[..whole.len() - 9], &whole, 2, &[1, 2]),
+            (&whole[..whole.len() - 9], &whole, 3, &[1, 2, 3]),
+            (&whole[..2 * one.len() + 20], &whole, 3, &[1, 2, 3]),
+            // Two calls more.
+            (&one, &whole, 3, &[1, 2, 3]),
+            // A call that did not reach the table is cut off, and another one made.
+            (&whole[..2 * one.len()], &[&one[..], &other].concat(), 7, &[1, 2]),
+            (&whole[..2 * one.len()], &one, 1, &[1]),
+        ];
+        for (i, (first, then, table, counts)) in cases.into_iter().enumerate() {
+            std::fs::write(&path, first).unwrap();
+            let mut seen = Vec::new();
+            let mut after = 0;
+            let look = || {
+                if std::fs::read(&path).unwrap() != then {
+                    std::fs::write(&path, then).unwrap();
+                }
+                Some(table)
+            };
+            let led = led(&path, look, |entry| {
+                after = entry.after;
+                seen.push(entry.number);
+                Ok(())
+            });
+            assert_eq!((led.unwrap().here, &seen[..], after), (Some(true), counts, table), "{i}");
+        }
+        // Another table, none, and damage.
+        std::fs::write(&path, &whole).unwrap();
+        assert_eq!(led(&path, || Some(9), |_| Ok(())).unwrap().here, Some(false));
+        assert_eq!(led(&path, || None, |_| Ok(())).unwrap().here, None);
+        assert!(led(&path, || Some(3), |_| Err("no".into())).is_err());
+        std::fs::write(&path, [&one[..], b"entry x"].concat()).unwrap();
+        assert!(led(&path, || Some(1), |_| Ok(())).is_err());
         std::fs::remove_file(&path).unwrap();
     }
 

@@ -9,6 +9,8 @@ pub struct Body {
     pub code: String,
     /// How many slots it has.
     pub slots: usize,
+    /// The last year that it closed; 0 before the first.
+    pub closed: u64,
     /// Where its first slot stands.
     place: usize,
 }
@@ -74,6 +76,7 @@ pub fn bodies(table: &[u8]) -> Vec<Body> {
     let body = |entry: &[u8]| Body {
         code: String::from_utf8_lossy(&entry[1..1 + usize::from(entry[0])]).into_owned(),
         slots: number(entry, 18, 2) as usize,
+        closed: number(entry, 40, 2),
         place: number(entry, 20, 4) as usize,
     };
     entries.map(body).collect()

@@ -1,4 +1,4 @@
-//! The fourteen C functions as `include/hondivole.h` declares them.
+//! The fifteen C functions as `include/hondivole.h` declares them.
 //!
 //! All but [`hondivole_field_at`] answer with a code (0, or the number of a [`Refusal`](crate::Refusal)); each writes all its results on every path.
 //!
@@ -119,6 +119,14 @@ unsafe extern "C" {
         movements: *const u8,
         movements_len: usize,
     ) -> u64;
+
+    /// Closes a year of a body's books: see [`Table::close`](crate::Table::close).
+    ///
+    /// # Safety
+    ///
+    /// Each pointer is good for its length, the last for one number; `table` and `removed` can be written, and no two of all these overlap.
+    pub fn hondivole_close(table: *mut u8, table_len: usize, body: *const u8, body_len: usize, year: u64, removed: *mut u64)
+    -> u64;
 
     /// Repairs a damaged table: see [`Table::salvage`](crate::Table::salvage).
     ///

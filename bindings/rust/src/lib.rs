@@ -4,7 +4,8 @@
 //! ([`Table::flow`]); each order is accepted or refused. The bank notifies executions and reversals of lines ([`Table::execute`],
 //! [`Table::reverse`]), and a body's [`Totals`] can be asked for at any time ([`Table::totals`]). Whatever is refused comes back as a
 //! [`Refusal`]. What became of a flow's orders is told to the body in an outcome message ([`write_message`], [`read_message`]).
-//! A table that a disk fault has damaged can be repaired ([`Table::salvage`]).
+//! A year whose orders are done with is closed ([`Table::close`]), which frees their slots. A table that a disk fault has damaged can be
+//! repaired ([`Table::salvage`]).
 //!
 //! ```
 //! use hondivole::{Date, Edition, Kind, Notice, Refusal, Table};

@@ -158,6 +158,14 @@ pub enum Refusal {
     ContentsNotValid,
     /// 35: a repair's report doesn't fit into its buffer. ([`Table::salvage`](crate::Table::salvage) lends enough, and never gets it.)
     ReportTooShort,
+    /// 36: a flow's year that the body has closed, or an earlier one; a close of a year that isn't later than the last one closed.
+    YearClosed,
+    /// 37: a close of what is no year of 2000 to 2099.
+    NoYearServed,
+    /// 38: a close of a year, and an order of an earlier one remains.
+    EarlierYearRemains,
+    /// 39: a close of a year, and an acquired order of it has a waiting line.
+    LineWaiting,
 }
 
 impl Refusal {
@@ -207,6 +215,10 @@ impl Refusal {
             Refusal::LineMissing => 33,
             Refusal::ContentsNotValid => 34,
             Refusal::ReportTooShort => 35,
+            Refusal::YearClosed => 36,
+            Refusal::NoYearServed => 37,
+            Refusal::EarlierYearRemains => 38,
+            Refusal::LineWaiting => 39,
         }
     }
 
@@ -265,6 +277,10 @@ impl Refusal {
             33 => Refusal::LineMissing,
             34 => Refusal::ContentsNotValid,
             35 => Refusal::ReportTooShort,
+            36 => Refusal::YearClosed,
+            37 => Refusal::NoYearServed,
+            38 => Refusal::EarlierYearRemains,
+            39 => Refusal::LineWaiting,
             _ => return None,
         };
         Some(Err(refusal))
@@ -318,6 +334,10 @@ impl fmt::Display for Refusal {
             Refusal::LineMissing => "an executed line is missing in the journal",
             Refusal::ContentsNotValid => "the table's head or entries aren't valid",
             Refusal::ReportTooShort => "the buffer is shorter than the report",
+            Refusal::YearClosed => "the body has closed this year, or a later one",
+            Refusal::NoYearServed => "no year of 2000 to 2099",
+            Refusal::EarlierYearRemains => "the body has an order of an earlier year",
+            Refusal::LineWaiting => "an acquired order of this year has a waiting line",
         })
     }
 }
@@ -334,7 +354,7 @@ mod tests {
         assert_eq!(Refusal::of_code(11, 0, 0), None);
         assert_eq!(Refusal::of_code(5, 7, 5), None);
         let mut sentences = std::collections::HashSet::new();
-        for code in (1..=10).chain(12..=35).chain(40..=41) {
+        for code in (1..=10).chain(12..=41) {
             let refusal = Refusal::of_code(code, 7, 1).unwrap().unwrap_err();
             assert_eq!(u64::from(refusal.code()), code);
             assert!(sentences.insert(refusal.to_string()));
@@ -344,7 +364,7 @@ mod tests {
     #[test]
     fn the_header_says_the_same() {
         let header = include_str!("../../../include/hondivole.h");
-        for code in (1..=10).chain(12..=35).chain(40..=41).filter(|code| *code != 5) {
+        for code in (1..=10).chain(12..=41).filter(|code| *code != 5) {
             let sentence = Refusal::from_code(code, 0, 0).unwrap().to_string();
             assert!(header.contains(&format!("return \"{sentence}\";")), "{sentence}");
         }

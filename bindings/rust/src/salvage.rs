@@ -53,7 +53,7 @@ impl Salvage {
 
 impl<B: AsMut<[u8]>> Table<B> {
     /// Repairs a damaged table whose head and entries are valid but for the cents that the entries keep. Of each body's slots the first valid
-    /// record of each kind, esercizio and number is kept; these move up in their order, all others are blanked, and the cents are
+    /// record of each kind, esercizio and number is kept, where its esercizio is later than the body's last closed year; these move up in their order, all others are blanked, and the cents are
     /// set anew. The table is then valid; a valid one comes out the same.
     ///
     /// # Errors

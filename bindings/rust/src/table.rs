@@ -311,7 +311,7 @@ impl<B: AsMut<[u8]>> Table<B> {
     ///
     /// # Errors
     ///
-    /// The refusals of codes 1 to 8; neither table nor outcomes change then. An order that is refused is no error: it has its verdict
+    /// The refusals of codes 1 to 8, and 36 between 7 and 8; neither table nor outcomes change then. An order that is refused is no error: it has its verdict
     /// among the [outcomes](FlowAnswer::outcomes).
     ///
     /// ```
@@ -388,6 +388,38 @@ impl<B: AsMut<[u8]>> Table<B> {
     /// ```
     pub fn reverse(&mut self, notice: &Notice) -> Result<u64, Refusal> {
         self.notify(notice, ffi::hondivole_reverse)
+    }
+
+    /// Closes a year of a body's books: its orders of that esercizio are removed, the others move up, and the freed slots are used by later
+    /// orders. The answer is how many were removed, annulled ones among them. A flow of that or an earlier year is refused from then on, and
+    /// [`totals`](Table::totals) speak of the orders still there.
+    ///
+    /// # Errors
+    ///
+    /// The refusals of codes 1, 7, 37, 36, 38 and 39; no byte changes then.
+    ///
+    /// ```
+    /// # use hondivole::{Date, Edition, Kind, Notice, Refusal, Table};
+    /// # let flow = include_bytes!("run.xml").as_slice();
+    /// let mut table = Table::open("01234", &[("000471", 4)])?;
+    /// table.flow(Edition::Oil, flow, &mut [0; 32])?;
+    /// assert_eq!(table.close("000471", 2021), Err(Refusal::LineWaiting));
+    /// let day = Date { year: 2021, month: 3, day: 3 };
+    /// for line in 1..=2 {
+    ///     table.execute(&Notice { body: "000471", kind: Kind::Mandato, esercizio: 2021, number: 12, line, day })?;
+    /// }
+    /// assert_eq!(table.close("000471", 2021), Ok(1));
+    /// assert_eq!(table.flow(Edition::Oil, flow, &mut [0; 32]), Err(Refusal::YearClosed));
+    /// # Ok::<(), Refusal>(())
+    /// ```
+    pub fn close(&mut self, body: &str, year: u16) -> Result<usize, Refusal> {
+        let table = self.bytes.as_mut();
+        let mut removed = 0;
+        // SAFETY: the pointers and lengths are those of slices that don't overlap and of a number that lives here.
+        let code =
+            unsafe { ffi::hondivole_close(table.as_mut_ptr(), table.len(), body.as_ptr(), body.len(), year.into(), &mut removed) };
+        Refusal::answer(code, 0, 0)?;
+        Ok(removed as usize)
     }
 
     /// The table's bytes, for a call that changes them.

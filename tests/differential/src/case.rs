@@ -4,7 +4,7 @@ use std::fmt::{self, Write};
 
 use reference::message::{GIVEN, ReadAnswer, WriteAnswer};
 use reference::table::{HEAD, SLOT, number_at};
-use reference::{FlowAnswer, Form, Notice, NoticeAnswer, SalvageAnswer, Totals};
+use reference::{CloseAnswer, FlowAnswer, Form, Notice, NoticeAnswer, SalvageAnswer, Totals};
 
 /// A table and calls on it, one after another.
 #[derive(Clone, PartialEq, Eq)]
@@ -108,6 +108,13 @@ pub enum Call {
         /// Its movements.
         movements: Vec<u8>,
     },
+    /// Closes a year.
+    Close {
+        /// The body's code.
+        body: Vec<u8>,
+        /// The year.
+        year: u64,
+    },
 }
 
 /// What a call answers.
@@ -131,6 +138,8 @@ pub enum Answer {
     Journal(u64),
     /// The answer to a repair.
     Salvage(SalvageAnswer),
+    /// The answer to a close.
+    Close(CloseAnswer),
 }
 
 impl Answer {
@@ -144,6 +153,7 @@ impl Answer {
             Answer::Write(answer) => answer.code,
             Answer::Read(answer) => answer.code,
             Answer::Salvage(answer) => answer.code,
+            Answer::Close(answer) => answer.code,
         }
     }
 }
@@ -170,6 +180,7 @@ impl Case {
                 16 + message.len() + digits(*edition) + digits(*room as u64)
             }
             Call::Journal { body, movements } => 16 + body.len() + movements.len(),
+            Call::Close { body, year } => 16 + body.len() + digits(*year),
         });
         self.table.len() + calls.sum::<usize>()
     }
@@ -251,6 +262,7 @@ impl fmt::Debug for Call {
             Call::Journal { body, movements } => {
                 write!(to, "Call::Journal {{ body: {}, movements: {} }}", literal(body), literal(movements))
             }
+            Call::Close { body, year } => write!(to, "Call::Close {{ body: {}, year: {year} }}", literal(body)),
         }
     }
 }
@@ -304,6 +316,7 @@ impl fmt::Display for Call {
                 write!(to, "journal body {} of {} bytes", quoted(body), movements.len())?;
                 movements.chunks(16).try_for_each(|movement| write!(to, "\n  {movement:?}"))
             }
+            Call::Close { body, year } => write!(to, "close body {} year {year}", quoted(body)),
         }
     }
 }
@@ -350,13 +363,14 @@ fn table_text(table: &[u8], form: Form) -> String {
         rest = after;
         let _ = write!(
             shown,
-            "\n  body: length {}, code {}, byte 17 {}, slots {}, place {}, rest {:?}",
+            "\n  body: length {}, code {}, byte 17 {}, slots {}, place {}, rest {:?}{}",
             entry[0],
             quoted(&entry[1..17]),
             entry[17],
             number_at(entry, 18, 2),
             number_at(entry, 20, 4),
             &entry[24..],
+            if form == Form::Two { format!(", closed {}", number_at(entry, 40, 2)) } else { String::new() },
         );
     }
     for (index, slot) in rest.chunks(SLOT).enumerate() {

@@ -1,6 +1,6 @@
 //! Cases of every kind, from a generator.
 
-use reference::{Form, Kind, LineState, Notice, Table};
+use reference::{Body, Form, Kind, LineState, Notice, State, Table};
 
 use crate::case::{Call, Case};
 use crate::flows::{self, Size};
@@ -24,7 +24,9 @@ pub enum Theme {
     Conversion,
     /// Tables after disk faults, one after another, each repaired, and calls on what that leaves.
     Salvage,
-    /// A fresh table and a long row of calls for all its bodies.
+    /// Closes, and calls on what they leave, on a table with orders of several years.
+    Closing,
+    /// A fresh table and a long row of calls for all its bodies, years closed among them.
     Sequence,
     /// Messages written, read and written again.
     Messages,
@@ -33,7 +35,7 @@ pub enum Theme {
 }
 
 /// The themes of an ordinary run, each with its share.
-const SHARES: [(Theme, usize); 9] = [
+const SHARES: [(Theme, usize); 10] = [
     (Theme::WholeFlow, 16),
     (Theme::DamagedFlow, 42),
     (Theme::DamagedTable, 20),
@@ -41,6 +43,7 @@ const SHARES: [(Theme, usize); 9] = [
     (Theme::Opening, 12),
     (Theme::Conversion, 6),
     (Theme::Salvage, 12),
+    (Theme::Closing, 10),
     (Theme::Sequence, 4),
     (Theme::Messages, 24),
 ];
@@ -99,6 +102,7 @@ pub fn case(random: &mut Random, theme: Theme) -> Case {
             Case { table: Vec::new(), calls }
         }
         Theme::Salvage => salvage(random),
+        Theme::Closing => closing(random),
         Theme::Sequence => sequence(random),
         Theme::Messages => messages::case(random),
         Theme::Fuzz => fuzz(random),
@@ -142,6 +146,7 @@ pub fn sequence(random: &mut Random) -> Case {
         0 => Call::Open { request: tables::request(&opened), room },
         1 => {
             tables::without_replaced(&mut opened);
+            tables::without_closed(&mut opened);
             table = opened.encode();
             Call::Convert { old: opened.encode_as(Form::One), room }
         }
@@ -153,29 +158,124 @@ pub fn sequence(random: &mut Random) -> Case {
         }
     };
     let mut calls = vec![first];
+    let closes = random.percent(60);
     for _ in 0..10 + random.below(50) {
         let now = Table::decode(&table).expect("calls leave a valid table");
-        let call = call(random, &now);
-        match &call {
-            Call::Flow { edition, flow, room } => {
-                reference::flow(&mut table, *edition, flow, &mut vec![0; *room]);
+        if closes && random.percent(8) {
+            // The end of a body's year: every line of it is executed, the year closed; other bodies' calls stand in between.
+            for last in year_end(random, &now) {
+                if random.percent(20) {
+                    let between = call(random, &Table::decode(&table).expect("calls leave a valid table"));
+                    made(&mut table, &between);
+                    calls.push(between);
+                }
+                made(&mut table, &last);
+                calls.push(last);
             }
-            Call::Execute { body, notice } => {
-                reference::execute(&mut table, body, notice);
-            }
-            Call::Reverse { body, notice } => {
-                reference::reverse(&mut table, body, notice);
-            }
-            _ => {}
         }
+        let now = Table::decode(&table).expect("calls leave a valid table");
+        let call = call(random, &now);
+        made(&mut table, &call);
         calls.push(call);
     }
     Case { table: Vec::new(), calls }
 }
 
+/// Makes a call on a table, as far as it changes it.
+fn made(table: &mut [u8], call: &Call) {
+    match call {
+        Call::Flow { edition, flow, room } => {
+            reference::flow(table, *edition, flow, &mut vec![0; *room]);
+        }
+        Call::Execute { body, notice } => {
+            reference::execute(table, body, notice);
+        }
+        Call::Reverse { body, notice } => {
+            reference::reverse(table, body, notice);
+        }
+        Call::Close { body, year } => {
+            reference::close(table, body, *year);
+        }
+        _ => {}
+    }
+}
+
+/// The last calls of a body's year: its waiting lines executed, the year closed, and the slots that it frees filled again.
+fn year_end(random: &mut Random, table: &Table) -> Vec<Call> {
+    let mut bodies: Vec<&Body> = table.bodies.iter().filter(|body| !body.orders.is_empty()).collect();
+    // One that is full has the most to gain.
+    bodies.sort_by_key(|body| body.slots - body.orders.len());
+    let Some(&known) = bodies.first().filter(|_| random.percent(70)).or(bodies.last()) else {
+        return Vec::new();
+    };
+    let year = known.orders.iter().map(|order| order.esercizio).min().unwrap_or(2021);
+    let mut calls = Vec::new();
+    for order in known.orders.iter().filter(|order| order.esercizio == year && order.state == State::Acquired) {
+        for (line, number) in order.lines.iter().zip(1..) {
+            if line.state == LineState::Waiting && random.percent(97) {
+                let notice = Notice {
+                    kind: order.kind as u64,
+                    esercizio: year.into(),
+                    number: order.number.into(),
+                    line: number,
+                    date: (2021, 3, 3),
+                };
+                calls.push(Call::Execute { body: known.code.clone(), notice });
+            }
+        }
+    }
+    calls.push(Call::Close { body: known.code.clone(), year: year.into() });
+    calls.push(Call::Totals { body: known.code.clone() });
+    let (edition, flow) = flows::filling(random, &table.abi, known, (year + 1).min(2099));
+    let room = flows::room(random, &flow);
+    calls.push(Call::Flow { edition, flow, room });
+    calls
+}
+
+/// Closes on a table with orders of several years, and other calls between them.
+fn closing(random: &mut Random) -> Case {
+    let table = tables::of_several_years(random);
+    let mut after = table.encode();
+    let mut calls = Vec::new();
+    for _ in 0..2 + random.below(6) {
+        let now = Table::decode(&after).expect("calls leave a valid table");
+        let call = match random.weighted(&[60, 20, 20]) {
+            0 => close(random, &now),
+            1 => {
+                let body = random.pick(&now.bodies);
+                let year = *random.pick(&[2019, 2020, 2020, 2021, 2021, 2022]);
+                let (edition, flow) = flows::filling(random, &now.abi, body, year);
+                let room = flows::room(random, &flow);
+                Call::Flow { edition, flow, room }
+            }
+            _ => call(random, &now),
+        };
+        made(&mut after, &call);
+        calls.push(call);
+    }
+    Case { table: table.encode(), calls }
+}
+
+/// A close: mostly of the first year that a body has orders of.
+fn close(random: &mut Random, table: &Table) -> Call {
+    let body = body_code(random, table);
+    let known = table.bodies.iter().find(|known| known.code == body);
+    let orders = known.map_or(&[][..], |known| &known.orders);
+    let first = orders.iter().map(|order| u64::from(order.esercizio)).min().unwrap_or(2021);
+    let closed = known.map_or(0, |known| u64::from(known.closed));
+    let year = match random.weighted(&[50, 15, 15, 12, 8]) {
+        0 => first,
+        1 => first + 1,
+        2 => closed.saturating_sub(random.below(2) as u64),
+        3 => *random.pick(&[0, 1999, 2000, 2019, 2020, 2021, 2022, 2099, 2100]),
+        _ => first + *random.pick(&[1 << 8, 1 << 16, 1 << 32, 1 << 63]),
+    };
+    Call::Close { body, year }
+}
+
 /// A call on a table.
 fn call(random: &mut Random, table: &Table) -> Call {
-    match random.weighted(&[50, 4, 30, 8, 8]) {
+    match random.weighted(&[50, 4, 30, 8, 8, 5]) {
         0 => whole_flow(random, table, Size::Few),
         1 => {
             let (edition, flow) = flows::damaged(random, table, Size::Few);
@@ -184,7 +284,8 @@ fn call(random: &mut Random, table: &Table) -> Call {
         }
         2 => notice(random, table),
         3 => totals(random, table),
-        _ => journal(random, table),
+        4 => journal(random, table),
+        _ => close(random, table),
     }
 }
 
@@ -210,7 +311,8 @@ fn journal(random: &mut Random, table: &Table) -> Call {
     if let Some(known) = table.bodies.iter().find(|known| known.code == body) {
         for order in &known.orders {
             for (line, number) in order.lines.iter().zip(1u8..) {
-                if line.state == LineState::Executed || random.percent(1) {
+                let slip = if line.state == LineState::Replaced { 5 } else { 1 };
+                if line.state == LineState::Executed || random.percent(slip) {
                     let mut movement = vec![order.kind as u8, number];
                     movement.extend(order.esercizio.to_be_bytes());
                     movement.extend(order.number.to_be_bytes());
@@ -338,9 +440,10 @@ fn fuzz(random: &mut Random) -> Case {
             Call::Flow { edition, flow, room },
             Call::Execute { body: body.clone(), notice },
             Call::Reverse { body: body.clone(), notice },
-            Call::Totals { body },
+            Call::Totals { body: body.clone() },
             Call::Open { request, room: table.len() },
             Call::Convert { old: table.clone(), room: table.len() + 16 },
+            Call::Close { body, year: random.next() },
             Call::Salvage { damaged: table.clone(), room },
             Call::Read { edition: 1, message: table.clone(), room: 3_152 },
             Call::Rewrite { edition: 2, message: table.clone(), room: 100 },
@@ -366,7 +469,7 @@ fn fuzz(random: &mut Random) -> Case {
             Call::Open { request, .. } => (request, 4),
             Call::Convert { old, .. } => (old, 4),
             Call::Salvage { damaged, .. } => (damaged, 4),
-            Call::Execute { body, .. } | Call::Reverse { body, .. } | Call::Totals { body } => (body, 2),
+            Call::Execute { body, .. } | Call::Reverse { body, .. } | Call::Totals { body } | Call::Close { body, .. } => (body, 2),
             Call::Write { flow, outcomes, values, .. } => match random.below(4) {
                 0 | 1 => (flow, 6),
                 2 => (outcomes, 4),

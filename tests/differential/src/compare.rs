@@ -1,7 +1,7 @@
 //! Two engines on one case: every answer, every outcome byte, every table byte, and every byte around the buffers.
 
 use reference::message::{GIVEN, Given, ReadAnswer, WriteAnswer};
-use reference::{FlowAnswer, NoticeAnswer, SalvageAnswer, Totals};
+use reference::{CloseAnswer, FlowAnswer, NoticeAnswer, SalvageAnswer, Totals};
 
 use crate::case::{Answer, Call, Case};
 use crate::engine::Engine;
@@ -65,7 +65,7 @@ fn input_of(call: &Call) -> &[u8] {
         Call::Open { request, .. } => request,
         Call::Convert { old, .. } => old,
         Call::Flow { flow, .. } | Call::Write { flow, .. } => flow,
-        Call::Execute { body, .. } | Call::Reverse { body, .. } | Call::Totals { body } => body,
+        Call::Execute { body, .. } | Call::Reverse { body, .. } | Call::Totals { body } | Call::Close { body, .. } => body,
         Call::Read { message, .. } | Call::Rewrite { message, .. } => message,
         Call::Journal { movements, .. } => movements,
         Call::Salvage { .. } => &[],
@@ -213,6 +213,10 @@ impl Yard {
             Call::Salvage { .. } => {
                 let code = engine.salvage(lent, self.written.bytes_mut(), first.number_mut());
                 Answer::Salvage(SalvageAnswer { code, blanked: first.number() })
+            }
+            Call::Close { year, .. } => {
+                let code = engine.close(lent, given, *year, first.number_mut());
+                Answer::Close(CloseAnswer { code, removed: first.number() })
             }
         }
     }

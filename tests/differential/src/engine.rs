@@ -84,6 +84,13 @@ pub trait Engine {
         *blanked = answer.blanked;
         answer.code
     }
+
+    /// Closes a year. An engine that has no close of its own answers as the reference does.
+    fn close(&self, table: &mut [u8], body: &[u8], year: u64, removed: &mut u64) -> u64 {
+        let answer = reference::close(table, body, year);
+        *removed = answer.removed;
+        answer.code
+    }
 }
 
 /// The reference as an engine.
@@ -339,5 +346,10 @@ impl Engine for Library {
     fn salvage(&self, table: &mut [u8], report: &mut [u8], blanked: &mut u64) -> u64 {
         // SAFETY: the pointers and lengths are those of slices and of a number that don't overlap.
         unsafe { hondivole::ffi::hondivole_salvage(table.as_mut_ptr(), table.len(), report.as_mut_ptr(), report.len(), blanked) }
+    }
+
+    fn close(&self, table: &mut [u8], body: &[u8], year: u64, removed: &mut u64) -> u64 {
+        // SAFETY: the pointers and lengths are those of slices and of a number that don't overlap.
+        unsafe { hondivole::ffi::hondivole_close(table.as_mut_ptr(), table.len(), body.as_ptr(), body.len(), year, removed) }
     }
 }

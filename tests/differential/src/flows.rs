@@ -205,18 +205,14 @@ pub fn edition(random: &mut Random) -> (Edition, u64) {
 
 /// The elements of a flow of an edition, written for the bodies and records of a table.
 pub fn tree(random: &mut Random, table: &Table, size: Size, edition: Edition) -> Node {
-    let fallback = Body { code: b"471".to_vec(), slots: 1, orders: Vec::new() };
+    let fallback = Body { code: b"471".to_vec(), slots: 1, closed: 0, orders: Vec::new() };
     let body = if table.bodies.is_empty() { &fallback } else { random.pick(&table.bodies) };
     let code = if random.percent(4) { near_code(random, &body.code, true) } else { body.code.clone() };
     let mut abi = table.abi;
     if random.percent(3) {
         *random.pick_mut(&mut abi) = b'0' + random.below(10) as u8;
     }
-    let esercizio = match random.weighted(&[70, 20, 10]) {
-        0 => 2021,
-        1 => body.orders.get(random.below(body.orders.len())).map_or(2022, |order| order.esercizio),
-        _ => *random.pick(&[2000, 2020, 2022, 2099]),
-    };
+    let esercizio = year_of(random, body);
     let count = match size {
         Size::Few => 1 + random.below(4),
         Size::Any => [1, 2, 5, 1 + random.below(64), 60 + random.below(5), 65][random.weighted(&[30, 20, 20, 20, 8, 2])],
@@ -252,6 +248,44 @@ pub fn tree(random: &mut Random, table: &Table, size: Size, edition: Edition) ->
         root.attribute = random.pick(&IDS).as_bytes().to_vec();
     }
     root
+}
+
+/// The year of a body's flow: mostly one that is open, that of one of its orders or another.
+fn year_of(random: &mut Random, body: &Body) -> u16 {
+    let next = (body.closed + 1).clamp(2021, 2099);
+    let year = match random.weighted(&[70, 20, 10]) {
+        0 => next,
+        1 => body.orders.get(random.below(body.orders.len())).map_or(next, |order| order.esercizio),
+        _ => *random.pick(&[2000, 2020, 2022, 2099]),
+    };
+    let closed = body.closed > 0 && random.percent(12);
+    let year = if closed { body.closed - random.below(2) as u16 } else { year };
+    year.max(2000)
+}
+
+/// A plain flow of new mandati that fill a body, and one more than it has slots for; the edition's number, and the flow.
+pub fn filling(random: &mut Random, abi: &[u8], body: &Body, esercizio: u16) -> (u64, Vec<u8>) {
+    let mut flow = b"<flusso_ordinativi><codice_ABI_BT>".to_vec();
+    flow.extend(abi);
+    flow.extend(b"</codice_ABI_BT><identificativo_flusso>A1</identificativo_flusso>");
+    flow.extend(b"<data_ora_creazione_flusso>2021-03-01T09:30:00</data_ora_creazione_flusso><codice_ente_BT>");
+    flow.extend(&body.code);
+    flow.extend(format!("</codice_ente_BT><esercizio>{esercizio}</esercizio>").bytes());
+    for number in 1..=(body.slots + 1).min(64) {
+        let amount = amount_text(random.between(0, 300));
+        flow.extend(
+            format!(
+                "<mandato><tipo_operazione>INSERIMENTO</tipo_operazione><numero_mandato>{number}</numero_mandato>\
+                 <data_mandato>2021-03-01</data_mandato><importo_mandato>{amount}</importo_mandato><informazioni_beneficiario>\
+                 <progressivo_beneficiario>1</progressivo_beneficiario><importo_beneficiario>{amount}</importo_beneficiario>\
+                 <beneficiario><anagrafica_beneficiario>R</anagrafica_beneficiario></beneficiario></informazioni_beneficiario>\
+                 </mandato>"
+            )
+            .bytes(),
+        );
+    }
+    flow.extend(b"</flusso_ordinativi>");
+    (Edition::Oil as u64, flow)
 }
 
 /// A code that is nearly this one; `form` keeps it a code (letters and digits, 1 to 16).

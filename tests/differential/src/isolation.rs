@@ -24,7 +24,7 @@ pub fn owner(table: &Table, call: &Call) -> Option<usize> {
                 None
             }
         }
-        Call::Totals { body } | Call::Journal { body, .. } => place(body),
+        Call::Totals { body } | Call::Journal { body, .. } | Call::Close { body, .. } => place(body),
         Call::Flow { edition, flow, .. } => {
             let edition = Edition::numbered(*edition)?;
             if flow.len() > reference::LONGEST_FLOW {

@@ -209,7 +209,7 @@ fn try_all(run: &Run, tried: &dyn Engine) -> ExitCode {
     if let Some(file) = &run.tell {
         yard.tell(Told::new(std::fs::File::create(file).expect("the file of --tell can be written")));
     }
-    let (mut tries, mut calls, mut rows, mut damaged) = (0u64, 0u64, 0u64, 0u64);
+    let (mut tries, mut calls, mut rows, mut damaged, mut closes) = (0u64, 0u64, 0u64, 0u64, 0u64);
     for (index, theme, case) in cases_of(run) {
         if run.seconds.is_some_and(|seconds| start.elapsed() >= Duration::from_secs(seconds)) {
             break;
@@ -220,6 +220,7 @@ fn try_all(run: &Run, tried: &dyn Engine) -> ExitCode {
         calls += case.calls.len() as u64;
         rows += u64::from(theme == Some(Theme::Sequence));
         damaged += case.calls.iter().filter(|call| matches!(call, Call::Salvage { .. })).count() as u64;
+        closes += case.calls.iter().filter(|call| matches!(call, Call::Close { .. })).count() as u64;
         if run.show {
             println!("case {index} ({})\n{case}{case:?}", name(theme));
             continue;
@@ -232,7 +233,7 @@ fn try_all(run: &Run, tried: &dyn Engine) -> ExitCode {
     }
     let seconds = start.elapsed().as_secs_f64();
     println!(
-        "{calls} calls, {damaged} of them repairs, {rows} rows of calls also tried body after body and each body alone, {:.0} cases a second",
+        "{calls} calls, {damaged} of them repairs and {closes} closes, {rows} rows of calls also tried body after body and each body alone, {:.0} cases a second",
         tries as f64 / seconds
     );
     println!("differential: {tries} cases, 0 differences");

@@ -58,6 +58,7 @@ fn weight(case: &Case) -> (usize, usize, u128) {
             (plain(message), u128::from(*edition) + *room as u128)
         }
         Call::Journal { body, movements } => (plain(body) + plain(movements), 0),
+        Call::Close { body, year } => (plain(body), u128::from(*year)),
     });
     let (untidy, numbers) = calls.fold((plain(&case.table), 0), |sum, call| (sum.0 + call.0, sum.1 + call.1));
     (case.cost(), untidy, numbers)
@@ -113,7 +114,7 @@ impl<F: FnMut(&Case) -> bool> Search<F> {
             }
         }
         if let Some(table) = Table::decode(&self.best.table)
-            && table.bodies.iter().all(|body| body.orders.is_empty())
+            && table.bodies.iter().all(|body| body.orders.is_empty() && body.closed == 0)
         {
             let opening = Call::Open { request: tables::request(&table), room: table.length() };
             self.change(|case| {
@@ -164,6 +165,13 @@ impl<F: FnMut(&Case) -> bool> Search<F> {
             return;
         };
         for body in 0..table.bodies.len() {
+            for year in [0, 2000] {
+                let Some(mut table) = Table::decode(&self.best.table) else {
+                    return;
+                };
+                table.bodies[body].closed = year;
+                self.change(|case| case.table = table.encode());
+            }
             for order in 0..table.bodies[body].orders.len() {
                 for step in 0..12 {
                     let Some(mut table) = Table::decode(&self.best.table) else {
@@ -194,6 +202,7 @@ impl<F: FnMut(&Case) -> bool> Search<F> {
                 Call::Execute { .. } | Call::Reverse { .. } => self.shorten_notice(index),
                 Call::Convert { .. } => self.shorten_conversion(index),
                 Call::Salvage { .. } => self.shorten_salvage(index),
+                Call::Close { .. } => self.shorten_close(index),
                 Call::Totals { .. } | Call::Journal { .. } => {}
                 Call::Write { .. } => {
                     self.shorten_room(index);
@@ -209,7 +218,7 @@ impl<F: FnMut(&Case) -> bool> Search<F> {
                 Call::Convert { old, .. } => old,
                 Call::Salvage { damaged, .. } => damaged,
                 Call::Flow { flow, .. } | Call::Write { flow, .. } => flow,
-                Call::Execute { body, .. } | Call::Reverse { body, .. } | Call::Totals { body } => body,
+                Call::Execute { body, .. } | Call::Reverse { body, .. } | Call::Totals { body } | Call::Close { body, .. } => body,
                 Call::Read { message, .. } | Call::Rewrite { message, .. } => message,
                 Call::Journal { movements, .. } => movements,
             });
@@ -447,6 +456,16 @@ impl<F: FnMut(&Case) -> bool> Search<F> {
             if !self.change(|case| with(case, without)) {
                 rank += 1;
             }
+        }
+    }
+
+    fn shorten_close(&mut self, index: usize) {
+        for smaller in [|_| 0, |_| 2000, |year: u64| year & 0xFFFF, |year: u64| year.saturating_sub(1)] {
+            self.change(|case| {
+                if let Call::Close { year, .. } = &mut case.calls[index] {
+                    *year = smaller(*year);
+                }
+            });
         }
     }
 

@@ -30,8 +30,8 @@ fn table() -> Table {
     Table {
         abi: *b"01234",
         bodies: vec![
-            Body { code: b"000471".to_vec(), slots: 4, orders: first },
-            Body { code: b"471".to_vec(), slots: 1, orders: second },
+            Body { code: b"000471".to_vec(), slots: 4, closed: 2020, orders: first },
+            Body { code: b"471".to_vec(), slots: 1, closed: 0, orders: second },
         ],
     }
 }
@@ -69,6 +69,7 @@ pub fn cases() -> impl Iterator<Item = Case> {
         .map(with_flow);
     bytes_of_a_table()
         .chain(bits_of_a_damaged_table())
+        .chain(years())
         .chain(bytes_of_a_request())
         .chain(bytes_of_an_old_table())
         .chain(flows)
@@ -91,9 +92,21 @@ fn bytes_of_a_table() -> impl Iterator<Item = Case> {
         Call::Execute { body: b"000471".to_vec(), notice },
         Call::Reverse { body: b"000471".to_vec(), notice },
         Call::Flow { edition: 1, flow: flow(CREATED, DATE, "1", b"R", b""), room: 16 },
+        Call::Close { body: b"471".to_vec(), year: 2021 },
     ];
     // One kind of call in turn: each of them looks at the whole table.
-    replaced(table().encode()).enumerate().map(move |(index, table)| Case { table, calls: vec![calls[index % 7 % 4].clone()] })
+    replaced(table().encode()).enumerate().map(move |(index, table)| Case { table, calls: vec![calls[index % 7 % 5].clone()] })
+}
+
+/// Closes of every year around those that are served, and of numbers that would be one of them if they were cut.
+fn years() -> impl Iterator<Item = Case> {
+    let table = table().encode();
+    let cut = [16, 32, 48, 63].map(|bit| 2021 + (1 << bit));
+    (0..2_500)
+        .chain(cut)
+        .chain([65_535, u64::MAX])
+        .flat_map(|year| ["000471", "471"].map(|body| (body, year)))
+        .map(move |(body, year)| Case { table: table.clone(), calls: vec![Call::Close { body: body.into(), year }] })
 }
 
 /// Each bit of a table changed, and the table repaired.
@@ -115,6 +128,7 @@ fn bytes_of_a_request() -> impl Iterator<Item = Case> {
 fn bytes_of_an_old_table() -> impl Iterator<Item = Case> {
     let mut table = table();
     tables::without_replaced(&mut table);
+    tables::without_closed(&mut table);
     replaced(table.encode_as(Form::One))
         .map(move |old| Case { table: Vec::new(), calls: vec![Call::Convert { old, room: table.length() }] })
 }
@@ -208,6 +222,8 @@ mod tests {
     fn the_base_stands() {
         let mut bytes = table().encode();
         assert!(Table::decode(&bytes).is_some());
+        assert_eq!(reference::close(&mut bytes.clone(), b"471", 2021).removed, 1);
+        assert_eq!(reference::close(&mut bytes.clone(), b"000471", 2021).code, 39);
         let base = flow(CREATED, DATE, "1", "R&amp;\u{e0}]".as_bytes(), b"<y></y>");
         assert_eq!(reference::flow(&mut bytes, 1, &base, &mut [0; 16]).accepted, 1);
         assert_eq!(reference::flow(&mut bytes, 1, &replacement(), &mut [0; 16]).accepted, 1);

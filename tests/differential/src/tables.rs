@@ -48,7 +48,8 @@ pub fn empty(random: &mut Random, most_bodies: usize, most_slots: usize) -> Tabl
         let turn = random.below(codes.len());
         codes.rotate_left(turn);
     }
-    let bodies = codes.into_iter().map(|code| Body { code, slots: 1 + random.below(most_slots), orders: Vec::new() }).collect();
+    let bodies =
+        codes.into_iter().map(|code| Body { code, slots: 1 + random.below(most_slots), closed: 0, orders: Vec::new() }).collect();
     let abi = if random.percent(70) { *b"01234" } else { [0; 5].map(|_: u8| b'0' + random.below(10) as u8) };
     Table { abi, bodies }
 }
@@ -75,9 +76,10 @@ pub fn valid(random: &mut Random) -> Table {
     table
 }
 
-/// Orders in every state for every body.
+/// Orders in every state for every body, some of which have closed a year.
 pub fn fill_all(random: &mut Random, table: &mut Table) {
     for body in &mut table.bodies {
+        close_some(random, body);
         let count = match random.below(4) {
             0 => 0,
             1 => body.slots,
@@ -102,6 +104,7 @@ pub fn conversion(random: &mut Random) -> (Table, Vec<u8>, usize) {
     if random.percent(92) {
         without_replaced(&mut table);
     }
+    without_closed(&mut table);
     let mut old = table.encode_as(if random.percent(97) { Form::One } else { Form::Two });
     if random.percent(40) && Table::decode_as(&old, Form::One).is_some() {
         damage_as(random, &mut old, Form::One);
@@ -118,6 +121,47 @@ pub fn conversion(random: &mut Random) -> (Table, Vec<u8>, usize) {
     (table, old, room)
 }
 
+/// Now and then a body's last closed year: before the years of its orders, among them, or the last there is.
+fn close_some(random: &mut Random, body: &mut Body) {
+    if random.percent(20) {
+        body.closed = *random.pick(&[2000, 2019, 2020, 2020, 2021, 2021, 2022, 2098, 2099]);
+        body.orders.retain(|order| order.esercizio > body.closed);
+    }
+}
+
+/// A table whose bodies have orders of several years, so that closes are both taken and refused: most lines are executed, and the year before
+/// may be closed.
+pub fn of_several_years(random: &mut Random) -> Table {
+    let mut table = empty(random, 3, 8);
+    let waits = *random.pick(&[0, 0, 3, 30]);
+    for body in &mut table.bodies {
+        body.closed = *random.pick(&[0, 0, 2018, 2019]);
+        let mut keys = HashSet::new();
+        for _ in 0..if random.percent(50) { body.slots } else { random.below(body.slots + 1) } {
+            let kind = *random.pick(&[Kind::Mandato, Kind::Reversale]);
+            let (esercizio, number) = (*random.pick(&[2020, 2020, 2021, 2022]), random.between(1, 12) as u32);
+            let mut order = flows::record(random, esercizio, number, kind);
+            if !keys.insert(order.key()) {
+                continue;
+            }
+            if random.percent(15) {
+                order.state = State::Annulled;
+            } else {
+                let waits = if order.esercizio == 2022 { 50 } else { waits };
+                order.lines.iter_mut().for_each(|line| line.state = STATES[random.weighted(&[waits, 80, 20])]);
+            }
+            body.orders.push(order);
+        }
+    }
+    debug_assert!(table.stands());
+    table
+}
+
+/// Opens the closed years of a table again: a table 1 has none.
+pub fn without_closed(table: &mut Table) {
+    table.bodies.iter_mut().for_each(|body| body.closed = 0);
+}
+
 const STATES: [LineState; 3] = [LineState::Waiting, LineState::Executed, LineState::Replaced];
 
 /// Makes replaced lines executed ones: a table 1 has none.
@@ -127,11 +171,13 @@ pub fn without_replaced(table: &mut Table) {
 }
 
 fn fill(random: &mut Random, body: &mut Body, count: usize) {
-    let mut keys = HashSet::new();
-    for _ in 0..count {
+    let mut keys: HashSet<_> = body.orders.iter().map(|order| order.key()).collect();
+    let mut years = vec![2021, 2021, 2021, 2022, 2000, 2099];
+    years.retain(|year| *year > body.closed);
+    for _ in 0..if years.is_empty() { 0 } else { count } {
         let (kind, esercizio, number) = loop {
             let kind = *random.pick(&[Kind::Mandato, Kind::Reversale]);
-            let esercizio = *random.pick(&[2021, 2021, 2021, 2022, 2000, 2099]);
+            let esercizio = *random.pick(&years);
             let most = if random.percent(80) { 30 + 2 * count as u64 } else { 9_999_999 };
             let number = random.between(1, most) as u32;
             if keys.insert((kind, esercizio, number)) {
@@ -152,7 +198,7 @@ fn fill(random: &mut Random, body: &mut Body, count: usize) {
 type Span = (usize, usize);
 
 const HEAD_FIELDS: [Span; 5] = [(0, 2), (2, 2), (4, 4), (8, 5), (13, 3)];
-const ENTRY_FIELDS: [Span; 8] = [(0, 1), (1, 16), (17, 1), (18, 2), (20, 4), (24, 8), (32, 8), (40, 8)];
+const ENTRY_FIELDS: [Span; 9] = [(0, 1), (1, 16), (17, 1), (18, 2), (20, 4), (24, 8), (32, 8), (40, 2), (42, 6)];
 const SLOT_FIELDS: [Span; 13] =
     [(0, 1), (1, 1), (2, 1), (3, 1), (4, 2), (6, 2), (8, 4), (12, 2), (14, 1), (15, 1), (16, 8), (24, 8), (32, 64)];
 
@@ -224,11 +270,12 @@ fn edge(random: &mut Random, table: &mut [u8], first_slot: usize, base: usize, f
             (_, 18) => &[0, 1, 512, 513, 65_535],
             (_, 20) => &[0, 16, 48, 64, u32::MAX as u64],
             (_, 24 | 32) => &[0, 1, 99_999_999_999, u64::MAX],
+            (_, 40) => &[0, 1, 1999, 2000, 2020, 2021, 2022, 2098, 2099, 2100, 65_535],
             _ => &[0, 1, b'0' as u64],
         };
         let &value = random.pick(values);
         let width = match (base, from) {
-            (0, 0 | 2) | (_, 18) => 2,
+            (0, 0 | 2) | (_, 18 | 40) => 2,
             (0, 4) | (_, 20) => 4,
             (_, 24 | 32) => 8,
             _ => 1,
@@ -264,7 +311,7 @@ fn together(random: &mut Random, table: &mut Vec<u8>, form: Form, first_slot: us
         table[place..place + 8].copy_from_slice(&sum.to_be_bytes());
     };
     let slot = if used.is_empty() { first_slot } else { *random.pick(used) };
-    match random.below(14) {
+    match random.below(15) {
         // An amount and the total grow together, perhaps past the greatest amount.
         0 => {
             let &value = random.pick(&[1, 99_999_999_999, 1 << 40, 1 << 63]);
@@ -305,6 +352,12 @@ fn together(random: &mut Random, table: &mut Vec<u8>, form: Form, first_slot: us
         8 if number_at(table, 0, 2) > 1 => {
             let code: Vec<u8> = table[HEAD..HEAD + 17].to_vec();
             table[HEAD + entry..HEAD + entry + 17].copy_from_slice(&code);
+        }
+        // A closed year that is just before a record's, its own, or later.
+        13 if form == Form::Two => {
+            let at = HEAD + entry * random.below(number_at(table, 0, 2) as usize);
+            let year = number_at(table, slot + 4, 2) as u16;
+            table[at + 40..at + 42].copy_from_slice(&(year.wrapping_sub(1) + random.below(3) as u16).to_be_bytes());
         }
         // A line executed or waiting again, the kept totals left; or what is kept of one kind moved to the other.
         11 if table[slot] != 0 => table[slot + 24] ^= 3,
@@ -348,14 +401,15 @@ pub fn to_be_damaged(random: &mut Random) -> Table {
         _ => empty(random, 2, 300),
     };
     for body in &mut table.bodies {
+        close_some(random, body);
         let count = if random.percent(40) { body.slots } else { random.below(body.slots + 1) };
         fill(random, body, count);
     }
     table
 }
 
-/// The bytes of a table after a disk fault: slots lost, copied, moved or changed in some places, kept totals too; head and entries are
-/// hit now and then where `contents` says so.
+/// The bytes of a table after a disk fault: slots lost, copied, moved or changed in some places, kept totals and closed years too; head and
+/// entries are hit now and then where `contents` says so.
 pub fn after_fault(random: &mut Random, table: &Table, contents: bool) -> Vec<u8> {
     let mut bytes = table.encode();
     let first_slot = HEAD + ENTRY * table.bodies.len();
@@ -369,6 +423,12 @@ pub fn after_fault(random: &mut Random, table: &Table, contents: bool) -> Vec<u8
             1 => bytes[kept..kept + 16].rotate_left(8),
             _ => bytes[kept + random.below(16)] ^= 1 << random.below(8),
         }
+    }
+    if random.percent(15) {
+        // Another closed year, which is one: records of it and of earlier years are none of the table's any more.
+        let at = HEAD + ENTRY * random.below(table.bodies.len()) + 40;
+        let year: u16 = *random.pick(&[0, 2000, 2020, 2021, 2021, 2022, 2099]);
+        bytes[at..at + 2].copy_from_slice(&year.to_be_bytes());
     }
     if contents && random.percent(12) {
         if random.percent(80) {
@@ -437,11 +497,12 @@ pub fn beyond(random: &mut Random) -> (Table, Vec<u8>) {
     let body = random.below(table.bodies.len());
     let body = &mut table.bodies[body];
     if body.orders.is_empty() {
+        body.closed = if body.closed < 2099 { body.closed } else { 0 };
         fill(random, body, 1);
     }
     let order = random.below(body.orders.len());
     let order = &mut body.orders[order];
-    match random.below(15) {
+    match random.below(16) {
         0 => order.esercizio = *random.pick(&[1999, 2000, 2099, 2100]),
         1 => order.number = *random.pick(&[0, 1, 9_999_999, 10_000_000]),
         2 => order.date.year = *random.pick(&[1999, 2000, 2099, 2100]),
@@ -481,11 +542,13 @@ pub fn beyond(random: &mut Random) -> (Table, Vec<u8>) {
         11 => *random.pick_mut(&mut table.abi) = *random.pick(b" /09:A\x00"),
         12 => {
             let code = random.pick(&table.bodies).code.clone();
-            table.bodies.push(Body { code, slots: 1, orders: Vec::new() });
+            table.bodies.push(Body { code, slots: 1, closed: 0, orders: Vec::new() });
         }
-        13 => {
+        13 => body.closed = *random.pick(&[1, 1999, 2000, order.esercizio - 1, order.esercizio, 2099, 2100]),
+        14 => {
             let count = 15 + random.below(3) as u8;
-            table.bodies = (0..count).map(|index| Body { code: vec![b'A' + index], slots: 1, orders: Vec::new() }).collect();
+            table.bodies =
+                (0..count).map(|index| Body { code: vec![b'A' + index], slots: 1, closed: 0, orders: Vec::new() }).collect();
             table.bodies.truncate(*random.pick(&[0, 1, 16, 17]));
         }
         _ => {
@@ -522,7 +585,7 @@ pub fn opening(random: &mut Random) -> (Vec<u8>, usize) {
         1 => {
             // Seventeen bodies.
             table.bodies = (0..16 + random.below(2) as u8)
-                .map(|index| Body { code: vec![b'a' + index], slots: 1 + random.below(3), orders: Vec::new() })
+                .map(|index| Body { code: vec![b'a' + index], slots: 1 + random.below(3), closed: 0, orders: Vec::new() })
                 .collect();
         }
         2 => {

@@ -5,7 +5,7 @@
 use reference::fields::{self, FlowOrder, Operation};
 use reference::message::{self, Given};
 use reference::table::{ENTRY, HEAD, SLOT, number_at};
-use reference::{Body, Edition, Form, LineState, Notice, Order, State, Table, markup, structure};
+use reference::{Body, Edition, LineState, Notice, Order, State, Table, markup, structure};
 
 use crate::engine::{Engine, Reference};
 
@@ -80,10 +80,30 @@ pub enum Fault {
     KeptCalledMoved,
     /// A report that doesn't fit is begun.
     ReportBegun,
+    /// A flow of a closed year without room for its outcomes is answered 8.
+    RoomBeforeYear,
+    /// A flow of a year before the last closed one is let in.
+    EarlierYearTaken,
+    /// A close leaves the year's annulled orders.
+    AnnulledLeft,
+    /// A waiting line of a later year blocks a close.
+    OtherYearBlocks,
+    /// An annulled order's waiting line blocks a close.
+    AnnulledBlocks,
+    /// 39 is answered before 38.
+    WaitingBeforeEarlier,
+    /// A close leaves the totals that the entry keeps.
+    TotalsNotSettled,
+    /// A close leaves the year that the entry holds.
+    YearNotHeld,
+    /// What moves up at a close stays in the slot that it left too.
+    OldSlotsLeft,
+    /// A repair keeps records of closed years.
+    ClosedKept,
 }
 
 /// All of them.
-pub const FAULTS: [Fault; 34] = [
+pub const FAULTS: [Fault; 44] = [
     Fault::CodesAsIntegers,
     Fault::StaleAmounts,
     Fault::AnnulloByNumber,
@@ -118,6 +138,16 @@ pub const FAULTS: [Fault; 34] = [
     Fault::TotalsLeft,
     Fault::KeptCalledMoved,
     Fault::ReportBegun,
+    Fault::RoomBeforeYear,
+    Fault::EarlierYearTaken,
+    Fault::AnnulledLeft,
+    Fault::OtherYearBlocks,
+    Fault::AnnulledBlocks,
+    Fault::WaitingBeforeEarlier,
+    Fault::TotalsNotSettled,
+    Fault::YearNotHeld,
+    Fault::OldSlotsLeft,
+    Fault::ClosedKept,
 ];
 
 /// The reference with one fault.
@@ -155,7 +185,7 @@ impl Wrong {
         let mut mended = table.to_vec();
         if self.0 == Fault::EntryRestIgnored && table.len() > HEAD {
             for entry in mended[HEAD..].chunks_mut(ENTRY).take(number_at(table, 0, 2) as usize) {
-                if let Some(rest) = entry.get_mut(40..) {
+                if let Some(rest) = entry.get_mut(42..) {
                     rest.fill(0);
                 }
             }
@@ -177,29 +207,40 @@ impl Wrong {
     }
 }
 
-/// The table with the totals that its records have, where these can be read.
+/// The table with the totals that its records have, where it is valid but for these.
 fn settled(table: &[u8]) -> Option<Vec<u8>> {
-    let bodies = number_at(table.get(..HEAD)?, 0, 2) as usize;
-    let (mut old, rest) = (table[..HEAD].to_vec(), table.get(HEAD..HEAD + ENTRY * bodies)?);
-    let moved = 16 * bodies as u64;
-    old[3] ^= 3;
-    old[4..8].copy_from_slice(&(number_at(table, 4, 4).wrapping_sub(moved) as u32).to_be_bytes());
-    for entry in rest.chunks(ENTRY) {
-        old.extend(&entry[..20]);
-        old.extend((number_at(entry, 20, 4).wrapping_sub(moved) as u32).to_be_bytes());
-        old.extend(&entry[40..]);
+    let mut contents = Table::contents(table)?;
+    for (body, places) in contents.bodies.iter_mut().zip(slots_of(table)) {
+        body.orders.extend(places.iter().map_while(|&at| Order::alone(&table[at..at + SLOT])));
     }
-    old.extend(&table[HEAD + ENTRY * bodies..]);
-    Some(Table::decode_as(&old, Form::One)?.encode())
+    let settled = contents.encode();
+    // What isn't a record's byte or a kept total has to be as it was.
+    let mut kept = settled.clone();
+    for (entry, old) in kept[HEAD..].chunks_mut(ENTRY).zip(table[HEAD..].chunks(ENTRY)).take(contents.bodies.len()) {
+        entry[24..40].copy_from_slice(&old[24..40]);
+    }
+    (kept == table && contents.stands()).then_some(settled)
+}
+
+/// A flow that has fields which stand, as they are.
+fn read(edition: u64, flow: &[u8]) -> fields::Flow {
+    let edition = Edition::numbered(edition).expect("the flow was read");
+    let root = markup::read(flow, edition == Edition::Opi).expect("the flow was read");
+    fields::read(&structure::read(&root, edition).expect("the flow was read"), edition).expect("the flow was read")
 }
 
 /// The replacement orders of a flow that was taken, each with its place among the orders, the body's code and the year.
 fn replacements(edition: u64, flow: &[u8]) -> (Vec<(usize, FlowOrder)>, Vec<u8>, u16) {
-    let edition = Edition::numbered(edition).expect("the flow was taken");
-    let root = markup::read(flow, edition == Edition::Opi).expect("the flow was taken");
-    let read = fields::read(&structure::read(&root, edition).expect("the flow was taken"), edition).expect("the flow was taken");
+    let read = read(edition, flow);
     let orders = read.orders.into_iter().enumerate().filter(|(_, order)| order.operation == Operation::Sostituzione);
     (orders.collect(), read.body, read.esercizio)
+}
+
+/// The place of a body's closed year in the table.
+fn year_of(table: &[u8], body: &[u8]) -> Option<std::ops::Range<usize>> {
+    let at = Table::contents(table)?.bodies.iter().position(|known| known.code == body)?;
+    let at = HEAD + ENTRY * at + 40;
+    Some(at..at + 2)
 }
 
 /// Replaces the executed lines of equal amount that an order names, up to the first that isn't.
@@ -370,6 +411,17 @@ impl Engine for Wrong {
                     }
                 }
             }
+            Fault::RoomBeforeYear if code == 36 && outcomes.len() < 16 * read(edition, flow).orders.len() => return 8,
+            Fault::EarlierYearTaken if code == 36 => {
+                let read = read(edition, flow);
+                let year = year_of(table, &read.body).expect("36 is of a body that is there");
+                if u64::from(read.esercizio) < number_at(table, year.start, 2) {
+                    table[year.clone()].fill(0);
+                    let code = Reference.flow(table, edition, flow, outcomes, place, orders, accepted, cause, steps);
+                    table[year.clone()].copy_from_slice(&before[year]);
+                    return code;
+                }
+            }
             Fault::OutcomesCleared if code == 0 => outcomes[16 * *orders as usize..].fill(0),
             Fault::PlaceWithoutMark if code == 5 && markup::read(flow, true).is_some() && flow.starts_with(b"\xEF\xBB\xBF") => {
                 *place -= 3
@@ -488,8 +540,62 @@ impl Engine for Wrong {
         if self.0 == Fault::JournalListsTwice && code == 32 { 0 } else { code }
     }
 
+    fn close(&self, table: &mut [u8], body: &[u8], year: u64, removed: &mut u64) -> u64 {
+        let before = table.to_vec();
+        let code = Reference.close(table, &self.code(table, body), year, removed);
+        let Some(known) = Table::decode(&before).and_then(|table| table.body(body).cloned()) else {
+            return code;
+        };
+        let waits = |order: &&Order| order.lines.iter().any(|line| line.state == LineState::Waiting);
+        let of_year = |order: &&Order| u64::from(order.esercizio) == year;
+        let (annulled, acquired): (Vec<&Order>, Vec<&Order>) =
+            known.orders.iter().partition(|order| order.state == State::Annulled);
+        let place = year_of(&before, body).expect("the body is there");
+        let refuse = |table: &mut [u8], removed: &mut u64, code: u64| {
+            table.copy_from_slice(&before);
+            *removed = 0;
+            code
+        };
+        match self.0 {
+            Fault::AnnulledLeft if code == 0 => {
+                let mut changed = Table::decode(table).expect("a close leaves a valid table");
+                let left: Vec<_> = annulled.into_iter().filter(of_year).cloned().collect();
+                *removed -= left.len() as u64;
+                changed.body_mut(body).expect("the body is there").orders.extend(left);
+                table.copy_from_slice(&changed.encode());
+            }
+            Fault::OtherYearBlocks if code == 0 && acquired.iter().any(waits) => return refuse(table, removed, 39),
+            Fault::AnnulledBlocks if code == 0 && annulled.iter().any(of_year) => return refuse(table, removed, 39),
+            Fault::WaitingBeforeEarlier if code == 38 && acquired.into_iter().filter(of_year).any(|order| waits(&order)) => {
+                return 39;
+            }
+            Fault::TotalsNotSettled if code == 0 => {
+                let kept = place.start - 16..place.start;
+                table[kept.clone()].copy_from_slice(&before[kept]);
+            }
+            Fault::YearNotHeld if code == 0 => table[place.clone()].copy_from_slice(&before[place]),
+            Fault::OldSlotsLeft if code == 0 => {
+                let freed = slots_of(&before).into_iter().flatten().filter(|&at| table[at] == 0 && before[at] != 0);
+                for at in freed.collect::<Vec<_>>() {
+                    table[at..at + SLOT].copy_from_slice(&before[at..at + SLOT]);
+                }
+            }
+            _ => {}
+        }
+        code
+    }
+
     fn salvage(&self, table: &mut [u8], report: &mut [u8], blanked: &mut u64) -> u64 {
         let before = table.to_vec();
+        if self.0 == Fault::ClosedKept
+            && let Some(contents) = Table::contents(table)
+        {
+            let years = (0..contents.bodies.len()).map(|body| HEAD + ENTRY * body + 40);
+            years.clone().for_each(|at| table[at..at + 2].fill(0));
+            let code = Reference.salvage(table, report, blanked);
+            years.for_each(|at| table[at..at + 2].copy_from_slice(&before[at..at + 2]));
+            return code;
+        }
         let slots = slots_of(table);
         if self.0 == Fault::LaterCopyKept {
             let key = |table: &[u8], at: usize| Order::alone(&table[at..at + SLOT]).map(|order| order.key());

@@ -90,7 +90,7 @@ fn opened(request: &[u8]) -> Option<Table> {
         if after.iter().any(|&byte| byte != 0) || entry[17] != 0 {
             return None;
         }
-        bodies.push(Body { code: code.to_vec(), slots: number_at(entry, 18, 2) as usize, orders: Vec::new() });
+        bodies.push(Body { code: code.to_vec(), slots: number_at(entry, 18, 2) as usize, closed: 0, orders: Vec::new() });
     }
     let table = Table { abi: abi.try_into().ok()?, bodies };
     table.stands().then_some(table)
@@ -162,6 +162,9 @@ fn taken(table: &[u8], edition: u64, flow: &[u8], room: usize) -> Result<(Table,
         return Err(refused(6));
     }
     let body = table.body_mut(&flow.body).ok_or(refused(7))?;
+    if body.has_closed(flow.esercizio) {
+        return Err(refused(36));
+    }
     debug_assert!((1..=MOST_ORDERS).contains(&flow.orders.len()));
     if room < OUTCOME * flow.orders.len() {
         return Err(refused(8));

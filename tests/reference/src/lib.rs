@@ -14,6 +14,7 @@
 //! assert_eq!(totals(&table, b"0471").code, 7);
 //! ```
 
+pub mod close;
 pub mod desk;
 pub mod fields;
 pub mod markup;
@@ -23,6 +24,7 @@ pub mod structure;
 pub mod table;
 pub mod target;
 
+pub use close::{CloseAnswer, close};
 pub use desk::{FlowAnswer, Notice, NoticeAnswer, Totals, convert, execute, flow, journal, open, request, reverse, totals};
 pub use salvage::{SalvageAnswer, salvage};
 pub use table::{Body, Date, Form, Kind, Line, LineState, Order, State, Table};

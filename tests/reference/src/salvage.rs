@@ -1,4 +1,4 @@
-//! Document 02, Req 13: the repair of a damaged table.
+//! Document 02, Req 13: the repair of a damaged table; Req 14: records of closed years.
 
 use crate::table::{Order, SLOT, Table};
 
@@ -11,8 +11,8 @@ pub struct SalvageAnswer {
     pub blanked: u64,
 }
 
-/// Repairs a table whose head and entries are valid but for the kept totals: of each body's slots it keeps the first valid record of each key,
-/// moves these up in order, blanks the rest and sets the totals anew. The report holds each body's count of moved records, then the old
+/// Repairs a table whose head and entries are valid but for the kept totals: of each body's slots it keeps the first valid record of each key
+/// of a year that isn't closed, moves these up in order, blanks the rest and sets the totals anew. The report holds each body's count of moved records, then the old
 /// places of the blanked slots.
 pub fn salvage(table: &mut [u8], report: &mut [u8]) -> SalvageAnswer {
     let refused = |code| SalvageAnswer { code, blanked: 0 };
@@ -28,7 +28,7 @@ pub fn salvage(table: &mut [u8], report: &mut [u8]) -> SalvageAnswer {
         for slot in 0..body.slots {
             let bytes = &table[place..place + SLOT];
             match Order::alone(bytes) {
-                Some(order) if body.orders.iter().all(|kept| kept.key() != order.key()) => {
+                Some(order) if !body.has_closed(order.esercizio) && body.orders.iter().all(|kept| kept.key() != order.key()) => {
                     moves += u16::from(body.orders.len() != slot);
                     body.orders.push(order);
                 }

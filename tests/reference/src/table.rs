@@ -1,4 +1,4 @@
-//! The table: plain structs, and their bytes, as table 1 (document 01) and as table 2 (document 02, Req 04) has them.
+//! The table: plain structs, and their bytes, as table 1 (document 01) and as table 2 (document 02, Req 04 and 14) has them.
 //!
 //! A table's bytes are valid when the structs decoded from them keep the rules and encode to the very same bytes again. The second half
 //! stands for every byte that a rule fixes: zeros, places, lengths, lines that aren't there, empty slots after the used ones.
@@ -20,6 +20,9 @@ pub const ENTRY: usize = 48;
 /// The bytes of a slot.
 pub const SLOT: usize = 96;
 
+/// The years of the books.
+pub const YEARS: std::ops::RangeInclusive<u16> = 2000..=2099;
+
 /// The greatest amount in cents that a field can write.
 pub const GREATEST_AMOUNT: u64 = 99_999_999_999;
 
@@ -28,7 +31,7 @@ pub const GREATEST_AMOUNT: u64 = 99_999_999_999;
 pub enum Form {
     /// Entries of 32 bytes, which keep no totals; only conversion takes it.
     One = 1,
-    /// Entries of 48 bytes, which keep the cents paid and collected.
+    /// Entries of 48 bytes, which keep the cents paid and collected and the last closed year.
     Two = 2,
 }
 
@@ -66,6 +69,8 @@ pub struct Body {
     pub code: Vec<u8>,
     /// How many slots it has, used and empty.
     pub slots: usize,
+    /// The last year that was closed, 0 before the first close.
+    pub closed: u16,
     /// The used slots.
     pub orders: Vec<Order>,
 }
@@ -161,7 +166,7 @@ impl Order {
 
     /// Whether the record keeps the rules that look at it alone.
     fn stands(&self) -> bool {
-        (2000..=2099).contains(&self.esercizio)
+        YEARS.contains(&self.esercizio)
             && (1..=9_999_999).contains(&self.number)
             && self.date.stands()
             && self.total <= GREATEST_AMOUNT
@@ -246,10 +251,17 @@ impl Body {
         lines.filter(|line| line.state == LineState::Executed).map(|line| line.amount).sum()
     }
 
+    /// Whether its books of this year are closed: those of the last year that was, and of every earlier one.
+    pub fn has_closed(&self, esercizio: u16) -> bool {
+        esercizio <= self.closed
+    }
+
     fn stands(&self) -> bool {
         let mut keys = HashSet::new();
         body_code(&self.code).is_some()
             && (1..=512).contains(&self.slots)
+            && (self.closed == 0 || YEARS.contains(&self.closed))
+            && self.orders.iter().all(|order| !self.has_closed(order.esercizio))
             && self.orders.iter().all(|order| keys.insert((order.kind, order.esercizio, order.number)))
     }
 }
@@ -321,6 +333,7 @@ impl Table {
             if form == Form::Two {
                 bytes.extend(body.cents(Kind::Mandato).to_be_bytes());
                 bytes.extend(body.cents(Kind::Reversale).to_be_bytes());
+                bytes.extend(body.closed.to_be_bytes());
             }
             bytes.resize(end, 0);
             place += SLOT * body.slots;
@@ -342,7 +355,7 @@ impl Table {
             let entry;
             (entry, rest) = rest.split_at_checked(ENTRY)?;
             let code = entry[1..17].get(..usize::from(entry[0]))?.to_vec();
-            bodies.push(Body { code, slots: number_at(entry, 18, 2) as usize, orders: Vec::new() });
+            bodies.push(Body { code, slots: number_at(entry, 18, 2) as usize, closed: closed_in(entry), orders: Vec::new() });
         }
         let table = Table { abi: head[8..13].try_into().ok()?, bodies };
         if !table.stands() || table.length() != bytes.len() {
@@ -370,6 +383,7 @@ impl Table {
             bodies.push(Body {
                 code: entry[1..17].get(..usize::from(entry[0]))?.to_vec(),
                 slots: number_at(entry, 18, 2) as usize,
+                closed: if form == Form::Two { closed_in(entry) } else { 0 },
                 orders: Vec::new(),
             });
         }
@@ -385,6 +399,11 @@ impl Table {
     }
 }
 
+/// The last closed year that an entry of table 2 keeps.
+fn closed_in(entry: &[u8]) -> u16 {
+    number_at(entry, 40, 2) as u16
+}
+
 /// The number that `length` bytes at `at` write, the highest byte first.
 pub fn number_at(bytes: &[u8], at: usize, length: usize) -> u64 {
     let bytes = &bytes[at..at + length];
@@ -396,7 +415,7 @@ mod tests {
     use super::*;
 
     fn body(code: &[u8], slots: usize) -> Body {
-        Body { code: code.to_vec(), slots, orders: Vec::new() }
+        Body { code: code.to_vec(), slots, closed: 0, orders: Vec::new() }
     }
 
     fn two_bodies() -> Table {
@@ -510,6 +529,43 @@ mod tests {
             changed[64 + at] ^= 1;
             assert_eq!(Table::decode(&changed), None, "byte {at} of the entry");
         }
+    }
+
+    /// Document 02, Req 14: 0 or a year of 2000 to 2099 that every record is later than; the six bytes after it are zero.
+    #[test]
+    fn closed_years() {
+        for (year, stands) in [
+            (0, true),
+            (1, false),
+            (1999, false),
+            (2000, true),
+            (2020, true),
+            (2021, false),
+            (2022, false),
+            (2099, false),
+            (2100, false),
+        ] {
+            let mut table = with_order();
+            table.bodies[1].closed = year;
+            let bytes = table.encode();
+            assert_eq!(number_at(&bytes, 64 + 40, 2), u64::from(year));
+            assert_eq!(Table::decode(&bytes), stands.then_some(table), "{year}");
+        }
+        // Another body's year says nothing of this one's records.
+        let mut table = with_order();
+        table.bodies[0].closed = 2099;
+        assert_eq!(Table::decode(&table.encode()), Some(table.clone()));
+        for at in 42..48 {
+            let mut bytes = table.encode();
+            bytes[16 + at] = 1;
+            assert_eq!(Table::decode(&bytes), None, "byte {at} of the entry");
+        }
+        // A table 1 has no such year.
+        table.bodies[0].closed = 0;
+        let mut old = table.encode_as(Form::One);
+        assert!(Table::decode_as(&old, Form::One).is_some());
+        old[16 + 24..16 + 26].copy_from_slice(&2020u16.to_be_bytes());
+        assert_eq!(Table::decode_as(&old, Form::One), None);
     }
 
     #[test]

@@ -401,7 +401,7 @@ fn conversion() {
         assert_eq!((answer(&damaged, 880).0, answer(&damaged, 0).0), (1, 1), "byte {at}");
     }
     // The longest table 1 has room as a table 2.
-    let empty = |code: &[u8], slots| Body { code: code.to_vec(), slots, orders: Vec::new() };
+    let empty = |code: &[u8], slots| Body { code: code.to_vec(), slots, closed: 0, orders: Vec::new() };
     let longest = Table { abi: *b"01234", bodies: vec![empty(b"A", 512), empty(b"a", 169)] };
     assert_eq!(answer(&longest.encode_as(Form::One), longest.length()), (0, longest.encode()));
 }

@@ -24,8 +24,8 @@ fn table() -> Table {
     Table {
         abi: *b"01234",
         bodies: vec![
-            Body { code: b"000471".to_vec(), slots: 4, orders: first },
-            Body { code: b"471".to_vec(), slots: 2, orders: second },
+            Body { code: b"000471".to_vec(), slots: 4, closed: 0, orders: first },
+            Body { code: b"471".to_vec(), slots: 2, closed: 0, orders: second },
         ],
     }
 }
@@ -198,7 +198,7 @@ fn the_longest_report() {
         let filled = (0..count).map(|body| {
             let slots = (left - (count - body - 1)).min(512);
             left -= slots;
-            Body { code: vec![b'a' + body as u8], slots, orders: Vec::new() }
+            Body { code: vec![b'a' + body as u8], slots, closed: 0, orders: Vec::new() }
         });
         let table = Table { abi: *b"01234", bodies: filled.collect() };
         let mut bytes = table.encode();

@@ -1,8 +1,5 @@
 //! `check`: whether a table is valid, and whether its log leads to it.
 
-use std::fs::File;
-use std::io::ErrorKind;
-
 use hondivole::{Refusal, Table};
 
 use super::Command;
@@ -11,7 +8,7 @@ use crate::desk;
 use crate::digest::digest;
 use crate::fault::Fault;
 use crate::json::number;
-use crate::log::{Entries, Entry, Next};
+use crate::log::{self, Entry};
 use crate::place::Place;
 use crate::say::Say;
 use crate::words;
@@ -30,15 +27,8 @@ fn run(mut args: Args, say: Say) -> Result<bool, Fault> {
     let path = args.path("TABLE")?;
     args.end()?;
     let place = Place::of_table(&path)?;
-    // Table and log are read while nobody changes them; where there is no lock file, nobody ever did.
-    let lock = match File::open(&place.lock) {
-        Err(error) if error.kind() == ErrorKind::NotFound => None,
-        lock => Some(lock.map_err(|error| Fault::file(&place.lock, error))?),
-    };
-    if let Some(lock) = &lock {
-        lock.lock_shared().map_err(|error| Fault::file(&place.lock, error))?;
-    }
-    let table = desk::look(&path)?;
+    // Others may go on changing the table: what is told is of a call that it had.
+    let mut table = desk::look(&path)?;
     if Table::over(&table).totals("") == Err(Refusal::TableNotValid) {
         let refusal = Refusal::TableNotValid;
         let json = words::verdict(Some((refusal, refusal.to_string())));
@@ -46,7 +36,7 @@ fn run(mut args: Args, say: Say) -> Result<bool, Fault> {
         return Ok(false);
     }
     let there = place.log.try_exists().map_err(|error| Fault::file(&place.log, error))?;
-    let (calls, last) = if there { logged(&place, digest(&table))? } else { (0, None) };
+    let (calls, last) = if there { logged(&place, &mut table)? } else { (0, None) };
     let text = match &last {
         None => format!("{}: valid, {}, no log", words::path(&path), words::count(table.len(), "byte")),
         Some(last) => format!(
@@ -96,24 +86,34 @@ fn of_flow(entry: &Entry) -> Option<(usize, u64, usize)> {
     (entry.call.name() == "flow").then_some((entry.answer.rows.len(), accepted, entry.call.bytes.len()))
 }
 
-/// How many calls the log has that led to the table of this digest, and the last of them.
-fn logged(place: &Place, table: u64) -> Result<(u64, Option<Entry>), Fault> {
-    let mut entries = Entries::of(&place.log)?;
-    let (mut last, mut one_before): (Option<Entry>, Option<Entry>) = (None, None);
-    while let Next::Whole(entry) = entries.next().map_err(|error| Fault::file(&place.log, error))? {
+/// How many calls the log has that led to the table, and the last of them. The table is then the one that was there when the log was read.
+fn logged(place: &Place, table: &mut Vec<u8>) -> Result<(u64, Option<Entry>), Fault> {
+    let mut last: Option<Entry> = None;
+    let mut fault = None;
+    let now = || match desk::look(&place.table) {
+        Ok(bytes) => {
+            *table = bytes;
+            Some(digest(table))
+        }
+        Err(error) => {
+            fault = Some(error);
+            None
+        }
+    };
+    let led = log::led(&place.log, now, |entry| {
         let (number, digest) = last.as_ref().map_or((0, digest(&[])), |last| (last.number, last.after));
         if number.checked_add(1) != Some(entry.number) || entry.before != digest {
-            return Err(Fault::file(&place.log, format!("entry {} doesn't follow on {number}", entry.number)));
+            return Err(format!("it doesn't follow on {number}"));
         }
-        one_before = last.replace(*entry);
+        last = Some(entry);
+        Ok(())
+    });
+    if let Some(fault) = fault {
+        return Err(fault);
     }
-    let damaged = || Fault::file(&place.log, format!("from byte {} on this is no log", entries.end));
-    let torn = entries.torn().map_err(|error| Fault::file(&place.log, error))?.ok_or_else(damaged)?;
-    // As every change has it: what is torn, and a call whose table did not reach the disk, count for nothing.
-    match last {
-        Some(last) if last.after == table => Ok((last.number, Some(last))),
-        Some(last) if last.before == table && torn == 0 => Ok((last.number - 1, one_before)),
-        None => Ok((0, None)),
-        _ => Err(Fault::file(&place.log, format!("it is whole up to byte {}, and doesn't lead to this table", entries.end))),
+    let led = led?;
+    if led.here == Some(false) {
+        return Err(Fault::file(&place.log, format!("it is whole up to byte {}, and doesn't lead to this table", led.end)));
     }
+    Ok((last.as_ref().map_or(0, |last| last.number), last))
 }

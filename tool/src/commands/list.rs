@@ -15,7 +15,8 @@ pub const COMMAND: Command = Command {
     name: "list",
     usage: "TABLE BODY",
     about: "lists a body's orders and their lines",
-    more: "In the order in which they were taken. A line is waiting, executed or replaced.",
+    more: "In the order in which they were taken. A line is waiting, executed or replaced. Where a year was closed, the last one is told; its\n\
+           orders are listed no more.",
     taking: &[],
     run,
 };
@@ -43,11 +44,14 @@ fn run(mut args: Args, say: Say) -> Result<bool, Fault> {
     };
     let records = records::records(&bytes, &body);
     let mut text = format!("{code}: {} in {}", words::count(records.len(), "order"), words::count(body.slots, "slot"));
+    if body.closed > 0 {
+        text += &format!(", closed up to {}", body.closed);
+    }
     for record in &records {
         text += &format!("\n  {}", record_words(record));
     }
     let json = object([("taken", true.into()), ("code", number(0)), ("body", code.into()), ("slots", number(body.slots as u64))])
-        .with([("orders", Json::List(records.iter().map(record_json).collect()))]);
+        .with([("closed", number(body.closed)), ("orders", Json::List(records.iter().map(record_json).collect()))]);
     say.answer(&text, &json)?;
     Ok(true)
 }

@@ -2,6 +2,7 @@
 //! are made again from a log.
 
 mod check;
+mod close;
 mod convert;
 mod flow;
 mod journal;
@@ -48,6 +49,7 @@ const COMMANDS: &[Command] = &[
     totals::COMMAND,
     list::COMMAND,
     journal::COMMAND,
+    close::COMMAND,
     convert::COMMAND,
     salvage::COMMAND,
     check::COMMAND,
@@ -63,6 +65,7 @@ pub(crate) const CHANGES: &[(&str, Apply)] = &[
     ("flow", flow::apply),
     ("execute", notice::execute),
     ("reverse", notice::reverse),
+    ("close", close::apply),
 ];
 
 /// Runs the program: the answer is its exit status.

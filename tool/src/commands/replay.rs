@@ -9,7 +9,7 @@ use crate::desk::{self, Desk};
 use crate::digest::digest;
 use crate::fault::Fault;
 use crate::json::number;
-use crate::log::{Entries, Entry, Next};
+use crate::log::{self, Entry};
 use crate::say::Say;
 use crate::words;
 
@@ -18,7 +18,8 @@ pub const COMMAND: Command = Command {
     usage: "LOG TABLE",
     about: "makes every call of a log again, from the first, and writes the table that they give",
     more: "TABLE is a file that isn't there yet. Each call has to get the answer that is logged and leave the table that is logged.\n\
-           Where LOG stands beside its own table, a last call that did not reach that table is left out.",
+           Where LOG stands beside its own table, a last call that did not reach that table is left out. Others may go on changing that\n\
+           table meanwhile: the answer is of a call that it had.",
     taking: &[],
     run,
 };
@@ -48,34 +49,31 @@ struct Replayed {
 }
 
 fn replayed(log: &Path) -> Result<Replayed, Fault> {
-    let own = log.to_str().and_then(|name| name.strip_suffix(".log")).and_then(|table| desk::look(Path::new(table)).ok());
-    let own = own.map(|table| digest(&table));
-    let mut entries = Entries::of(log)?;
-    let (mut table, mut before, mut calls) = (Vec::new(), Vec::new(), 0);
-    while let Next::Whole(entry) = entries.next().map_err(|error| Fault::file(log, error))? {
-        let left = again(&entry, &table, calls).map_err(|what| Fault::file(log, format!("entry {}: {what}", entry.number)))?;
-        before = std::mem::replace(&mut table, left);
+    let own = log.to_str().and_then(|name| name.strip_suffix(".log")).map(Path::new);
+    let own = || own.and_then(|own| desk::look(own).ok()).map(|table| digest(&table));
+    let (mut table, mut calls) = (Vec::new(), 0);
+    let led = log::led(log, own, |entry| {
+        table = again(&entry, &table, calls)?;
         calls += 1;
+        Ok(())
+    })?;
+    if calls == 0 {
+        return Err(Fault::file(log, format!("from byte {} on this is no log", led.end)));
     }
-    let torn = entries.torn().map_err(|error| Fault::file(log, error))?.filter(|_| calls > 0);
-    let torn = torn.ok_or_else(|| Fault::file(log, format!("from byte {} on this is no log", entries.end)))?;
-    if own.is_some_and(|own| own != digest(&table) && own == digest(&before)) && calls > 1 {
-        return Ok(Replayed { table: before, calls: calls - 1, torn });
-    }
-    Ok(Replayed { table, calls, torn })
+    Ok(Replayed { table, calls, torn: led.torn })
 }
 
 /// Makes a call again, and holds it to what is logged.
-fn again(entry: &Entry, table: &[u8], calls: usize) -> Result<Vec<u8>, &'static str> {
+fn again(entry: &Entry, table: &[u8], calls: usize) -> Result<Vec<u8>, String> {
     if entry.number != calls as u64 + 1 || entry.before != digest(table) {
-        return Err("this doesn't follow on the one before");
+        return Err("this doesn't follow on the one before".into());
     }
     let taken = entry.call.apply(table).ok_or("this is no call that the desk knows")?;
     if taken.answer != entry.answer {
-        return Err("the call gets another answer than the one that is logged");
+        return Err("the call gets another answer than the one that is logged".into());
     }
     if digest(&taken.table) != entry.after {
-        return Err("the call leaves another table than the one that is logged");
+        return Err("the call leaves another table than the one that is logged".into());
     }
     Ok(taken.table)
 }

@@ -179,7 +179,47 @@ fn opening_at_every_call_on_files() {
     println!("open: {calls} calls on files, each killed, without power and failing");
 }
 
-/// Flows and notices of three bodies, most of them cut down: by a kill from outside at a random moment, by a kill or a loss of power at a
+/// The same of a close that removes orders.
+#[test]
+fn close_at_every_call_on_files() {
+    let folder = folder("close");
+    let mut seen = Seen::default();
+    let file = folder.join("flow.xml");
+    fs::write(&file, flow("471", &[(Kind::Mandato, 1)])).unwrap();
+    let ready = |table: &Path| {
+        let name = table.to_str().unwrap();
+        for words in [
+            &["flow", name, file.to_str().unwrap()][..],
+            &["execute", name, "471", "mandato", "2021", "1", "1", "2021-03-03"],
+            &["execute", name, "471", "mandato", "2021", "1", "2", "2021-03-03"],
+        ] {
+            assert!(run(words, Cut::Not).status.success());
+        }
+        fs::read(table).unwrap()
+    };
+    let mut table = opened(&folder);
+    let before = ready(&table);
+    let mut after = Table::over(before.clone());
+    assert_eq!(after.close("471", 2021), Ok(1));
+    let close =
+        Step { words: ["close", table.to_str().unwrap(), "471", "2021"].map(String::from).into(), after: after.into_bytes() };
+    let words: Vec<_> = close.words.iter().map(String::as_str).collect();
+    let calls = calls_of(&words, &folder.join("count"));
+    for how in HOW {
+        for at in 1..=calls + 1 {
+            table = opened(&folder);
+            assert!(ready(&table) == before);
+            let now = seen.made(&table, &before, &close, Cut::At(at, how));
+            // Made again it is taken, or refused with 36 where it was.
+            let again = Step { words: close.words.clone(), after: close.after.clone() };
+            seen.made(&table, &now, &again, Cut::Not);
+            explained(&folder, &table);
+        }
+    }
+    println!("close: {calls} calls on files, {seen:?}");
+}
+
+/// Flows, notices and closes of three bodies, most of them cut down: by a kill from outside at a random moment, by a kill or a loss of power at a
 /// random call on files, or by a disk that fails. HONDIVOLE_CRASHES is how many.
 #[test]
 fn at_random_moments() {
@@ -189,13 +229,14 @@ fn at_random_moments() {
     let (mut table, mut now) = (PathBuf::new(), Vec::new());
     let mut usual = Duration::from_millis(5);
     let (mut plain, mut outside, mut inside) = (Seen::default(), Seen::default(), Seen::default());
+    let mut closes = 0;
     for i in 0..crashes {
         if i % 200 == 0 {
             table = opened(&folder);
             now = fs::read(&table).unwrap();
         }
         let step = step(&mut random, &folder, &table, &now);
-        let start = Instant::now();
+        let (start, before) = (Instant::now(), now.clone());
         now = match random.below(20) {
             0..=1 => {
                 let now = plain.made(&table, &now, &step, Cut::Not);
@@ -211,6 +252,8 @@ fn at_random_moments() {
                 inside.made(&table, &now, &step, Cut::At(1 + random.below(12), how))
             }
         };
+        let used = |table: &[u8]| BODIES.iter().map(|body| Table::over(table).totals(body.0).unwrap().used).sum::<usize>();
+        closes += u64::from(used(&now) < used(&before));
         if i % 50 == 49 || i + 1 == crashes {
             explained(&folder, &table);
         }
@@ -219,6 +262,6 @@ fn at_random_moments() {
         }
     }
     println!(
-        "{crashes} calls, seed {seed}\n  let alone {plain:?}\n  killed from outside {outside:?}\n  killed or failing at a call on files {inside:?}"
+        "{crashes} calls, seed {seed}, {closes} of them closes that removed orders\n  let alone {plain:?}\n  killed from outside {outside:?}\n  killed or failing at a call on files {inside:?}"
     );
 }

@@ -93,12 +93,17 @@ pub fn calls_of(words: &[&str], count: &Path) -> u64 {
     fs::read_to_string(count).unwrap().trim().parse().unwrap()
 }
 
-/// A flow of orders, each with two lines that sum to its total.
+/// A flow of orders of 2021, each with two lines that sum to its total.
 pub fn flow(body: &str, orders: &[(Kind, u64)]) -> String {
+    flow_of(body, 2021, orders)
+}
+
+/// The same of another year.
+pub fn flow_of(body: &str, year: u16, orders: &[(Kind, u64)]) -> String {
     let mut text =
         String::from("<flusso_ordinativi><codice_ABI_BT>01234</codice_ABI_BT><identificativo_flusso>A1</identificativo_flusso>");
     text += "<data_ora_creazione_flusso>2021-03-01T09:30:00</data_ora_creazione_flusso>";
-    text += &format!("<codice_ente_BT>{body}</codice_ente_BT><esercizio>2021</esercizio>");
+    text += &format!("<codice_ente_BT>{body}</codice_ente_BT><esercizio>{year}</esercizio>");
     for (kind, number) in orders {
         let (order, who) = if *kind == Kind::Mandato { ("mandato", "beneficiario") } else { ("reversale", "versante") };
         text += &format!("<{order}><tipo_operazione>INSERIMENTO</tipo_operazione><numero_{order}>{number}</numero_{order}>");
@@ -120,28 +125,57 @@ pub struct Step {
     pub after: Vec<u8>,
 }
 
-/// A random call on a table: a flow of one to three orders, or a notice. Flows are written to a file of the folder.
+/// The last year that a body of the table closed, 0 before the first: bytes 40 and 41 of its entry.
+fn closed(table: &[u8], body: usize) -> u16 {
+    let at = 16 + 48 * body + 40;
+    u16::from_be_bytes([table[at], table[at + 1]])
+}
+
+/// A waiting line of a body's acquired orders of a year: kind, year, number and line.
+fn waiting(table: &[u8], body: usize, year: u16) -> Option<(Kind, u16, u32, u8)> {
+    let entry = &table[16 + 48 * body..16 + 48 * (body + 1)];
+    let place = u32::from_be_bytes(entry[20..24].try_into().unwrap()) as usize;
+    let slots = table[place..].chunks(96).take(usize::from(BODIES[body].1));
+    let of_year = |slot: &&[u8]| slot[0] != 0 && slot[1] == 1 && slot[4..6] == year.to_be_bytes();
+    slots.filter(of_year).find_map(|slot| {
+        let line = slot[24..32].iter().position(|state| *state == 1)?;
+        let kind = if slot[0] == 1 { Kind::Mandato } else { Kind::Reversale };
+        Some((kind, year, u32::from_be_bytes(slot[8..12].try_into().unwrap()), line as u8 + 1))
+    })
+}
+
+/// A random call on a table: a flow of one to three orders, a notice, or now and then a close. Flows are written to a file of the folder.
 pub fn step(random: &mut Random, folder: &Path, table: &Path, before: &[u8]) -> Step {
-    let body = BODIES[random.below(3) as usize].0;
+    let at = random.below(3) as usize;
+    let body = BODIES[at].0;
+    // The first open year, or the one after it.
+    let first = closed(before, at).max(2020) + 1;
+    let year = first + u16::from(random.below(4) == 0);
     let kind = [Kind::Mandato, Kind::Reversale][random.below(2) as usize];
     let path = table.to_str().unwrap().to_string();
     let mut after = Table::over(before.to_vec());
+    if random.below(6) == 0 {
+        // It is taken as soon as the last of the year's lines is executed; then the next year begins.
+        let _ = after.close(body, first);
+        return Step { words: ["close", &path, body, &first.to_string()].map(String::from).into(), after: after.into_bytes() };
+    }
     if random.below(2) == 0 {
-        let first = 1 + random.below(30);
+        let first = 1 + random.below(3);
         let orders: Vec<_> = (0..1 + random.below(3)).map(|i| (kind, first + i)).collect();
-        let text = flow(body, &orders);
+        let text = flow_of(body, year, &orders);
         let file = folder.join("flow.xml");
         fs::write(&file, &text).unwrap();
-        after.flow(Edition::Oil, text.as_bytes(), &mut [0; MOST_OUTCOME_BYTES]).unwrap();
+        let _ = after.flow(Edition::Oil, text.as_bytes(), &mut [0; MOST_OUTCOME_BYTES]);
         return Step { words: vec!["flow".into(), path, file.to_str().unwrap().into()], after: after.into_bytes() };
     }
-    let (order, line) = (1 + random.below(30), 1 + random.below(2));
+    let any = (kind, year, 1 + random.below(6) as u32, 1 + random.below(2) as u8);
+    let (kind, year, order, line) = waiting(before, at, first).filter(|_| random.below(3) < 2).unwrap_or(any);
     let day = Date { year: 2021, month: 3, day: 3 };
-    let notice = Notice { body, kind, esercizio: 2021, number: order as u32, line: line as u8, day };
-    let name = if random.below(3) < 2 { "execute" } else { "reverse" };
+    let notice = Notice { body, kind, esercizio: year, number: order, line, day };
+    let name = if random.below(6) < 5 { "execute" } else { "reverse" };
     let _ = if name == "execute" { after.execute(&notice) } else { after.reverse(&notice) };
     let kind = if kind == Kind::Mandato { "mandato" } else { "reversale" };
-    let words = [name, &path, body, kind, "2021", &order.to_string(), &line.to_string(), "2021-03-03"].map(String::from);
+    let words = [name, &path, body, kind, &year.to_string(), &order.to_string(), &line.to_string(), "2021-03-03"].map(String::from);
     Step { words: words.into(), after: after.into_bytes() }
 }
 

@@ -1,9 +1,12 @@
 //! Two processes on one table: each waits for the other, and no call is lost.
 
-use std::fs;
+use std::fs::{self, File};
+use std::path::{Path, PathBuf};
+use std::sync::atomic::{AtomicBool, Ordering};
 use std::thread;
+use std::time::Duration;
 
-use crate::desk::{Cut, explained, flow, folder, number, run};
+use crate::desk::{Cut, explained, flow, folder, number, run, valid};
 use hondivole::{Kind, Table};
 
 #[test]
@@ -63,4 +66,159 @@ fn waits_for_the_lock() {
         assert!(output.status.success(), "{output:?}");
         assert!(String::from_utf8_lossy(&output.stderr).contains("waiting for another process"));
     });
+}
+
+/// A table of one body, and a flow for it.
+fn table_and_flow(folder: &Path) -> (PathBuf, PathBuf) {
+    let (table, file) = (folder.join("desk.table"), folder.join("flow.xml"));
+    let opened = run(&["open", table.to_str().unwrap(), "--abi", "01234", "471:4"], Cut::Not);
+    assert!(opened.status.success(), "{opened:?}");
+    fs::write(&file, flow("471", &[(Kind::Mandato, 1)])).unwrap();
+    (table, file)
+}
+
+/// Somebody removes the lock file while a process has it and another waits for it: that one waits for whoever locked the file made meanwhile.
+#[test]
+fn a_removed_lock_holds_nobody_in() {
+    let folder = folder("removed");
+    let (table, file) = table_and_flow(&folder);
+    let name = folder.join("desk.table.lock");
+    let words = ["flow", table.to_str().unwrap(), file.to_str().unwrap()];
+    let (before, first) = (fs::read(&table).unwrap(), File::open(&name).unwrap());
+    first.lock().unwrap();
+    thread::scope(|scope| {
+        let waiting = scope.spawn(|| run(&words, Cut::Not));
+        thread::sleep(Duration::from_millis(200));
+        fs::remove_file(&name).unwrap();
+        let second = File::create_new(&name).unwrap();
+        second.lock().unwrap();
+        drop(first);
+        thread::sleep(Duration::from_millis(300));
+        assert!(!waiting.is_finished() && fs::read(&table).unwrap() == before);
+        drop(second);
+        assert!(waiting.join().unwrap().status.success());
+    });
+    explained(&folder, &table);
+}
+
+/// Somebody removes the lock file while a process works: the next one makes another, and is held up by the lock on the table itself, also where
+/// the first one has replaced the table by then.
+#[test]
+fn a_table_is_held_too() {
+    let folder = folder("held");
+    let (table, file) = table_and_flow(&folder);
+    let words = ["flow", table.to_str().unwrap(), file.to_str().unwrap()];
+    let before = fs::read(&table).unwrap();
+    let held = File::open(&table).unwrap();
+    held.lock().unwrap();
+    thread::scope(|scope| {
+        fs::remove_file(folder.join("desk.table.lock")).unwrap();
+        let waiting = scope.spawn(|| run(&words, Cut::Not));
+        thread::sleep(Duration::from_millis(300));
+        assert!(!waiting.is_finished() && fs::read(&table).unwrap() == before);
+        // As a change does it: the next table is locked before it has the name.
+        let next = folder.join("next");
+        fs::write(&next, &before).unwrap();
+        let next_held = File::open(&next).unwrap();
+        next_held.lock().unwrap();
+        fs::rename(&next, &table).unwrap();
+        drop(held);
+        thread::sleep(Duration::from_millis(300));
+        assert!(!waiting.is_finished() && fs::read(&table).unwrap() == before);
+        drop(next_held);
+        let output = waiting.join().unwrap();
+        assert!(output.status.success(), "{output:?}");
+        assert!(String::from_utf8_lossy(&output.stderr).contains("waiting for another process"));
+    });
+    explained(&folder, &table);
+}
+
+/// Two processes on one table whose lock file is removed all the time: no call is lost, and the log gives the table.
+#[test]
+fn two_processes_without_a_lasting_lock() {
+    let each = number("HONDIVOLE_EACH", 8);
+    let folder = folder("unlocked");
+    let table = folder.join("desk.table");
+    let opened = run(&["open", table.to_str().unwrap(), "--abi", "01234", "000471:200", "471:200"], Cut::Not);
+    assert!(opened.status.success(), "{opened:?}");
+    let done = AtomicBool::new(false);
+    thread::scope(|scope| {
+        scope.spawn(|| {
+            while !done.load(Ordering::Relaxed) {
+                let _ = fs::remove_file(folder.join("desk.table.lock"));
+                thread::sleep(Duration::from_micros(300));
+            }
+        });
+        let (folder, table) = (&folder, &table);
+        let desks = ["000471", "471"].map(|body| {
+            scope.spawn(move || {
+                for number in 1..=each {
+                    let file = folder.join(format!("{body}-{number}.xml"));
+                    fs::write(&file, flow(body, &[(Kind::Mandato, number)])).unwrap();
+                    let output = run(&["flow", table.to_str().unwrap(), file.to_str().unwrap()], Cut::Not);
+                    assert!(output.status.success(), "{output:?}");
+                }
+            })
+        });
+        let ended = desks.map(|desk| desk.join());
+        done.store(true, Ordering::Relaxed);
+        assert!(ended.iter().all(Result::is_ok));
+    });
+    let bytes = fs::read(&table).unwrap();
+    for body in ["000471", "471"] {
+        assert_eq!(Table::over(&bytes).totals(body).unwrap().used as u64, each);
+    }
+    explained(&folder, &table);
+}
+
+/// `replay` and `check` beside a process that changes the table: they wait for nobody and hold up nobody, and what they tell is of a call that
+/// was made, never of half of one.
+#[test]
+fn replayed_while_it_grows() {
+    let each = number("HONDIVOLE_EACH", 8).max(20);
+    let folder = folder("grows");
+    let table = folder.join("desk.table");
+    let name = table.to_str().unwrap();
+    assert!(run(&["open", name, "--abi", "01234", "471:512"], Cut::Not).status.success());
+    let done = AtomicBool::new(false);
+    let looks = thread::scope(|scope| {
+        let looking = scope.spawn(|| {
+            let (mut used, mut looks) = (0, 0);
+            while !done.load(Ordering::Relaxed) {
+                let again = folder.join("again");
+                let _ = fs::remove_file(&again);
+                let at_least = fs::read(&table).unwrap();
+                let output = run(&["replay", &format!("{name}.log"), again.to_str().unwrap()], Cut::Not);
+                assert!(output.status.success(), "{output:?}");
+                let bytes = fs::read(&again).unwrap();
+                valid(&bytes);
+                let now = Table::over(&bytes).totals("471").unwrap().used;
+                let before = Table::over(&at_least).totals("471").unwrap().used;
+                assert!(now >= before.max(used), "a call that the table had is missing: {now} of {before}");
+                used = now;
+                let output = run(&["check", name], Cut::Not);
+                assert!(output.status.success(), "{output:?}");
+                looks += 1;
+            }
+            looks
+        });
+        for number in 1..=each {
+            let file = folder.join(format!("{number}.xml"));
+            let orders: Vec<_> = (0..8).map(|i| (Kind::Mandato, 8 * number + i)).collect();
+            fs::write(&file, flow("471", &orders)).unwrap();
+            let output = run(&["flow", name, file.to_str().unwrap()], Cut::Not);
+            assert!(output.status.success(), "{output:?}");
+        }
+        done.store(true, Ordering::Relaxed);
+        looking.join().unwrap()
+    });
+    assert!(looks > 1);
+    // A writer that has the lock holds neither of them up.
+    let lock = File::open(folder.join("desk.table.lock")).unwrap();
+    lock.lock().unwrap();
+    let soon = Cut::After(Duration::from_secs(20));
+    assert!(run(&["check", name], soon).status.success());
+    assert!(run(&["replay", &format!("{name}.log"), folder.join("last").to_str().unwrap()], soon).status.success());
+    drop(lock);
+    explained(&folder, &table);
 }
