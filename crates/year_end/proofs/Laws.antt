@@ -6,7 +6,8 @@ use mathlib.Core.List.{List}
 use native.Mathlib.Omega.{arith}
 use lib.ListN.{length}
 use lib.Dec.{leb}
-use borrow.Author.Tests.{le-leb, lt-leb}
+use borrow.Author.Tests.{le-leb, lt-leb, leb-false}
+use Rattle.bounds.specs.Bounds.{isYear}
 use Rattle.words.specs.Numbers.{put, bytes2}
 use Rattle.words.proofs.Laws.{Agree}
 use Rattle.record.specs.declared.Record.{Record}
@@ -99,6 +100,40 @@ module _ (last year : ℕ) (rs : List Record) where
         pub may-close : lineWaits year rs ≡ false → Closed (removed year rs) ≡ closeOf last year rs
         unfolding closeOf
         may-close w = rw (le-leb 2000 year l, le-leb year 2099 h, lt-leb year last a, e, w)
+
+-- it is one of these
+pub close-one : (P : CloseAnswer → Type 0) (last year : ℕ) (rs : List Record)
+    → P NotAYear → P AlreadyClosed → P EarlierRemains → P LineWaits → P (Closed (removed year rs)) → P (closeOf last year rs)
+unfolding closeOf
+close-one P last year rs a b c d e = go (isYear year) (leb year last) (earlierRemains year rs) (lineWaits year rs)
+  where
+    go : (w x y z : Bool) → P (cond w (cond x AlreadyClosed (cond y EarlierRemains (cond z LineWaits (Closed (removed year rs))))) NotAYear)
+    go false x y z = a
+    go true true y z = b
+    go true false true z = c
+    go true false false true = d
+    go true false false false = e
+
+-- and where it closes the year, nothing stands against it
+pub record May (last year : ℕ) (rs : List Record) (k : ℕ) : Type 0 where
+  pub a-year : isYear year ≡ true
+  pub open : last < year
+  pub none-earlier : earlierRemains year rs ≡ false
+  pub none-waits : lineWaits year rs ≡ false
+  pub count : k ≡ removed year rs
+
+pub closed-when : (last year : ℕ) (rs : List Record) (k : ℕ) → closeOf last year rs ≡ Closed k → May last year rs k
+unfolding closeOf
+closed-when last year rs k = go (isYear year) (leb year last) (earlierRemains year rs) (lineWaits year rs) refl refl refl refl
+  where
+    go : (w x y z : Bool) → isYear year ≡ w → leb year last ≡ x → earlierRemains year rs ≡ y → lineWaits year rs ≡ z
+        → cond w (cond x AlreadyClosed (cond y EarlierRemains (cond z LineWaits (Closed (removed year rs))))) NotAYear ≡ Closed k → May last year rs k
+    go false x y z a b c d e = let q : _≡_ {A = ℕ} 0 1 = cc in absurd (omega arith)
+    go true true y z a b c d e = let q : _≡_ {A = ℕ} 0 1 = cc in absurd (omega arith)
+    go true false true z a b c d e = let q : _≡_ {A = ℕ} 0 1 = cc in absurd (omega arith)
+    go true false false true a b c d e = let q : _≡_ {A = ℕ} 0 1 = cc in absurd (omega arith)
+    go true false false false a b c d e =
+        record { a-year = a; open = leb-false year last b; none-earlier = c; none-waits = d; count = let q : removed year rs ≡ k = cc in sym q }
 
 -- and for a table
 module _ (t code : List ℕ) (year : ℕ) where
