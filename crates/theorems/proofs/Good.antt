@@ -186,7 +186,7 @@ module _ (t₀ : List ℕ) (r : tableOk t₀ ≡ true) where
       pub slots-is : slotsOf t (entryOf b) ≡ size t₀ b
       slots-is = same-slots (g .contents) r b h
 
-      own-is : Own t t₀ (entryOf b)
+      pub own-is : Own t t₀ (entryOf b)
       own-is =
           let w = body-at t (g .ok) b (omega (arith, count-is)) in
           record {
@@ -205,7 +205,7 @@ module _ (t₀ : List ℕ) (r : tableOk t₀ ≡ true) where
       pub open-is : allLater (closedOf t (entryOf b)) (recordsAt t (base t₀ b) (size t₀ b)) ≡ true
       open-is = own-is .later
 
-      tail-in : tailOf b + tailSize ≤ length t
+      pub tail-in : tailOf b + tailSize ≤ length t
       tail-in = omega (arith, g .contents .long, entries-in)
 
       pub served : Served t (entryOf b) (base t₀ b) (size t₀ b)

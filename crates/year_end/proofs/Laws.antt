@@ -117,7 +117,7 @@ close-one P last year rs a b c d e = go (isYear year) (leb year last) (earlierRe
 -- and where it closes the year, nothing stands against it
 pub record May (last year : ℕ) (rs : List Record) (k : ℕ) : Type 0 where
   pub a-year : isYear year ≡ true
-  pub open : last < year
+  pub newer : last < year
   pub none-earlier : earlierRemains year rs ≡ false
   pub none-waits : lineWaits year rs ≡ false
   pub count : k ≡ removed year rs
@@ -133,7 +133,7 @@ closed-when last year rs k = go (isYear year) (leb year last) (earlierRemains ye
     go true false true z a b c d e = let q : _≡_ {A = ℕ} 0 1 = cc in absurd (omega arith)
     go true false false true a b c d e = let q : _≡_ {A = ℕ} 0 1 = cc in absurd (omega arith)
     go true false false false a b c d e =
-        record { a-year = a; open = leb-false year last b; none-earlier = c; none-waits = d; count = let q : removed year rs ≡ k = cc in sym q }
+        record { a-year = a; newer = leb-false year last b; none-earlier = c; none-waits = d; count = let q : removed year rs ≡ k = cc in sym q }
 
 -- and for a table
 module _ (t code : List ℕ) (year : ℕ) where
