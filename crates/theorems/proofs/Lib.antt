@@ -6,6 +6,7 @@ pub mod Condition2
 pub mod Good
 pub mod Named
 pub mod Steps
+pub mod Closed
 pub mod Calls
 pub mod Condition3
 pub mod Weighing
