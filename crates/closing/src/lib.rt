@@ -14,7 +14,7 @@ const STATE: usize = 1;
 
 const YEAR: usize = 4;
 
-// Whether a record of an earlier year remains: two bytes of each used slot are read.
+// Whether a record of an earlier year remains: of each slot only its kind and its esercizio are read.
 pub fn earlier_remains(t: &[u8], base: usize, n: usize, year: u64) -> bool
     requires { ⌜ base + slotSize * n ≤ length (now t) ⌝ }
     ensures { λ r. ⌜ r ≡ earlierRemains year (recordsAt (now (t .entry)) base n) ⌝ }

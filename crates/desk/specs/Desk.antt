@@ -72,7 +72,7 @@ abbrev pub flowAnswer : List ℕ → Reading → FlowAnswer
 flowAnswer t (refused a) = a
 flowAnswer t (served base n year os) = Taken (length os) (allAccepted t base n year os) (allSteps t base n year os)
 
--- the table afterwards: "Codes 1 to 10 change no buffer. Otherwise .. orders are taken as written, each on the table the one before left"
+-- the table afterwards: "Codes 1 to 10 change no buffer", nor do 23 and 36. "Otherwise .. orders are taken as written, each on the table the one before left"
 abbrev pub flowTable : List ℕ → Reading → List ℕ
 flowTable t (refused a) = t
 flowTable t (served base n year os) = allLeave t base n year os

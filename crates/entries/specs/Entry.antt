@@ -1,4 +1,4 @@
--- A body's entry (document 01, "The table", with document 02, Req 04), and bodies told apart by their codes. A request's 20 bytes per body are an
+-- A body's entry (document 01, "The table", with document 02, Req 04 and 14), and bodies told apart by their codes. A request's 20 bytes per body are an
 -- entry's bytes 0 to 19.
 use Prim.Native.Nat.{ℕ, zero, suc, _+_, _-_, _*_}
 use mathlib.Core.Bool.{Bool, true, _&&_, _||_, cond}
@@ -20,7 +20,7 @@ entrySize = 48
 abbrev pub entryFixed : ℕ
 entryFixed = 24
 
--- "cents paid at 24-31, cents collected at 32-39, rest zero" (02, Req 04): the place of a kind's, 1 mandato, paid, and 2 reversale, collected
+-- "cents paid at 24-31, cents collected at 32-39" (02, Req 04): the place of a kind's, 1 mandato, paid, and 2 reversale, collected
 abbrev pub keptPlace : ℕ → ℕ
 keptPlace kind = entryFixed + 8 * (kind - 1)
 
@@ -28,6 +28,7 @@ keptPlace kind = entryFixed + 8 * (kind - 1)
 abbrev pub closedPlace : ℕ
 closedPlace = 40
 
+-- after it "rest zero" (02, Req 04)
 abbrev pub entryRest : ℕ
 entryRest = 42
 
@@ -59,6 +60,7 @@ kept kind t at = be8 t (at + keptPlace kind)
 unfoldable pub closedOf : List ℕ → ℕ → ℕ
 closedOf t at = be2 t (at + closedPlace)
 
+-- what it may be: "(2000 to 2099), 0 before the first close"
 abbrev pub closedOk : ℕ → Bool
 closedOk year = eqb year 0 || isYear year
 

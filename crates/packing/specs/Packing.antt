@@ -1,4 +1,5 @@
--- A body's slots packed by flags, one flag for each slot: 1 keeps it (document 02, Req 13: "moves the kept ones up in order").
+-- A body's slots packed by flags, one flag for each slot: 1 keeps it (document 02, Req 13: "moves the kept ones up in order"; Req 14: "the
+-- rest move up").
 use Prim.Native.Nat.{ℕ, zero, suc, _+_, _-_, _*_}
 use mathlib.Core.Bool.{Bool, true, false, cond}
 use mathlib.Core.List.{List, [], _∷_, _++_}

@@ -96,7 +96,8 @@ noticeComes t base n executing k line = judgeNotice executing k line (recordsAt 
 unfoldable pub lineMoved : List ℕ → ℕ → Bool → ℕ → ℕ → List ℕ
 lineMoved t base executing line i = put t (statePlace base i line) (movedTo executing ∷ [])
 
--- "Every call that moves a line keeps them true" (document 02, Req 04): the entry at e with the cents paid and collected of these records
+-- "Every call that moves a line keeps them true" (document 02, Req 04), and so do salvage and a close (Req 13, 14): the entry
+-- at e with the cents paid and collected of these records
 unfoldable pub settled : List ℕ → ℕ → List Record → List ℕ
 settled t e rs = put t (e + entryFixed) (keptBytes (centsOf mandatoKind rs) (centsOf reversaleKind rs))
 

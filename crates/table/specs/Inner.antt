@@ -9,7 +9,7 @@ use Rattle.record.specs.Slot.{mandatoKind, reversaleKind}
 use Rattle.entries.specs.Entry.{entrySize, entryFixed, kept}
 use Rattle.table.specs.declared.Layout.{Layout}
 
--- an entry's rest lies in it and past what never changes; an entry that keeps totals, or a closed year, is one of table 2
+-- an entry's rest lies in it and past what never changes; an entry that keeps totals, or has a place for a closed year, is one of table 2
 pub record Known (l : Layout) : Type 0 where
   pub fixed : entryFixed ≤ l .rest
   pub inside : l .rest ≤ l .entry

@@ -17,8 +17,8 @@ use Rattle.ranges.specs.declared.Found.{Found}
 use Rattle.entries.specs.Entry.{entrySize, entryFixed, entryRest, kept, closedOf, closedOk, slotsOf, placeOf, formOk, codesFrom, findCode, distinctCodes}
 use Rattle.table.specs.declared.Layout.{Layout}
 
--- WHAT TELLS TABLES APART: an entry's size, where its rest begins, whether it keeps totals before that, whether lines may be replaced, whether it has a closed year
--- after the totals, the head's number, the greatest length
+-- WHAT TELLS TABLES APART: an entry's size, where its rest begins, whether it keeps totals before that, whether lines may be replaced, whether it has a place for
+-- a closed year after the totals, the head's number, the greatest length
 
 -- document 01: "2-3 the number 1", "One entry per body, 32 bytes", "20-23 place of its first slot; rest zero", "line states (0 no line, 1 waiting,
 -- 2 executed)", "at most 65,536"
@@ -54,7 +54,7 @@ headOk l t =
     between headSize (l .most) (length t) && (between 1 maxBodies (bodies t) && (eqb (be2 t 2) (l .number) && (eqb (be4 t 4) (length t)
     && (all isDigit (abiOf t) && (zeros t (abiPlace + abiLength) headSize && leb (headSize + l .entry * bodies t) (length t))))))
 
--- an entry's closed year, where it has one: "2000 to 2099, 0 before the first close"
+-- an entry's closed year, where it has a place for one: "(2000 to 2099), 0 before the first close"
 abbrev pub yearOk : Layout → List ℕ → ℕ → Bool
 yearOk l t at = cond (l .closes) (closedOk (closedOf t at)) true
 
@@ -84,7 +84,7 @@ linesHold l rs = cond (l .replaces) true (noneReplaced rs)
 abbrev pub yearsHold : Layout → List ℕ → ℕ → List Record → Bool
 yearsHold l t at rs = cond (l .closes) (allLater (closedOf t at) rs) true
 
--- the body of the entry at `at` is valid, and what the entry keeps agrees with it
+-- the body of the entry at `at` is valid; no line is replaced where none may be; its records are later than its closed year; the kept totals agree with them
 unfoldable pub bodyHolds : Layout → List ℕ → ℕ → Bool
 bodyHolds l t at =
     bodyOk t (placeOf t at) (slotsOf t at) && (linesHold l (recordsOf t at) && (yearsHold l t at (recordsOf t at)
@@ -95,7 +95,7 @@ unfoldable pub bodiesOk : Layout → List ℕ → ℕ → ℕ → Bool
 bodiesOk l t at zero = true
 bodiesOk l t at (suc n) = bodyHolds l t at && bodiesOk l t (at + l .entry) n
 
--- head and entries are right, what the entries keep aside (document 02, Req 13: "a valid head and entries but for the kept totals")
+-- head and entries are right, the closed years among them, the kept totals aside (document 02, Req 13: "a valid head and entries but for the kept totals")
 abbrev pub contentsOk : Layout → List ℕ → Bool
 contentsOk l t =
     headOk l t && (layoutOk l t headSize (bodies t) (headSize + l .entry * bodies t)

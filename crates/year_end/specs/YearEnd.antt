@@ -32,7 +32,7 @@ unfoldable pub bodyClosed : List ℕ → ℕ → ℕ → ℕ → ℕ → List �
 bodyClosed t e base n year =
     put (settled (yearRemoved t base n year) e (staying year (recordsAt t base n))) (e + closedPlace) (bytes2 year)
 
--- "a refusal removes 0 and changes nothing"
+-- the table afterwards: the body closed; else "a refusal removes 0 and changes nothing"
 abbrev pub closeStored : List ℕ → ℕ → ℕ → ℕ → ℕ → CloseAnswer → List ℕ
 closeStored t e base n year (Closed k) = bodyClosed t e base n year
 closeStored t e base n year InvalidTable = t

@@ -49,7 +49,7 @@ fn close_body(t: &mut [u8], e: usize, base: usize, n: usize, year: u64) -> usize
     count
 }
 
-// Closes a year in a body where nothing stands against it.
+// Closes a year in a body, unless something stands against it.
 fn close_in(t: &mut [u8], e: usize, base: usize, n: usize, year: u64) -> CloseAnswer
     requires { ⌜ Fits (now t) e base n ⌝ }
     ensures { λ a. ⌜ (a ≡ closeOf (closedOf (now (t .entry)) e) year (recordsAt (now (t .entry)) base n))
