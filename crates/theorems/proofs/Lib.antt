@@ -10,6 +10,7 @@ pub mod Closed
 pub mod Calls
 pub mod Condition3
 pub mod Weighing
+pub mod Staying
 pub mod Split
 pub mod History
 pub mod NoSecond
