@@ -240,7 +240,7 @@ module _ (E : Engine) (t₀ : List ℕ) (r : tableOk t₀ ≡ true) (b : ℕ) (l
   its-rises : (c : Call) (t : List ℕ) → Good t₀ t → who t₀ c ≡ some b → closedOf t (entryOf b) ≤ closedOf (after c t) (entryOf b)
   its-rises c t g e = (subst (λ (o : Option ℕ). Serves t₀ (strayCodes c) (bodyCodes c) (answer c) (after c) o) e (every t₀ r c)) .rises t g
 
-  engine-shuts : (c : Call) (t : List ℕ) → Good t₀ t → who t₀ c ≡ some b → (closedOf t (entryOf b) ≤ closedOf (E .next c t) (entryOf b)) × Shuts (closedOf (E .next c t) (entryOf b)) c (E .answer c t)
+  pub engine-shuts : (c : Call) (t : List ℕ) → Good t₀ t → who t₀ c ≡ some b → (closedOf t (entryOf b) ≤ closedOf (E .next c t) (entryOf b)) × Shuts (closedOf (E .next c t) (entryOf b)) c (E .answer c t)
   engine-shuts c t g e =
       let d = one-step c t (E .answer c t) (E .next c t) (E .keeps c t) in
       subst (λ (x : Answer × List ℕ). Grown c t (x .0) (x .1)) (λ i. (sym (d .0) i, sym (d .1) i)) (its-rises c t g e, its-shuts c t g e)

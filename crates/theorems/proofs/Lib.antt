@@ -22,3 +22,4 @@ pub mod Replacements
 pub mod Journal
 pub mod Converted
 pub mod Salvage
+pub mod Closing
