@@ -1,6 +1,6 @@
 -- Each call either names no body, and then changes nothing and has one answer, with a code of `strayCodes`, on every good table, or is one body's, and
 -- then keeps all but what that body owns, goes by that alone, and is answered with a code of `bodyCodes`.
-use Prim.Native.Nat.{ℕ, zero, suc, _*_, _≤_, _<_}
+use Prim.Native.Nat.{ℕ, zero, suc, _+_, _*_, _≤_, _<_}
 use native.Mathlib.Omega.{arith}
 use mathlib.Core.Logic.{inl, inr}
 use mathlib.Core.Path.{_≡_, refl, sym, ap, _∙_}
@@ -18,7 +18,8 @@ use Rattle.calendar.specs.declared.Date.{Date}
 use Rattle.target_days.specs.Target.{targetCode}
 use Rattle.record.specs.declared.Key.{Key}
 use Rattle.body.specs.Body.{centsOf, allLater}
-use Rattle.entries.specs.Entry.{closedOf}
+use Rattle.entries.specs.Entry.{closedPlace, closedOf}
+use Rattle.entries.proofs.Same.{closed-agree}
 use Rattle.record.specs.declared.Record.{Record}
 use Rattle.slots.specs.Slots.{recordsAt}
 use Rattle.body.proofs.Same.{used-agree, records-agree}
@@ -45,7 +46,7 @@ use Rattle.theorems.specs.Codes.{oneOf, strayCodes, noticeCodes, bodyCod
 use Rattle.theorems.proofs.Codes.{Or, date-codes, body-notice-codes}
 use Rattle.theorems.proofs.Steps.{answer, after}
 use Rattle.theorems.proofs.Good.{Good, base, size, Alike, Wrote, settled-wrote, kept-wrote, alike-left, closed-alike, open-is, ready, served as served-by}
-use Rattle.theorems.proofs.Closed.{fits, close-wrote}
+use Rattle.theorems.proofs.Closed.{fits, close-wrote, close-rises}
 use Rattle.theorems.proofs.Named.{Names, stray, body, names, Reads, refuses, serves, forYear, reads}
 
 -- a call that names no body, and the codes it may have
@@ -59,6 +60,8 @@ pub record Owned (t₀ codes : List ℕ) (b : ℕ) (ans : List ℕ → Answer) (
   pub low : b < bodies t₀
   pub wrote : (t : List ℕ) → Good t₀ t → Wrote t₀ t (aft t) b
   pub own : (s t : List ℕ) → Good t₀ s → Good t₀ t → Alike t₀ b s t → (ans s ≡ ans t) × Alike t₀ b (aft s) (aft t)
+  -- a year that is closed stays closed
+  pub rises : (t : List ℕ) → Good t₀ t → closedOf t (entryOf b) ≤ closedOf (aft t) (entryOf b)
   pub code : (t : List ℕ) → Good t₀ t → oneOf codes (answerCode (ans t)) ≡ true
 
 -- with the codes of a call that names no body, and of one that does
@@ -74,10 +77,11 @@ module _ (t₀ : List ℕ) (r : tableOk t₀ ≡ true) where
         → ((s t : List ℕ) → Good t₀ s → Good t₀ t → Alike t₀ b s t → (ans s ≡ ans t) × Agree (aft s) (base t₀ b) (aft t) (base t₀ b) (slotSize * size t₀ b))
         → ((t : List ℕ) → Good t₀ t → oneOf codes (answerCode (ans t)) ≡ true)
         → Owned t₀ codes b ans aft
-    in-slots kept open own code = record {
+    in-slots kept later own code = record {
       low = l;
-      wrote = λ t g. kept-wrote t₀ r t (aft t) g b l (kept t g) (open t g);
+      wrote = λ t g. kept-wrote t₀ r t (aft t) g b l (kept t g) (later t g);
       own = λ s t g h a. let x = own s t g h a in (x .0, alike-left t₀ r b l a (kept s g) (kept t h) (x .1));
+      rises = λ t g. let e = served-by t₀ r t g b l .entry in let q = closed-agree (entryOf b) (entryOf b) (kept t g .before (entryOf b + closedPlace) 2 (omega arith)) in omega arith;
       code = code;
     }
 
@@ -113,6 +117,11 @@ module _ (t₀ : List ℕ) (r : tableOk t₀ ≡ true) where
               let w = notice-own (a .slots) (a .tail) (served-by t₀ r s g b l) (served-by t₀ r t h b l) executing k line in
               rw (n s g, n t h)
               (ap (λ m. ofNotice (noticed m)) (notice-same (size t₀ b) (a .slots) (x .0) (y .0) executing k line), record { tail = w .1; slots = w .0 });
+          rises = λ t g.
+              let e = served-by t₀ r t g b l in
+              let s = notice-settled t (entryOf b) (base t₀ b) (size t₀ b) executing k line e in
+              let q = closed-agree (entryOf b) (entryOf b) (s .between (entryOf b + closedPlace) 2 (omega arith) (omega (arith, e .entry))) in
+              rw (n t g) (omega arith);
           code = λ t g. rw (n t g) (body-notice-codes t (base t₀ b) (size t₀ b) executing k line);
         }
 
@@ -174,6 +183,7 @@ module _ (t₀ : List ℕ) (r : tableOk t₀ ≡ true) where
             let T = fits t₀ r t h b l in
             let w = close-own year (a .slots) (a .tail) S T in
             rw (n s g, n t h) (ap ofClose (close-same year (a .slots) (a .tail) S T), record { tail = w .1; slots = w .0 });
+        rises = λ t g. rw (n t g) (close-rises t₀ r t g b l year);
         code = λ t g. rw (n t g)
             (close-one (λ x. oneOf closeCodes (closeCode x) ≡ true) (closedOf t (entryOf b)) year (recordsAt t (base t₀ b) (size t₀ b)) refl refl refl refl refl);
       }

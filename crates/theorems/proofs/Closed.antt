@@ -84,3 +84,24 @@ module _ (t₀ : List ℕ) (r : tableOk t₀ ≡ true) (t : List ℕ) (g : Good 
         go AlreadyClosed q = same-wrote
         go EarlierRemains q = same-wrote
         go LineWaits q = same-wrote
+
+    -- the year that it leaves closed is not an earlier one, and where it closes a year it is that
+    pub closed-is : (k : ℕ) → May (closedOf t (entryOf b)) year (recordsAt t (base t₀ b) (size t₀ b)) k
+        → closedOf (bodyClosed t (entryOf b) (base t₀ b) (size t₀ b) year) (entryOf b) ≡ year
+    closed-is k m = let y = year-bounds year (m .a-year) in closed-year t (entryOf b) (base t₀ b) (size t₀ b) year fits (omega arith)
+
+    pub close-rises : closedOf t (entryOf b)
+        ≤ closedOf (closeStored t (entryOf b) (base t₀ b) (size t₀ b) year (closeOf (closedOf t (entryOf b)) year (recordsAt t (base t₀ b) (size t₀ b)))) (entryOf b)
+    close-rises = go (closeOf (closedOf t (entryOf b)) year (recordsAt t (base t₀ b) (size t₀ b))) refl
+      where
+        go : (a : CloseAnswer) → closeOf (closedOf t (entryOf b)) year (recordsAt t (base t₀ b) (size t₀ b)) ≡ a
+            → closedOf t (entryOf b) ≤ closedOf (closeStored t (entryOf b) (base t₀ b) (size t₀ b) year a) (entryOf b)
+        go (Closed k) q =
+            let m = closed-when (closedOf t (entryOf b)) year (recordsAt t (base t₀ b) (size t₀ b)) k q in
+            omega (arith, m .newer, closed-is k m)
+        go InvalidTable q = omega arith
+        go UnknownBody q = omega arith
+        go NotAYear q = omega arith
+        go AlreadyClosed q = omega arith
+        go EarlierRemains q = omega arith
+        go LineWaits q = omega arith

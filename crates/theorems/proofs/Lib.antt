@@ -10,6 +10,7 @@ pub mod Closed
 pub mod Calls
 pub mod Condition3
 pub mod Weighing
+pub mod Staying
 pub mod Split
 pub mod History
 pub mod NoSecond
@@ -21,3 +22,4 @@ pub mod Replacements
 pub mod Journal
 pub mod Converted
 pub mod Salvage
+pub mod Closing

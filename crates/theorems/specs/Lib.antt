@@ -11,3 +11,4 @@ pub mod Searches
 pub mod Replacements
 pub mod Journal
 pub mod Salvage
+pub mod Closing
