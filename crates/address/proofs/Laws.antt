@@ -9,8 +9,8 @@ use Rattle.ranges.specs.declared.Found.{Found}
 use Rattle.ranges.specs.declared.Found.the-variants.{At, Nothing}
 use Rattle.record.specs.Slot.{slotSize}
 use Rattle.slots.specs.Slots.{recordsAt}
-use Rattle.body.specs.Body.{bodyOk}
-use Rattle.entries.specs.Entry.{entrySize, slotsOf, placeOf}
+use Rattle.body.specs.Body.{bodyOk, allLater}
+use Rattle.entries.specs.Entry.{entrySize, slotsOf, placeOf, closedOf}
 use Rattle.bounds.specs.Bounds.{maxSlots, maxLength}
 use Rattle.table.specs.Table.{table2, agrees, tableOk, bodyOf, entryOf}
 use Rattle.table.proofs.Laws.{head, table, body-same}
@@ -24,13 +24,15 @@ pub record Row (t : List ℕ) (b : ℕ) : Type 0 where
   pub ends : entryOf b + entrySize ≤ length t
   pub fits : length t ≤ maxLength
 
--- THE BODY THAT A CODE NAMES: its slots lie after its entry and within the table, they are valid, and the entry agrees with them
+-- THE BODY THAT A CODE NAMES: its slots lie after its entry and within the table, they are valid, the entry agrees with them, and their records are later
+-- than its closed year
 pub record Slots (t : List ℕ) (e base n : ℕ) : Type 0 where
   pub entry : e + entrySize ≤ base
   pub inside : base + slotSize * n ≤ length t
   pub few : n ≤ maxSlots
   pub valid : bodyOk t base n ≡ true
   pub agreed : agrees t e (recordsAt t base n) ≡ true
+  pub later : allLater (closedOf t e) (recordsAt t base n) ≡ true
 
 module _ (t code : List ℕ) where
   pub to-unknown : bodyOf t code ≡ Nothing → Unknown ≡ bodyNamed t code
@@ -74,6 +76,7 @@ module _ (t code : List ℕ) where
               few = omega arith;
               valid = sym (body-same t p s) ∙ w .holds .body;
               agreed = sym (λ j. agrees t (d j) (recordsAt t (p j) (s j))) ∙ w .holds .kept refl;
+              later = sym (λ j. allLater (closedOf t (d j)) (recordsAt t (p j) (s j))) ∙ w .holds .later;
             }
 
   pub slots : {e base n : ℕ} → addressed t code ≡ Body e base n → Slots t e base n

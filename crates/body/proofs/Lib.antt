@@ -4,3 +4,4 @@ pub mod Slots
 pub mod Puts
 pub mod State
 pub mod Replaced
+pub mod Later

@@ -2,7 +2,7 @@
 use Prim.Native.Nat.{ℕ, zero, suc, _+_, _*_}
 use mathlib.Core.Bool.{Bool, true, false, _&&_, _||_, cond}
 use mathlib.Core.List.{List, [], _∷_}
-use lib.Dec.{eqb}
+use lib.Dec.{eqb, ltb}
 use Rattle.record.specs.Slot.{slotSize, replacedLine, recordAt, restZero}
 use Rattle.record.specs.declared.Record.{Record}
 use Rattle.ranges.specs.Ranges.{zeros}
@@ -44,3 +44,8 @@ anyReplaced (s ∷ states) = eqb s replacedLine || anyReplaced states
 unfoldable pub noneReplaced : List Record → Bool
 noneReplaced [] = true
 noneReplaced (r ∷ rs) = cond (anyReplaced (r .states)) false (noneReplaced rs)
+
+-- CLOSED YEARS (document 02, Req 14: "a valid table holds no record of that or an earlier year"): every record is of a later year
+unfoldable pub allLater : ℕ → List Record → Bool
+allLater year [] = true
+allLater year (r ∷ rs) = ltb year (r .esercizio) && allLater year rs

@@ -1,4 +1,5 @@
-// One body: whether its slots are valid, and the sums of its executed lines, in one walk.
+// One body: whether its slots are valid, and the sums of its executed lines, in one walk; whether a line is replaced, and whether all records are of later
+// years.
 use valid::Judged;
 ghost use mathlib.Core.Path.{_≡_};
 ghost use Prim.Native.Nat.{_+_, _*_, _≤_};
@@ -8,8 +9,11 @@ ghost use Rattle.record.specs.Slot.{slotSize, recordAt};
 ghost use Rattle.valid.specs.Valid.{executed};
 ghost use Rattle.valid.specs.Inner.{told};
 ghost use Rattle.slots.specs.Slots.{slotsAt, recordsAt};
-ghost use Rattle.body.specs.Body.{slotOk, slotsOk, bodyOk, anyReplaced, noneReplaced};
+ghost use Rattle.body.specs.Body.{slotOk, slotsOk, bodyOk, anyReplaced, noneReplaced, allLater};
 ghost use Rattle.body.specs.Inner.{summed};
+
+// Where a slot has its record's year.
+const ESERCIZIO: usize = 4;
 
 // A body judged: broken, or valid with the cents of its executed lines, paid and collected.
 pub enum Sums {
@@ -110,4 +114,30 @@ pub fn none_replaced(t: &[u8], base: usize, n: usize) -> bool
 {
     let used = slots::used_slots(t, base, n);
     slots_unreplaced(t, base, used)
+}
+
+// Whether the records of the n used slots from a place on are of later years, each read where it stands.
+fn slots_later(t: &[u8], base: usize, n: usize, year: u64) -> bool
+    requires { ⌜ base + slotSize * n ≤ length (now t) ⌝ }
+    ensures { λ r. ⌜ r ≡ allLater year (slotsAt (now (t .entry)) base n) ⌝ }
+{
+    let mut at = base;
+    let mut left = n;
+    while 0 < left {
+        if words::read2(t, at + ESERCIZIO) <= year {
+            return false;
+        }
+        at += record::SLOT;
+        left -= 1;
+    }
+    true
+}
+
+// Whether every record of a body of n slots is of a later year.
+pub fn all_later(t: &[u8], base: usize, n: usize, year: u64) -> bool
+    requires { ⌜ base + slotSize * n ≤ length (now t) ⌝ }
+    ensures { λ r. ⌜ r ≡ allLater year (recordsAt (now (t .entry)) base n) ⌝ }
+{
+    let used = slots::used_slots(t, base, n);
+    slots_later(t, base, used, year)
 }

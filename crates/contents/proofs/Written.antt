@@ -15,7 +15,7 @@ use Rattle.bounds.specs.Bounds.{abiLength, maxBodies, maxLength}
 use Rattle.record.specs.Slot.{slotSize}
 use Rattle.ranges.specs.Ranges.{zeros}
 use Rattle.ranges.proofs.Laws.{get-zeros}
-use Rattle.entries.specs.Entry.{entrySize, entryFixed, entryRest, requestSize, slotsOf, placeOf, kept, keptBytes, formsOk, slotsFrom}
+use Rattle.entries.specs.Entry.{entrySize, entryFixed, closedPlace, entryRest, requestSize, slotsOf, placeOf, kept, keptBytes, closedOf, formsOk, slotsFrom}
 use Rattle.entries.proofs.Laws.{times, forms-split}
 use Rattle.entries.proofs.Same.{part-agree, slots-agree, form-agree, Rows}
 use Rattle.entries.proofs.Same.Rows.{none, row}
@@ -47,9 +47,9 @@ getD-zeros zero i = refl
 getD-zeros (suc n) zero = refl
 getD-zeros (suc n) (suc i) = getD-zeros n i
 
-agree-zeros : (o : List ℕ) (p n e : ℕ) → Agree o p (replicate n 0) 0 n → e ≡ p + n → zeros o p e ≡ true
-agree-zeros o p n e h f =
-    get-zeros o p e
+agree-zeros : (o : List ℕ) (p n a e : ℕ) → Agree o p (replicate n 0) 0 n → p ≤ a → e ≤ p + n → zeros o a e ≡ true
+agree-zeros o p n a e h k f =
+    get-zeros o a e
     (λ i l u.
     let q : i ≡ p + (i - p) = omega arith in
     ap (λ (z : ℕ). getD o z 0) q ∙ h .same (i - p) (omega arith) ∙ getD-zeros n (0 + (i - p)))
@@ -93,7 +93,7 @@ module _ (o : List ℕ) (n len : ℕ) (abi : List ℕ) (five : length abi ≡ ab
   unfolding headBytes
   head-padded =
       let l = length-append (bytes2 n ++ bytes2 2 ++ bytes4 len) abi in
-      agree-zeros o 13 3 16 (agree-right (bytes2 n ++ bytes2 2 ++ bytes4 len ++ abi) (0 ∷ 0 ∷ 0 ∷ []) h 13 3 (omega arith) (omega arith)) refl
+      agree-zeros o 13 3 13 16 (agree-right (bytes2 n ++ bytes2 2 ++ bytes4 len ++ abi) (0 ∷ 0 ∷ 0 ∷ []) h 13 3 (omega arith) (omega arith)) (omega arith) (omega arith)
 
   pub head-valid : 1 ≤ n → n ≤ maxBodies → length o ≡ len → len ≤ maxLength → all isDigit abi ≡ true → headSize + entrySize * n ≤ len → headOk table2 o ≡ true
   unfolding headOk
@@ -151,14 +151,19 @@ module _ (o : List ℕ) (to : ℕ) (form : List ℕ) (p paid collected : ℕ) (t
       let q : to + 32 ≡ to + 24 + 8 = omega arith in
       ap (be8 o) q ∙ same8 (agree-right (bytes8 paid) (bytes8 collected) its-kept 8 8 refl (omega arith)) (omega arith) ∙ be8-bytes collected ∙ mod-eq-of-lt b
 
-  pub entry-rest : zeros o (to + entryRest) (to + entrySize) ≡ true
+  last-8 : Agree o (to + closedPlace) (replicate 8 0) 0 8
   unfolding entryBytes
-  entry-rest =
+  last-8 =
       let l = length-append form (bytes4 p) in
       let m = length-append (form ++ bytes4 p) (keptBytes paid collected) in
-      agree-zeros o (to + 40) 8 (to + entrySize)
-      (agree-right (form ++ bytes4 p ++ keptBytes paid collected) (replicate 8 0) h 40 8 (omega (arith, length-kept paid collected)) (omega arith))
-      (omega arith)
+      agree-right (form ++ bytes4 p ++ keptBytes paid collected) (replicate 8 0) h closedPlace 8 (omega (arith, length-kept paid collected)) (omega arith)
+
+  pub entry-closed : closedOf o to ≡ 0
+  unfolding closedOf be2
+  entry-closed = same2 last-8 (omega arith)
+
+  pub entry-rest : zeros o (to + entryRest) (to + entrySize) ≡ true
+  entry-rest = agree-zeros o (to + closedPlace) 8 (to + entryRest) (to + entrySize) last-8 (omega arith) (omega arith)
 
 -- ENTRIES written from s: the n of o from `to` on
 pub record Written (size : ℕ) (cents : ℕ → ℕ → ℕ) (o s : List ℕ) (to at n p : ℕ) : Type 0 where
@@ -204,6 +209,9 @@ module _ {size : ℕ} {cents : ℕ → ℕ → ℕ} (wide : requestSize ≤ size
     pub written-place : p < 4294967296 → placeOf o to ≡ p
     written-place = entry-place o to (part s at (at + requestSize)) p (cents 1 at) (cents 2 at) its-form written-first
 
+    pub written-closed : closedOf o to ≡ 0
+    written-closed = entry-closed o to (part s at (at + requestSize)) p (cents 1 at) (cents 2 at) its-form written-first
+
     written-zeros : zeros o (to + entryRest) (to + entrySize) ≡ true
     written-zeros = entry-rest o to (part s at (at + requestSize)) p (cents 1 at) (cents 2 at) its-form written-first
 
@@ -222,7 +230,7 @@ module _ {size : ℕ} {cents : ℕ → ℕ → ℕ} (wide : requestSize ≤ size
       let k = written-form w in
       let g = forms-split size s at (suc n) n refl f in
       let e = eq-eqb (placeOf o to) p (written-place w (omega arith)) in
-      rw (form-agree k (omega arith) (room w) (g .0), e, written-zeros w, slots-agree k (omega arith))
+      rw (form-agree k (omega arith) (room w) (g .0), e, written-closed w, written-zeros w, slots-agree k (omega arith))
       (written-layout (to + entrySize) (at + size) n (p + slotSize * slotsOf s at) (written-rest w) (g .1) (omega arith) m)
 
   -- what entry b keeps
@@ -242,3 +250,11 @@ module _ {size : ℕ} {cents : ℕ → ℕ → ℕ} (wide : requestSize ≤ size
       let x : to + entrySize * suc b ≡ to + entrySize + entrySize * b = omega arith in
       let y : at + size * suc b ≡ at + size + size * b = omega (arith, times size (suc b) b refl) in
       rw (x, y) (written-kept (to + entrySize) (at + size) n (p + slotSize * slotsOf s at) b (written-rest w) (omega arith))
+
+  -- and no year is closed in it
+  pub written-open : (to at n p b : ℕ) → Written size cents o s to at n p → b < n → closedOf o (to + entrySize * b) ≡ 0
+  written-open to at zero p b w h = absurd (not-suc-le-zero h)
+  written-open to at (suc n) p zero w h = let x : to + entrySize * 0 ≡ to = omega arith in rw x (written-closed w)
+  written-open to at (suc n) p (suc b) w h =
+      let x : to + entrySize * suc b ≡ to + entrySize + entrySize * b = omega arith in
+      rw x (written-open (to + entrySize) (at + size) n (p + slotSize * slotsOf s at) b (written-rest w) (omega arith))

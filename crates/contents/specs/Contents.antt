@@ -12,7 +12,8 @@ use Rattle.table.specs.Table.{table2}
 unfoldable pub headBytes : ℕ → ℕ → List ℕ → List ℕ
 headBytes n len abi = bytes2 n ++ bytes2 (table2 .number) ++ bytes4 len ++ abi ++ 0 ∷ 0 ∷ 0 ∷ []
 
--- an entry: its bytes 0 to 19, the place p of its first slot, "cents paid at 24-31, cents collected at 32-39, rest zero"
+-- an entry: its bytes 0 to 19, the place p of its first slot, "cents paid at 24-31, cents collected at 32-39, rest zero"; so no year is closed (Req 14: "0
+-- before the first close")
 unfoldable pub entryBytes : List ℕ → ℕ → ℕ → ℕ → List ℕ
 entryBytes form p paid collected = form ++ bytes4 p ++ keptBytes paid collected ++ replicate 8 0
 

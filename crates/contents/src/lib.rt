@@ -21,7 +21,7 @@ pub fn put_head(t: &mut [u8], n: usize, len: usize, abi: &[u8])
     words::copy_in(t, table::REST, &rest);
 }
 
-// Writes the entry at a place: its bytes 0 to 19, the place of the first slot, the cents paid and collected, and zeros.
+// Writes the entry at a place: its bytes 0 to 19, the place of the first slot, the cents paid and collected, no closed year, and zeros.
 pub fn put_entry(t: &mut [u8], to: usize, form: &[u8], p: usize, paid: u64, collected: u64)
     requires { ⌜ (to + entrySize ≤ length (now t)) × (length (now form) ≡ requestSize) ⌝ }
     ensures { λ _. ⌜ now (t .exit) ≡ put (now (t .entry)) to (entryBytes (now (form .entry)) p paid collected) ⌝ }
@@ -30,5 +30,5 @@ pub fn put_entry(t: &mut [u8], to: usize, form: &[u8], p: usize, paid: u64, coll
     words::write4(t, to + entries::REQUEST, p as u64);
     entries::settle(t, to, paid, collected);
     let rest = [0u8; 8];
-    words::copy_in(t, to + entries::REST, &rest);
+    words::copy_in(t, to + entries::CLOSED, &rest);
 }

@@ -12,16 +12,17 @@ use Rattle.words.proofs.Laws.{Agree, on}
 use Rattle.bounds.specs.Bounds.{maxLength, maxSlots}
 use Rattle.record.specs.Slot.{slotSize}
 use Rattle.slots.specs.Slots.{recordsAt}
-use Rattle.body.specs.Body.{bodyOk, centsOf}
+use Rattle.body.specs.Body.{bodyOk, centsOf, allLater}
 use Rattle.body.proofs.Laws.{cents-most}
+use Rattle.body.proofs.Later.{open-later}
 use Rattle.body.proofs.Same.{fewer, records-agree, body-agree}
-use Rattle.entries.specs.Entry.{entrySize, requestSize, kept, slotsOf, placeOf, codesFrom, slotsFrom, formsOk}
+use Rattle.entries.specs.Entry.{entrySize, requestSize, kept, closedOf, slotsOf, placeOf, codesFrom, slotsFrom, formsOk}
 use Rattle.entries.proofs.Same.{Rows, codes-rows, slots-rows}
 use Rattle.table.specs.Table.{table1, table2, headSize, bodies, abiOf, headOk, layoutOk, agrees, recordsOf, bodyHolds, validAs, tableOk, codesOf, entryOf}
 use Rattle.table.proofs.Laws.{known-1, known-2, entry, lay-split, head, table}
 use Rattle.table.proofs.Bodies.{Body, body-of, bodies-each}
 use Rattle.contents.specs.Contents.{headBytes, entriesBytes}
-use Rattle.contents.proofs.Written.{getD-second, agree-left, agree-right, head-bodies, head-abi, head-valid, Written, written-place, written-rest, written-rows, written-layout, written-kept}
+use Rattle.contents.proofs.Written.{getD-second, agree-left, agree-right, head-bodies, head-abi, head-valid, Written, written-place, written-rest, written-rows, written-layout, written-kept, written-open}
 use Rattle.convert.specs.Convert.{grownLength, centsAt, converted}
 use Rattle.convert.specs.Same.{oldEntry, Same}
 use Rattle.convert.proofs.Laws.{room, few, five, long-head, long-entries, long-slots, converted-long, lay-sum}
@@ -152,13 +153,17 @@ module _ (o : List ℕ) (ok : validAs table1 o ≡ true) where
     collected : kept 2 new (entryOf b) ≡ centsOf 2 (recordsOf o (oldEntry b))
     collected = written-kept (omega arith) headSize headSize n (headSize + entrySize * n) b written h .1 (small 2)
 
+    closed : closedOf new (entryOf b) ≡ 0
+    closed = written-open (omega arith) headSize headSize n (headSize + entrySize * n) b written h
+
     holds : bodyHolds table2 new (entryOf b) ≡ true
     unfolding bodyHolds agrees
     holds =
         let x = ap (bodyOk new (placeOf new (entryOf b))) (slots b h) ∙ body-agree (slotsOf o (oldEntry b)) its-slots ∙ old .holds .body in
         let y = eq-eqb (kept 1 new (entryOf b)) (centsOf 1 (recordsOf new (entryOf b))) (paid ∙ ap (centsOf 1) (sym records)) in
         let z = eq-eqb (kept 2 new (entryOf b)) (centsOf 2 (recordsOf new (entryOf b))) (collected ∙ ap (centsOf 2) (sym records)) in
-        λ i. x i && (y i && z i)
+        let w = ap (λ (c : ℕ). allLater c (recordsOf new (entryOf b))) closed ∙ open-later new (placeOf new (entryOf b)) (slotsOf new (entryOf b)) 0 (omega arith) x in
+        λ i. x i && (w i && (y i && z i))
 
   pub converted-valid : tableOk new ≡ true
   unfolding validAs
@@ -177,4 +182,5 @@ module _ (o : List ℕ) (ok : validAs table1 o ≡ true) where
     records = records;
     paid = paid;
     collected = collected;
+    closed = closed;
   }

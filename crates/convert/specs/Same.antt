@@ -6,7 +6,7 @@ use mathlib.Core.List.{List}
 use lib.ListN.{length}
 use Rattle.bounds.specs.Bounds.{maxLength}
 use Rattle.body.specs.Body.{centsOf}
-use Rattle.entries.specs.Entry.{kept, slotsOf, codesFrom}
+use Rattle.entries.specs.Entry.{kept, closedOf, slotsOf, codesFrom}
 use Rattle.table.specs.Table.{table1, headSize, bodies, abiOf, codesOf, recordsOf, tableOk, entryOf}
 use Rattle.convert.specs.Convert.{grownLength}
 
@@ -29,3 +29,5 @@ pub record Same (o t : List ℕ) : Type 0 where
   pub records : (b : ℕ) → b < bodies o → recordsOf t (entryOf b) ≡ recordsOf o (oldEntry b)
   pub paid : (b : ℕ) → b < bodies o → kept 1 t (entryOf b) ≡ centsOf 1 (recordsOf o (oldEntry b))
   pub collected : (b : ℕ) → b < bodies o → kept 2 t (entryOf b) ≡ centsOf 2 (recordsOf o (oldEntry b))
+  -- no year is closed
+  pub closed : (b : ℕ) → b < bodies o → closedOf t (entryOf b) ≡ 0

@@ -23,7 +23,9 @@ use Rattle.header.specs.Heading.{rootRows, headingFrom, headerBy, Within}
 use Rattle.header.proofs.Laws.{heading-header, heading-within, heading-orders}
 use Rattle.structure.proofs.Laws.{fits-parts}
 use Rattle.table.specs.Table.{tableOk, abiOf}
+use Rattle.entries.specs.Entry.{closedOf}
 use Rattle.address.specs.declared.Addressed.{Addressed}
+use Rattle.address.specs.declared.Addressed.the-variants.{Body}
 use Rattle.address.specs.Address.{bodyNamed}
 use Rattle.flow.specs.declared.Verdict.{Verdict}
 use Rattle.flow.specs.declared.Verdict.the-variants.{Stands}
@@ -31,7 +33,7 @@ use Rattle.flow.specs.Flow.{verdictOf, headerOf, flowOrders}
 use Rattle.flow.proofs.Laws.{flow-stood}
 use Rattle.service.specs.Service.{allLeave, allOutcomes, allAccepted, allSteps}
 use Rattle.desk.specs.declared.FlowAnswer.{FlowAnswer}
-use Rattle.desk.specs.declared.FlowAnswer.the-variants.{InvalidTable, UnknownEdition, TooLong, OtherBank, NoRoom, Taken}
+use Rattle.desk.specs.declared.FlowAnswer.the-variants.{InvalidTable, UnknownEdition, TooLong, OtherBank, ClosedYear, NoRoom, Taken}
 use Rattle.desk.specs.Desk.{maxFlow, withRoom, forBody, forBank, forFlow, flowReads, Gives, FlowPromise}
 use Rattle.serving.specs.Served.{ordersFrom, Rooted}
 use Rattle.desk.specs.Steps.{bodyFor}
@@ -49,8 +51,17 @@ module _ (t out : List ℕ) (os : List Ordinativo) where
 
 module _ (t out : List ℕ) (h : Header) (os : List Ordinativo) where
   pub body-read : {code : List ℕ} {a b : Addressed} {r : FlowAnswer} {t′ out′ : List ℕ} → code ≡ h .ente → a ≡ bodyNamed t code → a ≡ b
-      → Gives t out (forBody (length out) (h .esercizio) os b) r t′ out′ → Gives t out (bodyFor t (length out) h os) r t′ out′
+      → Gives t out (forBody t (length out) (h .esercizio) os b) r t′ out′ → Gives t out (bodyFor t (length out) h os) r t′ out′
   body-read c e n k = rw (← c, ← e, n) k
+
+  -- the body that was found, and the year that it closed last
+  module _ {code : List ℕ} {a : Addressed} {at base n closed : ℕ} (c : code ≡ h .ente) (e : a ≡ bodyNamed t code) (f : a ≡ Body at base n) (g : closed ≡ closedOf t at) where
+    pub year-closed : h .esercizio ≤ closed → Gives t out (bodyFor t (length out) h os) ClosedYear t out
+    year-closed l = body-read c e f (rw (← g, le-leb (h .esercizio) closed l) (refl, refl, refl))
+
+    pub year-open : {r : FlowAnswer} {t′ out′ : List ℕ} → closed < h .esercizio → Gives t out (withRoom (length out) base n (h .esercizio) os) r t′ out′
+        → Gives t out (bodyFor t (length out) h os) r t′ out′
+    year-open l k = body-read c e f (rw (← g, lt-leb (h .esercizio) closed l) k)
 
   module _ {abi : List ℕ} {g : Bool} (c : abi ≡ h .abi) (e : g ≡ textIs (abiOf t) abi) where
     pub bank-other : g ≡ false → Gives t out (forBank t (length out) h os) OtherBank t out

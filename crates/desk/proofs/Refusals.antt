@@ -9,7 +9,7 @@ use Rattle.order.specs.Ordinativo.{Ordinativo}
 use Rattle.rules.specs.Rules.{orderCode}
 use Rattle.service.specs.Service.{orderComes, orderLeaves, outcomeBytes, allOutcomes}
 use Rattle.desk.specs.declared.FlowAnswer.{FlowAnswer}
-use Rattle.desk.specs.declared.FlowAnswer.the-variants.{InvalidTable, UnknownEdition, TooLong, BrokenMarkup, BrokenStructure, BrokenField, OtherBank, UnknownBody, NoRoom, Taken}
+use Rattle.desk.specs.declared.FlowAnswer.the-variants.{InvalidTable, UnknownEdition, TooLong, BrokenMarkup, BrokenStructure, BrokenField, OtherBank, UnknownBody, ClosedYear, NoRoom, Taken}
 use Rattle.desk.specs.Desk.{Reading, refused, served, flowReads, flowAnswer, flowTable, flowOutcomes, FlowPromise, flowReply, flowCode}
 use Rattle.serving.proofs.Laws.{outcome-length}
 
@@ -36,6 +36,7 @@ code-zeros BrokenStructure h = (refl, refl, refl)
 code-zeros (BrokenField p c) h = (refl, refl, refl)
 code-zeros OtherBank h = (refl, refl, refl)
 code-zeros UnknownBody h = (refl, refl, refl)
+code-zeros ClosedYear h = (refl, refl, refl)
 code-zeros NoRoom h = (refl, refl, refl)
 code-zeros (Taken orders accepted steps) h = absurd (h refl)
 

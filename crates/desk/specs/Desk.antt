@@ -7,6 +7,7 @@ use lib.ListN.{length}
 use lib.Dec.{eqb, leb}
 use Rattle.scan.specs.Bytes.{textIs}
 use Rattle.words.specs.Numbers.{put}
+use Rattle.entries.specs.Entry.{closedOf}
 use Rattle.table.specs.Table.{tableOk, abiOf}
 use Rattle.fields.specs.Causes.{causeNumber}
 use Rattle.order.specs.Ordinativo.{Ordinativo}
@@ -24,7 +25,7 @@ use Rattle.address.specs.declared.Addressed.the-variants.{Invalid, Unknown, Bod
 use Rattle.address.specs.Address.{bodyNamed}
 use Rattle.desk.specs.declared.FlowReply.{FlowReply}
 use Rattle.desk.specs.declared.FlowAnswer.{FlowAnswer}
-use Rattle.desk.specs.declared.FlowAnswer.the-variants.{InvalidTable, UnknownEdition, TooLong, BrokenMarkup, BrokenStructure, BrokenField, OtherBank, UnknownBody, NoRoom, Taken}
+use Rattle.desk.specs.declared.FlowAnswer.the-variants.{InvalidTable, UnknownEdition, TooLong, BrokenMarkup, BrokenStructure, BrokenField, OtherBank, UnknownBody, ClosedYear, NoRoom, Taken}
 
 -- A FLOW
 
@@ -37,15 +38,15 @@ pub data Reading : Type 0 where
 abbrev pub withRoom : ℕ → ℕ → ℕ → ℕ → List Ordinativo → Reading
 withRoom room base n year os = cond (leb (outcomeSize * length os) room) (served base n year os) (refused NoRoom)
 
--- "7 no body has this code"
-abbrev pub forBody : ℕ → ℕ → List Ordinativo → Addressed → Reading
-forBody room year os (Body e base n) = withRoom room base n year os
-forBody room year os Unknown = refused UnknownBody
-forBody room year os Invalid = refused InvalidTable
+-- "7 no body has this code"; document 02, Req 14: "A flow for a closed or earlier year is refused. .. Refusals: for a flow 36 year closed, after 7"
+abbrev pub forBody : List ℕ → ℕ → ℕ → List Ordinativo → Addressed → Reading
+forBody t room year os (Body e base n) = cond (leb year (closedOf t e)) (refused ClosedYear) (withRoom room base n year os)
+forBody t room year os Unknown = refused UnknownBody
+forBody t room year os Invalid = refused InvalidTable
 
 -- "6 codice_ABI_BT isn't the table's"
 abbrev pub forBank : List ℕ → ℕ → Header → List Ordinativo → Reading
-forBank t room h os = cond (textIs (abiOf t) (h .abi)) (forBody room (h .esercizio) os (bodyNamed t (h .ente))) (refused OtherBank)
+forBank t room h os = cond (textIs (abiOf t) (h .abi)) (forBody t room (h .esercizio) os (bodyNamed t (h .ente))) (refused OtherBank)
 
 -- "3 the markup breaks; 4 the structure breaks; 5 a field breaks", of a flow of an edition
 abbrev pub forFlow : Edition → List ℕ → List ℕ → ℕ → Verdict → Reading
@@ -106,6 +107,7 @@ flowReply BrokenStructure = refusal 4
 flowReply (BrokenField p c) = record { code = 5; place = p; orders = 0; accepted = 0; cause = causeNumber c; steps = 0 }
 flowReply OtherBank = refusal 6
 flowReply UnknownBody = refusal 7
+flowReply ClosedYear = refusal 36
 flowReply NoRoom = refusal 8
 flowReply (Taken n m k) = record { code = 0; place = 0; orders = n; accepted = m; cause = 0; steps = k }
 

@@ -8,4 +8,4 @@ use Rattle.desk.specs.Desk.{Reading, forBody}
 
 -- the reading for the body with the header's code
 abbrev pub bodyFor : List ℕ → ℕ → Header → List Ordinativo → Reading
-bodyFor t room h os = forBody room (h .esercizio) os (bodyNamed t (h .ente))
+bodyFor t room h os = forBody t room (h .esercizio) os (bodyNamed t (h .ente))

@@ -1,5 +1,5 @@
-// A flow's call, on any bytes at all: the table is checked, then the edition, the flow's length, markup, structure and fields, then bank, body and room; then its
-// orders are served.
+// A flow's call, on any bytes at all: the table is checked, then the edition, the flow's length, markup, structure and fields, then bank, body, year and room; then
+// its orders are served.
 use address::Addressed;
 use editions::Edited;
 use editions::Edition;
@@ -32,6 +32,7 @@ pub enum FlowAnswer {
     BrokenField(usize, Cause),
     OtherBank,
     UnknownBody,
+    ClosedYear,
     NoRoom,
     Taken(usize, usize, usize),
 }
@@ -70,7 +71,7 @@ fn with_room(
     FlowAnswer::Taken(count, s.accepted, s.steps)
 }
 
-// The orders of a flow, for the body with the flow's code: 7, or as the room says.
+// The orders of a flow, for the body with the flow's code: 7, 36 where it has closed the flow's year or a later one, or as the room says.
 fn for_body(
     t: &mut [u8],
     f: &[u8],
@@ -86,17 +87,13 @@ fn for_body(
     let w = h.ente;
     let ente = header::part_at(f, w);
     match address::body_named(t, ente) {
-        Addressed::Body(_, base, n) => with_room(
-            t,
-            f,
-            root,
-            h.orders,
-            h.esercizio,
-            base,
-            n,
-            out,
-            past,
-        ),
+        Addressed::Body(e, base, n) => {
+            let year = h.esercizio;
+            if year <= entries::closed_of(t, e) {
+                return FlowAnswer::ClosedYear;
+            }
+            with_room(t, f, root, h.orders, year, base, n, out, past)
+        }
         Addressed::Unknown => FlowAnswer::UnknownBody,
         Addressed::Invalid => FlowAnswer::InvalidTable,
     }
@@ -195,6 +192,7 @@ pub fn reply_of(a: FlowAnswer) -> FlowReply
         },
         FlowAnswer::OtherBank => refusal(6),
         FlowAnswer::UnknownBody => refusal(7),
+        FlowAnswer::ClosedYear => refusal(36),
         FlowAnswer::NoRoom => refusal(8),
         FlowAnswer::Taken(n, k, s) => FlowReply {
             code: 0,

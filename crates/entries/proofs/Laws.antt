@@ -7,7 +7,7 @@ use native.Mathlib.Nat.{mul-suc}
 use native.Mathlib.Omega.{arith}
 use lib.ListN.{length, getD}
 use lib.Dec.{leb}
-use borrow.Author.Tests.{leb-true, le-leb, lt-leb}
+use borrow.Author.Tests.{leb-true, le-leb, lt-leb, eq-eqb, ne-eqb}
 use Rattle.scan.specs.Bytes.{between, part, all, isAlnum, textIs}
 use Rattle.scan.proofs.Laws.{both}
 use Rattle.words.specs.Numbers.{put, bytes8}
@@ -15,7 +15,7 @@ use Rattle.words.proofs.Laws.{put-put}
 use Rattle.ranges.specs.Ranges.{zeros, isNothing}
 use Rattle.ranges.specs.declared.Found.the-variants.{At, Nothing}
 use Rattle.bounds.specs.Bounds.{maxCode, isCode, maxSlots}
-use Rattle.entries.specs.Entry.{entryFixed, entryRest, keptBytes, codeLength, codeAt, slotsOf, formOk, formsOk, codesFrom, slotsFrom, findCode, distinctCodes}
+use Rattle.entries.specs.Entry.{entryFixed, closedPlace, keptBytes, codeLength, codeAt, slotsOf, closedOk, formOk, formsOk, codesFrom, slotsFrom, findCode, distinctCodes}
 
 -- room for one entry more
 pub times : (size k m : ℕ) → k ≡ suc m → size * k ≡ size + size * m
@@ -25,10 +25,22 @@ times size k m e = ap (λ (x : ℕ). size * x) e ∙ mul-suc size m ∙ omega ar
 pub put-next : (s : List ℕ) (at : ℕ) (v w : List ℕ) (n : ℕ) {t u : List ℕ} → at ≤ length s → at + length v ≡ n → t ≡ put s at v → u ≡ put t n w → u ≡ put s at (v ++ w)
 put-next s at v w n h l e f = f ∙ ap (λ (x : List ℕ). put x n w) e ∙ put-put s at v w n h l
 
-pub settled-by : (s t u : List ℕ) (at paid collected : ℕ) → at + entryRest ≤ length s → t ≡ put s (at + 24) (bytes8 paid) → u ≡ put t (at + 32) (bytes8 collected)
+pub settled-by : (s t u : List ℕ) (at paid collected : ℕ) → at + closedPlace ≤ length s → t ≡ put s (at + 24) (bytes8 paid) → u ≡ put t (at + 32) (bytes8 collected)
     → u ≡ put s (at + entryFixed) (keptBytes paid collected)
 unfolding keptBytes
 settled-by s t u at paid collected h e f = put-next s (at + 24) (bytes8 paid) (bytes8 collected) (at + 32) (omega arith) (omega arith) e f
+
+-- A CLOSED YEAR, a way out of the code at a time
+module _ (year : ℕ) where
+  pub closed-none : year ≡ 0 → closedOk year ≡ true
+  closed-none e = rw (eq-eqb year 0 e)
+
+  module _ (n : year ≡ 0 → ⊥) where
+    pub closed-early : year < 2000 → closedOk year ≡ false
+    closed-early h = rw (ne-eqb year 0 n, lt-leb 2000 year h)
+
+    pub closed-late : 2000 ≤ year → closedOk year ≡ leb year 2099
+    closed-late h = rw (ne-eqb year 0 n, le-leb 2000 year h)
 
 -- FORM: what the tests of a form say
 pub record Form (t : List ℕ) (at : ℕ) : Type 0 where

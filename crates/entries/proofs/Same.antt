@@ -1,4 +1,4 @@
--- Entries that hold the same bytes have the same form, code, slots and place.
+-- Entries that hold the same bytes have the same form, code, slots, place and closed year.
 use mathlib.Core.Path.{_≡_, refl, sym, ap, _∙_}
 use mathlib.Core.List.{List, _∷_}
 use mathlib.Core.Bool.{true}
@@ -12,7 +12,7 @@ use borrow.Author.Tests.{le-leb}
 use Rattle.scan.specs.Bytes.{part, all, isAlnum}
 use Rattle.words.proofs.Laws.{Agree, on, at-it, same2, same4}
 use Rattle.ranges.specs.Ranges.{zeros}
-use Rattle.entries.specs.Entry.{entryFixed, requestSize, codeLength, codeAt, slotsOf, placeOf, formOk, formsOk, codesFrom}
+use Rattle.entries.specs.Entry.{entryFixed, closedPlace, requestSize, codeLength, codeAt, slotsOf, placeOf, closedOf, formOk, formsOk, codesFrom}
 use Rattle.bounds.specs.Bounds.{maxCode, maxSlots}
 use Rattle.entries.proofs.Laws.{times, form, forms-split}
 
@@ -42,6 +42,11 @@ module _ {s t : List ℕ} {p q n : ℕ} (h : Agree s p t q n) where
   pub place-agree : entryFixed ≤ n → placeOf s p ≡ placeOf t q
   unfolding placeOf
   place-agree b = same4 (on h 20 4 (omega arith)) (omega arith)
+
+-- the closed year is two bytes
+pub closed-agree : {s t : List ℕ} (p q : ℕ) → Agree s (p + closedPlace) t (q + closedPlace) 2 → closedOf s p ≡ closedOf t q
+unfolding closedOf
+closed-agree p q h = same2 h (omega arith)
 
 module _ {s t : List ℕ} {p q : ℕ} (h : Agree s p t q requestSize) (ls : p + requestSize ≤ length s) (lt : q + requestSize ≤ length t) where
   same-length : codeLength s p ≡ codeLength t q

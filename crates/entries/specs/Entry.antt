@@ -1,11 +1,12 @@
 -- A body's entry (document 01, "The table", with document 02, Req 04), and bodies told apart by their codes. A request's 20 bytes per body are an
 -- entry's bytes 0 to 19.
 use Prim.Native.Nat.{ℕ, zero, suc, _+_, _-_, _*_}
-use mathlib.Core.Bool.{Bool, true, _&&_, cond}
+use mathlib.Core.Bool.{Bool, true, _&&_, _||_, cond}
 use mathlib.Core.List.{List, [], _∷_, _++_}
 use lib.ListN.{getD}
+use lib.Dec.{eqb}
 use Rattle.scan.specs.Bytes.{between, part, textIs}
-use Rattle.bounds.specs.Bounds.{isCode, maxSlots}
+use Rattle.bounds.specs.Bounds.{isYear, isCode, maxSlots}
 use Rattle.words.specs.Numbers.{be2, be4, be8, bytes8}
 use Rattle.ranges.specs.Ranges.{zeros, isNothing}
 use Rattle.ranges.specs.declared.Found.{Found}
@@ -23,8 +24,12 @@ entryFixed = 24
 abbrev pub keptPlace : ℕ → ℕ
 keptPlace kind = entryFixed + 8 * (kind - 1)
 
+-- "Entry bytes 40-41 hold the year (2000 to 2099), 0 before the first close" (02, Req 14)
+abbrev pub closedPlace : ℕ
+closedPlace = 40
+
 abbrev pub entryRest : ℕ
-entryRest = 40
+entryRest = 42
 
 -- "20 bytes per body (an entry's bytes 0 to 19)"
 abbrev pub requestSize : ℕ
@@ -50,7 +55,14 @@ placeOf t at = be4 t (at + 20)
 abbrev pub kept : ℕ → List ℕ → ℕ → ℕ
 kept kind t at = be8 t (at + keptPlace kind)
 
--- their sixteen bytes
+-- the last year that was closed
+unfoldable pub closedOf : List ℕ → ℕ → ℕ
+closedOf t at = be2 t (at + closedPlace)
+
+abbrev pub closedOk : ℕ → Bool
+closedOk year = eqb year 0 || isYear year
+
+-- the sixteen bytes of what is kept
 unfoldable pub keptBytes : ℕ → ℕ → List ℕ
 keptBytes paid collected = bytes8 paid ++ bytes8 collected
 

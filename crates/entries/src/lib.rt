@@ -1,5 +1,5 @@
-// The bodies' entries: their form, their codes compared byte by byte, the search for a body by its code, and the totals that they keep. A code is never
-// a number.
+// The bodies' entries: their form, their codes compared byte by byte, the search for a body by its code, the totals that they keep and the last year that
+// was closed. A code is never a number.
 use ranges::Class;
 use ranges::Found;
 ghost use mathlib.Core.Path.{_≡_};
@@ -10,16 +10,18 @@ ghost use Rattle.scan.specs.Bytes.{textIs};
 ghost use Rattle.words.specs.Numbers.{put};
 ghost use Rattle.bounds.specs.Bounds.{maxCode, maxLength};
 ghost use Rattle.ranges.specs.Ranges.{isNothing};
-ghost use Rattle.entries.specs.Entry.{entryFixed, entryRest, requestSize, keptBytes, codeLength, codeAt, slotsOf, placeOf, formOk, formsOk, codesFrom, findCode, distinctCodes};
+ghost use Rattle.entries.specs.Entry.{entryFixed, closedPlace, entryRest, requestSize, keptBytes, codeLength, codeAt, slotsOf, placeOf, closedOf, closedOk, formOk, formsOk, codesFrom, findCode, distinctCodes};
 
 pub const ENTRY: usize = 48;
 
-// An entry's bytes before its body's own, which begin with the cents paid and collected; the rest after these.
+// An entry's bytes before its body's own, which are the cents paid and collected and the last closed year; the rest after these.
 pub const FIXED: usize = 24;
 
 pub const COLLECTED: usize = 32;
 
-pub const REST: usize = 40;
+pub const CLOSED: usize = 40;
+
+pub const REST: usize = 42;
 
 pub const REQUEST: usize = 20;
 
@@ -39,9 +41,30 @@ pub fn place_of(t: &[u8], at: usize) -> usize
     words::read4(t, at + 20) as usize
 }
 
+// The last year that was closed, of the body whose entry begins at a place.
+pub fn closed_of(t: &[u8], at: usize) -> u64
+    requires { ⌜ at + entryRest ≤ length (now t) ⌝ }
+    ensures { λ r. ⌜ (r ≡ closedOf (now (t .entry)) at) × (r < 65536) ⌝ }
+{
+    words::read2(t, at + CLOSED)
+}
+
+// Whether an entry may hold this as its closed year.
+pub fn closed_ok(year: u64) -> bool
+    ensures { λ r. ⌜ r ≡ closedOk year ⌝ }
+{
+    if year == 0 {
+        return true;
+    }
+    if year < bounds::FIRST_YEAR {
+        return false;
+    }
+    year <= bounds::LAST_YEAR
+}
+
 // Writes the cents paid and collected that an entry keeps.
 pub fn settle(t: &mut [u8], at: usize, paid: u64, collected: u64)
-    requires { ⌜ at + entryRest ≤ length (now t) ⌝ }
+    requires { ⌜ at + closedPlace ≤ length (now t) ⌝ }
     ensures { λ _. ⌜ now (t .exit) ≡ put (now (t .entry)) (at + entryFixed) (keptBytes paid collected) ⌝ }
 {
     words::write8(t, at + FIXED, paid);

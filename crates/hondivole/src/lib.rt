@@ -11,6 +11,7 @@ ghost use Rattle.children.specs.Child.{FieldPromise};
 ghost use Rattle.opening.specs.Opening.{OpenReplies};
 ghost use Rattle.convert.specs.Convert.{ConvertReplies};
 ghost use Rattle.salvage.specs.Salvage.{SalvageReplies};
+ghost use Rattle.year_end.specs.YearEnd.{CloseReplies};
 ghost use Rattle.desk.specs.Desk.{FlowReplies};
 ghost use Rattle.journal.specs.Journal.{JournalPromise};
 ghost use Rattle.notices.specs.Notices.{keyed, NoticeReplies, totalled, TotalsPromise};
@@ -38,6 +39,21 @@ pub extern "C" fn hondivole_salvage(table: &mut [u8], report: &mut [u8], blanked
 {
     let a = salvage::reply_of(salvage::salvage(table, report));
     *blanked = a.blanked;
+    a.code
+}
+
+// Closes a year for a body, and tells how many records were removed.
+#[no_mangle]
+pub extern "C" fn hondivole_close(
+    table: &mut [u8],
+    body: &[u8],
+    year: u64,
+    removed: &mut u64,
+) -> u64
+    ensures { λ r. ⌜ CloseReplies (now (table .entry)) (now (body .entry)) year r (now (removed .exit)) (now (table .exit)) ⌝ }
+{
+    let a = year_end::reply_of(year_end::close(table, body, year));
+    *removed = a.removed;
     a.code
 }
 

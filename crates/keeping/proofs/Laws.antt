@@ -7,8 +7,8 @@ use native.Mathlib.Omega.{arith}
 use native.Mathlib.Numerals.{add-one}
 use lib.ListN.{length, getD, take, drop, set, replicate, length-replicate, drop-of-length-le}
 use lib.Seq.{length-take-le, drop-cons, getD-take, take-suc, take-suc-set, take-all}
-use lib.Dec.{eqb}
-use borrow.Author.Tests.{eq-eqb, ne-eqb}
+use lib.Dec.{eqb, ltb}
+use borrow.Author.Tests.{eq-eqb, ne-eqb, lt-ltb, le-ltb}
 use Rattle.words.specs.Numbers.{put}
 use Rattle.words.proofs.Laws.{put-put, put-nil}
 use Rattle.record.specs.declared.Record.{Record}
@@ -111,75 +111,86 @@ none-end t base fs n k i fits h =
     rw d
 
 -- THE FLAG OF A SLOT
-module _ (t : List ℕ) (at : ℕ) (seen : List Record) {a : Bool} (e : a ≡ slotOk t at) where
-  pub flag-bad : a ≡ false → 0 ≡ flag (keeps t at seen)
+module _ (closed : ℕ) (t : List ℕ) (at : ℕ) (seen : List Record) {a : Bool} (e : a ≡ slotOk t at) where
+  pub flag-bad : a ≡ false → 0 ≡ flag (keeps closed t at seen)
   unfolding keeps
   flag-bad h = rw (← e, h)
 
-  module _ {k : Key} {b : Bool} (h : a ≡ true) (q : k ≡ keyOf (recordAt t at)) (g : b ≡ isNothing (findIn seen 0 k)) where
-    keeps-is : keeps t at seen ≡ b
+  module _ {k : Key} (h : a ≡ true) (q : k ≡ keyOf (recordAt t at)) where
+    its-year : k .esercizio ≡ recordAt t at .esercizio
+    its-year = ap (λ (x : Key). x .esercizio) q
+
+    pub flag-closed : k .esercizio ≤ closed → 0 ≡ flag (keeps closed t at seen)
     unfolding keeps
-    keeps-is = (λ i. (sym e ∙ h) i && isNothing (findIn seen 0 (sym q i))) ∙ sym g
+    flag-closed l = let y = its-year in rw (← e, h, le-ltb closed (recordAt t at .esercizio) (omega arith))
 
-    pub flag-is : b ≡ true → 1 ≡ flag (keeps t at seen)
-    flag-is z = sym (ap flag (keeps-is ∙ z))
+    module _ {b : Bool} (l : closed < k .esercizio) (g : b ≡ isNothing (findIn seen 0 k)) where
+      keeps-is : keeps closed t at seen ≡ b
+      unfolding keeps
+      keeps-is =
+          let y = its-year in
+          let w : ltb closed (recordAt t at .esercizio) ≡ true = lt-ltb closed (recordAt t at .esercizio) (omega arith) in
+          (λ i. (sym e ∙ h) i && (w i && isNothing (findIn seen 0 (sym q i)))) ∙ sym g
 
-    pub flag-not : b ≡ false → 0 ≡ flag (keeps t at seen)
-    flag-not z = sym (ap flag (keeps-is ∙ z))
+      pub flag-is : b ≡ true → 1 ≡ flag (keeps closed t at seen)
+      flag-is z = sym (ap flag (keeps-is ∙ z))
+
+      pub flag-not : b ≡ false → 0 ≡ flag (keeps closed t at seen)
+      flag-not z = sym (ap flag (keeps-is ∙ z))
 
 -- ALL FLAGS: those set so far, and those from here on, are the whole
-abbrev pub flagsFrom : List ℕ → ℕ → ℕ → List ℕ → ℕ → List ℕ
-flagsFrom t base n fs i = take i fs ++ keepsFrom t (base + slotSize * i) (n - i) (chosen (slotsAt t base i) (take i fs))
+abbrev pub flagsFrom : ℕ → List ℕ → ℕ → ℕ → List ℕ → ℕ → List ℕ
+flagsFrom closed t base n fs i = take i fs ++ keepsFrom closed t (base + slotSize * i) (n - i) (chosen (slotsAt t base i) (take i fs))
 
-pub flags-start : (t : List ℕ) (base n : ℕ) (fs : List ℕ) → keepsAt t base n ≡ flagsFrom t base n fs 0
+pub flags-start : (closed : ℕ) (t : List ℕ) (base n : ℕ) (fs : List ℕ) → keepsAt closed t base n ≡ flagsFrom closed t base n fs 0
 unfolding chosen slotsAt
-flags-start t base n fs =
+flags-start closed t base n fs =
     let p : base ≡ base + slotSize * 0 = omega arith in
     let q : n ≡ n - 0 = omega arith in
-    λ j. keepsFrom t (p j) (q j) []
+    λ j. keepsFrom closed t (p j) (q j) []
 
-pub keeps-more : (t : List ℕ) (at n m : ℕ) (seen : List Record) → n ≡ suc m
-    → keepsFrom t at n seen ≡ flag (keeps t at seen) ∷ keepsFrom t (at + slotSize) m (seen ++ cond (keeps t at seen) (recordAt t at ∷ []) [])
+pub keeps-more : (closed : ℕ) (t : List ℕ) (at n m : ℕ) (seen : List Record) → n ≡ suc m
+    → keepsFrom closed t at n seen ≡ flag (keeps closed t at seen) ∷ keepsFrom closed t (at + slotSize) m (seen ++ cond (keeps closed t at seen) (recordAt t at ∷ []) [])
 unfolding keepsFrom
-keeps-more t at n m seen e = rw e
+keeps-more closed t at n m seen e = rw e
 
 flag-one : (b : Bool) {A : Type 0} (x y : A) → cond (eqb (flag b) 1) x y ≡ cond b x y
 flag-one true x y = refl
 flag-one false x y = refl
 
 -- one more slot's flag: the records kept so far
-sofar-more : (t : List ℕ) (base : ℕ) (fs : List ℕ) (i f : ℕ) → i < length fs → f ≡ flag (keeps t (base + slotSize * i) (chosen (slotsAt t base i) (take i fs)))
+sofar-more : (closed : ℕ) (t : List ℕ) (base : ℕ) (fs : List ℕ) (i f : ℕ) → i < length fs → f ≡ flag (keeps closed t (base + slotSize * i) (chosen (slotsAt t base i) (take i fs)))
     → chosen (slotsAt t base (i + 1)) (take (i + 1) (set fs i f))
-    ≡ chosen (slotsAt t base i) (take i fs) ++ cond (keeps t (base + slotSize * i) (chosen (slotsAt t base i) (take i fs))) (recordAt t (base + slotSize * i) ∷ []) []
-sofar-more t base fs i f low e =
+    ≡ chosen (slotsAt t base i) (take i fs) ++ cond (keeps closed t (base + slotSize * i) (chosen (slotsAt t base i) (take i fs))) (recordAt t (base + slotSize * i) ∷ []) []
+sofar-more closed t base fs i f low e =
     let seen : List Record = chosen (slotsAt t base i) (take i fs) in
     let at : ℕ = base + slotSize * i in
     let w : take (i + 1) (set fs i f) ≡ take i fs ++ f ∷ [] = ap (λ (k : ℕ). take k (set fs i f)) (add-one i) ∙ take-suc-set fs i f low in
     let l : length (slotsAt t base i) ≡ length (take i fs) = length-slots t base i ∙ sym (length-take-le i fs (omega arith)) in
     let s : slotsAt t base (i + 1) ≡ slotsAt t base i ++ recordAt t at ∷ [] = ap (slotsAt t base) (add-one i) ∙ slots-snoc t base i in
     (λ j. chosen (s j) (w j)) ∙ chosen-snoc (slotsAt t base i) (recordAt t at) (take i fs) f l
-    ∙ ap (λ (x : ℕ). seen ++ cond (eqb x 1) (recordAt t at ∷ []) []) e ∙ ap (λ (r : List Record). seen ++ r) (flag-one (keeps t at seen) (recordAt t at ∷ []) [])
+    ∙ ap (λ (x : ℕ). seen ++ cond (eqb x 1) (recordAt t at ∷ []) []) e ∙ ap (λ (r : List Record). seen ++ r) (flag-one (keeps closed t at seen) (recordAt t at ∷ []) [])
 
-pub flags-more : (t : List ℕ) (base n : ℕ) (fs : List ℕ) (i f : ℕ) → n ≡ length fs → i < n → f ≡ flag (keeps t (base + slotSize * i) (chosen (slotsAt t base i) (take i fs)))
-    → flagsFrom t base n fs i ≡ flagsFrom t base n (set fs i f) (i + 1)
-flags-more t base n fs i f q low e =
+pub flags-more : (closed : ℕ) (t : List ℕ) (base n : ℕ) (fs : List ℕ) (i f : ℕ) → n ≡ length fs → i < n → f ≡ flag (keeps closed t (base + slotSize * i) (chosen (slotsAt t base i) (take i fs)))
+    → flagsFrom closed t base n fs i ≡ flagsFrom closed t base n (set fs i f) (i + 1)
+flags-more closed t base n fs i f q low e =
     let seen : List Record = chosen (slotsAt t base i) (take i fs) in
     let at : ℕ = base + slotSize * i in
     let w : take (i + 1) (set fs i f) ≡ take i fs ++ f ∷ [] = ap (λ (k : ℕ). take k (set fs i f)) (add-one i) ∙ take-suc-set fs i f (omega arith) in
-    let c = sofar-more t base fs i f (omega arith) e in
+    let c = sofar-more closed t base fs i f (omega arith) e in
     let p : at + slotSize ≡ base + slotSize * (i + 1) = omega arith in
-    let k : keepsFrom t at (n - i) seen ≡ f ∷ keepsFrom t (base + slotSize * (i + 1)) (n - (i + 1)) (chosen (slotsAt t base (i + 1)) (take (i + 1) (set fs i f))) =
-    keeps-more t at (n - i) (n - (i + 1)) seen (omega arith)
-    ∙ (λ j. sym e j ∷ keepsFrom t (p j) (n - (i + 1)) (sym c j)) in
+    let k : keepsFrom closed t at (n - i) seen ≡ f ∷ keepsFrom closed t (base + slotSize * (i + 1)) (n - (i + 1)) (chosen (slotsAt t base (i + 1)) (take (i + 1) (set fs i f))) =
+    keeps-more closed t at (n - i) (n - (i + 1)) seen (omega arith)
+    ∙ (λ j. sym e j ∷ keepsFrom closed t (p j) (n - (i + 1)) (sym c j)) in
     ap (λ (r : List ℕ). take i fs ++ r) k
-    ∙ sym (append-assoc (take i fs) (f ∷ []) (keepsFrom t (base + slotSize * (i + 1)) (n - (i + 1)) (chosen (slotsAt t base (i + 1)) (take (i + 1) (set fs i f)))))
-    ∙ ap (λ (r : List ℕ). r ++ keepsFrom t (base + slotSize * (i + 1)) (n - (i + 1)) (chosen (slotsAt t base (i + 1)) (take (i + 1) (set fs i f)))) (sym w)
+    ∙ sym (append-assoc (take i fs) (f ∷ []) (keepsFrom closed t (base + slotSize * (i + 1)) (n - (i + 1)) (chosen (slotsAt t base (i + 1)) (take (i + 1) (set fs i f)))))
+    ∙ ap (λ (r : List ℕ). r ++ keepsFrom closed t (base + slotSize * (i + 1)) (n - (i + 1)) (chosen (slotsAt t base (i + 1)) (take (i + 1) (set fs i f)))) (sym w)
 
-pub flags-end : (t : List ℕ) (base n : ℕ) (fs : List ℕ) (i : ℕ) → n ≡ length fs → n ≤ i → i ≤ n → flagsFrom t base n fs i ≡ fs
+pub flags-end : (closed : ℕ) (t : List ℕ) (base n : ℕ) (fs : List ℕ) (i : ℕ) → n ≡ length fs → n ≤ i → i ≤ n → flagsFrom closed t base n fs i ≡ fs
 unfolding keepsFrom
-flags-end t base n fs i q h g =
+flags-end closed t base n fs i q h g =
     let z : n - i ≡ 0 = omega arith in
-    ap (λ (m : ℕ). take i fs ++ keepsFrom t (base + slotSize * i) m (chosen (slotsAt t base i) (take i fs))) z
+    ap (λ (m : ℕ). take i fs ++ keepsFrom closed t (base + slotSize * i) m (chosen (slotsAt t base i) (take i fs))) z
     ∙ append-nil (take i fs) ∙ take-all i fs (omega arith)
 
 -- THE FILTER of keys that were kept: marked with the flag's slot, whether that is kept or not
@@ -199,11 +210,11 @@ pub marked-start : (t : List ℕ) (base : ℕ) (fs seen : List ℕ) → length s
 unfolding chosen
 marked-start t base fs seen l = marked-none l refl
 
-pub marked-more : (t : List ℕ) (base : ℕ) (fs seen : List ℕ) (i f h : ℕ) {k : Key} → i < length fs → k ≡ keyOf (recordAt t (base + slotSize * i)) → h ≡ markOf k → h < 4096
-    → f ≡ flag (keeps t (base + slotSize * i) (sofar t base fs i)) → Marked seen (sofar t base fs i) → Marked (set seen h 1) (sofar t base (set fs i f) (i + 1))
-marked-more t base fs seen i f h low q p l e m =
-    subst⁻¹ (λ (rs : List Record). Marked (set seen h 1) rs) (sofar-more t base fs i f low e)
-    (mark-one (keeps t (base + slotSize * i) (sofar t base fs i)) seen (sofar t base fs i) (recordAt t (base + slotSize * i)) h m (p ∙ ap markOf q) l)
+pub marked-more : (closed : ℕ) (t : List ℕ) (base : ℕ) (fs seen : List ℕ) (i f h : ℕ) {k : Key} → i < length fs → k ≡ keyOf (recordAt t (base + slotSize * i)) → h ≡ markOf k → h < 4096
+    → f ≡ flag (keeps closed t (base + slotSize * i) (sofar t base fs i)) → Marked seen (sofar t base fs i) → Marked (set seen h 1) (sofar t base (set fs i f) (i + 1))
+marked-more closed t base fs seen i f h low q p l e m =
+    subst⁻¹ (λ (rs : List Record). Marked (set seen h 1) rs) (sofar-more closed t base fs i f low e)
+    (mark-one (keeps closed t (base + slotSize * i) (sofar t base fs i)) seen (sofar t base fs i) (recordAt t (base + slotSize * i)) h m (p ∙ ap markOf q) l)
 
 -- BLANKED SLOTS: the slot at `at`, whose flag is f
 pub blanks-kept : (t : List ℕ) (at f : ℕ) → f ≡ 1 → false ≡ blanks t at f

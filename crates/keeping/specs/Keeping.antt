@@ -1,9 +1,10 @@
 -- One body under repair (document 02, Req 13): "Slot by slot, it keeps a record that is valid by itself and whose key hasn't been kept earlier in that body,
--- blanks the others, moves the kept ones up in order"; and what the report says of it.
+-- blanks the others, moves the kept ones up in order"; and what the report says of it. Req 14: "a valid table holds no record of that or an earlier year, and
+-- salvage blanks such records": `closed` is the body's last closed year, 0 before the first.
 use Prim.Native.Nat.{ℕ, zero, suc, _+_}
 use mathlib.Core.Bool.{Bool, _&&_, not, cond}
 use mathlib.Core.List.{List, [], _∷_, _++_}
-use lib.Dec.{eqb}
+use lib.Dec.{eqb, ltb}
 use Rattle.record.specs.declared.Record.{Record}
 use Rattle.record.specs.Slot.{slotSize, recordAt, keyOf}
 use Rattle.ranges.specs.Ranges.{zeros, isNothing}
@@ -14,25 +15,25 @@ use Rattle.packing.specs.Packing.{chosen}
 -- WHAT IS KEPT
 
 -- the slot is kept, after the records `seen` were
-unfoldable pub keeps : List ℕ → ℕ → List Record → Bool
-keeps t at seen = slotOk t at && isNothing (findIn seen 0 (keyOf (recordAt t at)))
+unfoldable pub keeps : ℕ → List ℕ → ℕ → List Record → Bool
+keeps closed t at seen = slotOk t at && (ltb closed (recordAt t at .esercizio) && isNothing (findIn seen 0 (keyOf (recordAt t at))))
 
 abbrev pub flag : Bool → ℕ
 flag b = cond b 1 0
 
 -- the flags of the n slots from `at` on, 1 for a kept one, after the records `seen` were kept
-unfoldable pub keepsFrom : List ℕ → ℕ → ℕ → List Record → List ℕ
-keepsFrom t at zero seen = []
-keepsFrom t at (suc n) seen =
-    flag (keeps t at seen) ∷ keepsFrom t (at + slotSize) n (seen ++ cond (keeps t at seen) (recordAt t at ∷ []) [])
+unfoldable pub keepsFrom : ℕ → List ℕ → ℕ → ℕ → List Record → List ℕ
+keepsFrom closed t at zero seen = []
+keepsFrom closed t at (suc n) seen =
+    flag (keeps closed t at seen) ∷ keepsFrom closed t (at + slotSize) n (seen ++ cond (keeps closed t at seen) (recordAt t at ∷ []) [])
 
 -- the flags of a body's n slots
-abbrev pub keepsAt : List ℕ → ℕ → ℕ → List ℕ
-keepsAt t base n = keepsFrom t base n []
+abbrev pub keepsAt : ℕ → List ℕ → ℕ → ℕ → List ℕ
+keepsAt closed t base n = keepsFrom closed t base n []
 
 -- the records that are kept, in order
-abbrev pub keptAt : List ℕ → ℕ → ℕ → List Record
-keptAt t base n = chosen (slotsAt t base n) (keepsAt t base n)
+abbrev pub keptAt : ℕ → List ℕ → ℕ → ℕ → List Record
+keptAt closed t base n = chosen (slotsAt t base n) (keepsAt closed t base n)
 
 -- WHAT IS REPORTED
 

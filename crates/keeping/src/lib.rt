@@ -54,12 +54,15 @@ fn key_new(t: &[u8], base: usize, flags: &[u8], n: usize, key: Key, maybe: bool)
 }
 
 // The flag of slot i with this key, after those of the slots before it.
-fn flag_of(t: &[u8], base: usize, flags: &[u8], i: usize, key: Key, maybe: bool) -> u8
+fn flag_of(t: &[u8], base: usize, flags: &[u8], i: usize, key: Key, maybe: bool, closed: u64) -> u8
     requires { ⌜ (base + slotSize * length (now flags) ≤ length (now t)) × (i < length (now flags)) × (key ≡ keyOf (recordAt (now t) (base + slotSize * i)))
         × (maybe ≡ false → isNothing (findIn (chosen (slotsAt (now t) base i) (take i (now flags))) 0 key) ≡ true) ⌝ }
-    ensures { λ r. ⌜ r ≡ flag (keeps (now (t .entry)) (base + slotSize * i) (chosen (slotsAt (now (t .entry)) base i) (take i (now (flags .entry))))) ⌝ }
+    ensures { λ r. ⌜ r ≡ flag (keeps closed (now (t .entry)) (base + slotSize * i) (chosen (slotsAt (now (t .entry)) base i) (take i (now (flags .entry))))) ⌝ }
 {
     if !slot_valid(t, base + record::SLOT * i) {
+        return 0;
+    }
+    if key.esercizio <= closed {
         return 0;
     }
     if key_new(t, base, flags, i, key, maybe) {
@@ -69,18 +72,18 @@ fn flag_of(t: &[u8], base: usize, flags: &[u8], i: usize, key: Key, maybe: bool)
     }
 }
 
-// The flags of a body's slots, as many as there is room for flags. Most keys fall on a place of the filter that no earlier one has marked, so that the
+// The flags of a body's slots, as many as there is room for flags, of a body that has closed the years up to this one. Most keys fall on a place of the filter that no earlier one has marked, so that the
 // earlier slots need not be looked at.
-pub fn flags_of(t: &[u8], base: usize, flags: &mut [u8])
+pub fn flags_of(t: &[u8], base: usize, flags: &mut [u8], closed: u64)
     requires { ⌜ base + slotSize * length (now flags) ≤ length (now t) ⌝ }
-    ensures { λ _. ⌜ now (flags .exit) ≡ keepsAt (now (t .entry)) base (length (now (flags .entry))) ⌝ }
+    ensures { λ _. ⌜ now (flags .exit) ≡ keepsAt closed (now (t .entry)) base (length (now (flags .entry))) ⌝ }
 {
     let mut seen: [u8; 4096] = [0; 4096];
     let mut i = 0;
     while i < flags.len() {
         let key = record::key_at(t, base + record::SLOT * i);
         let h = slots::mark_of(key);
-        let f = flag_of(t, base, flags, i, key, seen[h] != 0);
+        let f = flag_of(t, base, flags, i, key, seen[h] != 0, closed);
         flags[i] = f;
         seen[h] = 1;
         i += 1;

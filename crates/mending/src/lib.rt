@@ -1,4 +1,4 @@
-// One body of n slots under repair, with room for its flags: how many slots are blanked, how many records moved, the places blanked, and the slots repaired.
+// One body of n slots under repair, which has closed the years up to `closed`, with room for its flags: how many slots are blanked, how many records moved, the places blanked, and the slots repaired.
 ghost use mathlib.Core.Path.{_≡_};
 ghost use Prim.Native.Nat.{_+_, _*_, _≤_};
 ghost use lib.ListN.{length};
@@ -9,74 +9,74 @@ ghost use Rattle.packing.specs.Packing.{packed};
 ghost use Rattle.keeping.specs.Keeping.{keepsAt, blankedFrom, moved, each};
 
 // Each job has a pair of functions: the first is lent as many flags as the body has slots, the second makes room for them.
-fn blanked_by(t: &[u8], base: usize, flags: &mut [u8]) -> usize
+fn blanked_by(t: &[u8], base: usize, flags: &mut [u8], closed: u64) -> usize
     requires { ⌜ base + slotSize * length (now flags) ≤ length (now t) ⌝ }
-    ensures { λ r. ⌜ (r ≡ length (blankedFrom (now (t .entry)) base (keepsAt (now (t .entry)) base (length (now (flags .entry)))))) × (r ≤ length (now (flags .entry))) ⌝ }
+    ensures { λ r. ⌜ (r ≡ length (blankedFrom (now (t .entry)) base (keepsAt closed (now (t .entry)) base (length (now (flags .entry)))))) × (r ≤ length (now (flags .entry))) ⌝ }
 {
-    keeping::flags_of(t, base, flags);
+    keeping::flags_of(t, base, flags, closed);
     keeping::count_blanked(t, base, flags)
 }
 
 // How many slots are blanked.
-pub fn blanked_in(t: &[u8], base: usize, n: usize) -> usize
+pub fn blanked_in(t: &[u8], base: usize, n: usize, closed: u64) -> usize
     requires { ⌜ (base + slotSize * n ≤ length (now t)) × (n ≤ maxSlots) ⌝ }
-    ensures { λ r. ⌜ (r ≡ length (blankedFrom (now (t .entry)) base (keepsAt (now (t .entry)) base n))) × (r ≤ n) ⌝ }
+    ensures { λ r. ⌜ (r ≡ length (blankedFrom (now (t .entry)) base (keepsAt closed (now (t .entry)) base n))) × (r ≤ n) ⌝ }
 {
     let mut flags = [0u8; 512];
-    blanked_by(t, base, &mut flags[0..n])
+    blanked_by(t, base, &mut flags[0..n], closed)
 }
 
-fn moved_by(t: &[u8], base: usize, flags: &mut [u8]) -> usize
+fn moved_by(t: &[u8], base: usize, flags: &mut [u8], closed: u64) -> usize
     requires { ⌜ base + slotSize * length (now flags) ≤ length (now t) ⌝ }
-    ensures { λ r. ⌜ r ≡ moved (keepsAt (now (t .entry)) base (length (now (flags .entry)))) ⌝ }
+    ensures { λ r. ⌜ r ≡ moved (keepsAt closed (now (t .entry)) base (length (now (flags .entry)))) ⌝ }
 {
-    keeping::flags_of(t, base, flags);
+    keeping::flags_of(t, base, flags, closed);
     keeping::count_moved(flags)
 }
 
 // How many records are moved.
-pub fn moved_in(t: &[u8], base: usize, n: usize) -> usize
+pub fn moved_in(t: &[u8], base: usize, n: usize, closed: u64) -> usize
     requires { ⌜ (base + slotSize * n ≤ length (now t)) × (n ≤ maxSlots) ⌝ }
-    ensures { λ r. ⌜ r ≡ moved (keepsAt (now (t .entry)) base n) ⌝ }
+    ensures { λ r. ⌜ r ≡ moved (keepsAt closed (now (t .entry)) base n) ⌝ }
 {
     let mut flags = [0u8; 512];
-    moved_by(t, base, &mut flags[0..n])
+    moved_by(t, base, &mut flags[0..n], closed)
 }
 
-fn places_by(r: &mut [u8], to: usize, t: &[u8], base: usize, flags: &mut [u8]) -> usize
+fn places_by(r: &mut [u8], to: usize, t: &[u8], base: usize, flags: &mut [u8], closed: u64) -> usize
     requires { ⌜ (base + slotSize * length (now flags) ≤ length (now t))
-        × (to + 4 * length (blankedFrom (now t) base (keepsAt (now t) base (length (now flags)))) ≤ length (now r)) ⌝ }
-    ensures { λ e. ⌜ (e ≡ to + 4 * length (blankedFrom (now (t .entry)) base (keepsAt (now (t .entry)) base (length (now (flags .entry))))))
-        × (now (r .exit) ≡ put (now (r .entry)) to (each bytes4 (blankedFrom (now (t .entry)) base (keepsAt (now (t .entry)) base (length (now (flags .entry))))))) ⌝ }
+        × (to + 4 * length (blankedFrom (now t) base (keepsAt closed (now t) base (length (now flags)))) ≤ length (now r)) ⌝ }
+    ensures { λ e. ⌜ (e ≡ to + 4 * length (blankedFrom (now (t .entry)) base (keepsAt closed (now (t .entry)) base (length (now (flags .entry))))))
+        × (now (r .exit) ≡ put (now (r .entry)) to (each bytes4 (blankedFrom (now (t .entry)) base (keepsAt closed (now (t .entry)) base (length (now (flags .entry))))))) ⌝ }
 {
-    keeping::flags_of(t, base, flags);
+    keeping::flags_of(t, base, flags, closed);
     keeping::put_places(r, to, t, base, flags)
 }
 
 // Writes the places blanked; where the last of them ends.
-pub fn places_in(r: &mut [u8], to: usize, t: &[u8], base: usize, n: usize) -> usize
+pub fn places_in(r: &mut [u8], to: usize, t: &[u8], base: usize, n: usize, closed: u64) -> usize
     requires { ⌜ (base + slotSize * n ≤ length (now t)) × (n ≤ maxSlots)
-        × (to + 4 * length (blankedFrom (now t) base (keepsAt (now t) base n)) ≤ length (now r)) ⌝ }
-    ensures { λ e. ⌜ (e ≡ to + 4 * length (blankedFrom (now (t .entry)) base (keepsAt (now (t .entry)) base n)))
-        × (now (r .exit) ≡ put (now (r .entry)) to (each bytes4 (blankedFrom (now (t .entry)) base (keepsAt (now (t .entry)) base n)))) ⌝ }
+        × (to + 4 * length (blankedFrom (now t) base (keepsAt closed (now t) base n)) ≤ length (now r)) ⌝ }
+    ensures { λ e. ⌜ (e ≡ to + 4 * length (blankedFrom (now (t .entry)) base (keepsAt closed (now (t .entry)) base n)))
+        × (now (r .exit) ≡ put (now (r .entry)) to (each bytes4 (blankedFrom (now (t .entry)) base (keepsAt closed (now (t .entry)) base n)))) ⌝ }
 {
     let mut flags = [0u8; 512];
-    places_by(r, to, t, base, &mut flags[0..n])
+    places_by(r, to, t, base, &mut flags[0..n], closed)
 }
 
-fn repair_by(t: &mut [u8], base: usize, flags: &mut [u8])
+fn repair_by(t: &mut [u8], base: usize, flags: &mut [u8], closed: u64)
     requires { ⌜ base + slotSize * length (now flags) ≤ length (now t) ⌝ }
-    ensures { λ _. ⌜ now (t .exit) ≡ packed (now (t .entry)) base (keepsAt (now (t .entry)) base (length (now (flags .entry)))) ⌝ }
+    ensures { λ _. ⌜ now (t .exit) ≡ packed (now (t .entry)) base (keepsAt closed (now (t .entry)) base (length (now (flags .entry)))) ⌝ }
 {
-    keeping::flags_of(t, base, flags);
+    keeping::flags_of(t, base, flags, closed);
     packing::pack(t, base, flags);
 }
 
 // Moves the kept records up, and blanks what follows them.
-pub fn repair_in(t: &mut [u8], base: usize, n: usize)
+pub fn repair_in(t: &mut [u8], base: usize, n: usize, closed: u64)
     requires { ⌜ (base + slotSize * n ≤ length (now t)) × (n ≤ maxSlots) ⌝ }
-    ensures { λ _. ⌜ now (t .exit) ≡ packed (now (t .entry)) base (keepsAt (now (t .entry)) base n) ⌝ }
+    ensures { λ _. ⌜ now (t .exit) ≡ packed (now (t .entry)) base (keepsAt closed (now (t .entry)) base n) ⌝ }
 {
     let mut flags = [0u8; 512];
-    repair_by(t, base, &mut flags[0..n]);
+    repair_by(t, base, &mut flags[0..n], closed);
 }

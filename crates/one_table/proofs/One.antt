@@ -1,4 +1,4 @@
--- A valid table 2 is fixed by its bank, its bodies' codes and slots, and their records: head, entries and slots, one after another.
+-- A valid table 2 is fixed by its bank, its bodies' codes and slots, their records and closed years: head, entries and slots, one after another.
 use Prim.Native.Nat.{ℕ, zero, suc, _+_, _-_, _*_, _≤_, _<_}
 use mathlib.Core.Path.{_≡_, refl, sym, ap, _∙_}
 use mathlib.Core.Bool.{Bool, true, false}
@@ -15,7 +15,7 @@ use Rattle.record.specs.declared.Record.{Record}
 use Rattle.slots.specs.Slots.{recordsAt}
 use Rattle.body.specs.Body.{bodyOk, centsOf}
 use Rattle.body.proofs.Same.{fewer}
-use Rattle.entries.specs.Entry.{entrySize, entryRest, codeLength, codeAt, slotsOf, placeOf, kept, codesFrom}
+use Rattle.entries.specs.Entry.{entrySize, closedPlace, entryRest, codeLength, codeAt, slotsOf, placeOf, closedOf, kept, codesFrom}
 use Rattle.entries.proofs.Laws.{form}
 use Rattle.entries.proofs.Codes.{codes-length, codes-get}
 use Rattle.table.specs.Table.{table2, headSize, bodies, abiOf, codesOf, recordsOf, agrees, layoutOk, tableOk, entryOf}
@@ -35,11 +35,12 @@ same-part t u a n e = record { same = λ i b. sym (its t i b) ∙ ap (λ (l : Li
     its : (s : List ℕ) (i : ℕ) → i < n → getD (part s a (a + n)) i 0 ≡ getD s (a + i) 0
     its s i b = getD-take (a + n - a) (drop a s) i 0 (omega arith) ∙ getD-drop a s i 0
 
--- two entries at `at` of the same code, slots and records, whose bodies hold
+-- two entries at `at` of the same code, slots, records and closed year, whose bodies hold
 record Like (t u : List ℕ) (at : ℕ) : Type 0 where
   code : codeAt t at ≡ codeAt u at
   slots : slotsOf t at ≡ slotsOf u at
   records : recordsOf t at ≡ recordsOf u at
+  closed : closedOf t at ≡ closedOf u at
   holds : Holds table2 t at
   holds-too : Holds table2 u at
 
@@ -67,7 +68,7 @@ module _ {t u : List ℕ} (bt : (i : ℕ) → getD t i 0 < 256) (bu : (i : ℕ) 
       fewer (adjoined (adjoined (one at at n) code refl refl) pad (omega arith) (omega arith)) 18 (omega arith)
 
   entry-fixed : (at p : ℕ) → Entry table2 t at p → Entry table2 u at p → at + entrySize ≤ length t → at + entrySize ≤ length u → Like t u at → Agree t at u at entrySize
-  unfolding slotsOf placeOf
+  unfolding slotsOf placeOf closedOf
   entry-fixed at p e f lt lu w =
       let a = agrees-is t at (recordsOf t at) (w .holds .kept refl) in
       let b = agrees-is u at (recordsOf u at) (w .holds-too .kept refl) in
@@ -77,7 +78,8 @@ module _ {t u : List ℕ} (bt : (i : ℕ) → getD t i 0 < 256) (bu : (i : ℕ) 
       let y = adjoined x (four bt bu (at + 20) (at + 20) (e .placed ∙ sym (f .placed))) refl refl in
       let z = adjoined y (eight bt bu (at + 24) (at + 24) paid) refl refl in
       let v = adjoined z (eight bt bu (at + 32) (at + 32) collected) refl refl in
-      adjoined v (both-zero t u (at + 40) (at + 40) 8 (at + entrySize) (at + entrySize) (e .padded) (f .padded) (omega arith) (omega arith)) refl refl
+      let y = adjoined v (two bt bu (at + closedPlace) (at + closedPlace) (w .closed)) refl refl in
+      adjoined y (both-zero t u (at + entryRest) (at + entryRest) 6 (at + entrySize) (at + entrySize) (e .padded) (f .padded) (omega arith) (omega arith)) refl refl
 
   slots-fixed : (at p : ℕ) → placeOf t at ≡ p → placeOf u at ≡ p → Like t u at → Agree t p u p (slotSize * slotsOf t at)
   slots-fixed at p e f w =
@@ -143,6 +145,7 @@ one-table t u bt bu y z m =
       code = sym (codes-get entrySize t headSize (bodies t) b h) ∙ ap (λ (l : List (List ℕ)). getD l b []) (m .codes) ∙ codes-get entrySize u headSize (bodies u) b (omega arith);
       slots = m .slots b h;
       records = m .records b h;
+      closed = m .closed b h;
       holds = body-at t y b h .holds;
       holds-too = body-at u z b (omega arith) .holds;
     }

@@ -1,4 +1,4 @@
--- An opened table is valid, its bodies are those asked for, and every body is empty.
+-- An opened table is valid, its bodies are those asked for, every body is empty, and none has closed a year.
 use mathlib.Core.Path.{_≡_, refl, sym, ap, _∙_}
 use mathlib.Core.List.{List, [], _++_}
 use mathlib.Core.Bool.{true}
@@ -10,17 +10,17 @@ use Rattle.words.proofs.Laws.{Agree}
 use Rattle.bounds.specs.Bounds.{abiLength}
 use Rattle.record.specs.Slot.{slotSize}
 use Rattle.slots.specs.Slots.{usedAt, slotsAt, recordsAt, distinct}
-use Rattle.body.specs.Body.{slotsOk, bodyOk, centsOf}
+use Rattle.body.specs.Body.{slotsOk, bodyOk, centsOf, allLater}
 use Rattle.slots.proofs.Laws.{used-end}
 use Rattle.ranges.proofs.Laws.{get-zeros}
-use Rattle.entries.specs.Entry.{entrySize, requestSize, slotsOf, placeOf, codesFrom}
+use Rattle.entries.specs.Entry.{entrySize, requestSize, closedOf, slotsOf, placeOf, codesFrom}
 use Rattle.entries.proofs.Same.{Rows, codes-rows, slots-rows}
 use Rattle.table.specs.Table.{table2, headSize, bodies, abiOf, headOk, layoutOk, agrees, recordsOf, bodyHolds, validAs, tableOk, codesOf, entryOf}
 use Rattle.table.proofs.Laws.{known-2}
 use Rattle.table.proofs.Bodies.{lay-past, bodies-each, body-at}
 use Rattle.contents.specs.Contents.{headBytes, entriesBytes}
 use Rattle.contents.proofs.Laws.{length-part, length-head, length-entries}
-use Rattle.contents.proofs.Written.{getD-second, getD-zeros, agree-left, agree-right, head-bodies, head-abi, head-valid, Written, written-rows, written-layout, written-kept}
+use Rattle.contents.proofs.Written.{getD-second, getD-zeros, agree-left, agree-right, head-bodies, head-abi, head-valid, Written, written-rows, written-layout, written-kept, written-open}
 use Rattle.request.specs.Request.{firstBody, asked, slotsAsked, needed, requestOk}
 use Rattle.opening.specs.Opening.{noCents, opened}
 use Rattle.request.proofs.Laws.{request, needed-long}
@@ -122,7 +122,7 @@ module _ (q : List ℕ) (ok : requestOk q ≡ true) where
 
   -- every body is valid, and nothing is kept
   opened-body : (b : ℕ) → b < asked q → bodyHolds table2 (opened q) (entryOf b) ≡ true
-  unfolding bodyHolds agrees centsOf
+  unfolding bodyHolds agrees centsOf allLater
   opened-body b h =
       let e = entryOf b in
       let n = headSize + entrySize * asked q in
@@ -144,3 +144,7 @@ module _ (q : List ℕ) (ok : requestOk q ≡ true) where
       let e = opened-bodies in
       let w = body-at (opened q) opened-valid b (omega arith) in
       empty-used (opened q) (placeOf (opened q) (entryOf b)) (slotsOf (opened q) (entryOf b)) (λ i l. past i (omega (arith, w .past)))
+
+  -- and has closed no year
+  pub opened-open : (b : ℕ) → b < asked q → closedOf (opened q) (entryOf b) ≡ 0
+  opened-open b h = written-open (omega arith) headSize firstBody (asked q) (headSize + entrySize * asked q) b written h

@@ -201,6 +201,7 @@ pub fn of_flow(flow: &[u8], code: u64, place: u64, cause: u64) -> bool {
         7 => say(
             b"  7, no body of this table has this codice_ente_BT: codes are compared byte by byte, zeros in front too\n",
         ),
+        36 => say(b"  36, the body has closed this esercizio or a later one\n"),
         _ => say(b"  8, the outcome buffer has under 16 bytes per order\n"),
     }
 }

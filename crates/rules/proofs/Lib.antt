@@ -4,3 +4,4 @@ pub mod Kept
 pub mod Listed
 pub mod Codes
 pub mod Searches
+pub mod Later

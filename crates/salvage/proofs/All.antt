@@ -1,4 +1,5 @@
--- THE REPAIRED TABLE: body after body, each is valid, its records are those kept of its own slots as they were, and its entry keeps their totals.
+-- THE REPAIRED TABLE: body after body, each is valid, its records are those kept of its own slots as they were, and its entry keeps their totals and the
+-- closed year.
 use Prim.Native.Nat.{ℕ, zero, suc, _+_, _-_, _*_, _≤_, _<_}
 use mathlib.Core.Bool.{Bool, true, false}
 use mathlib.Core.List.{List, [], _++_}
@@ -13,23 +14,22 @@ use Rattle.bounds.specs.Bounds.{maxCents, maxSlots}
 use Rattle.record.specs.declared.Record.{Record}
 use Rattle.record.specs.Slot.{slotSize}
 use Rattle.record.proofs.Back.{agree-before, agree-after}
-use Rattle.ranges.specs.Ranges.{zeros}
 use Rattle.slots.specs.Slots.{recordsAt}
-use Rattle.body.specs.Body.{bodyOk, centsOf}
+use Rattle.body.specs.Body.{bodyOk, centsOf, allLater}
 use Rattle.body.proofs.Laws.{cents-most}
 use Rattle.body.proofs.Same.{fewer, records-agree, body-agree}
-use Rattle.entries.specs.Entry.{entrySize, entryFixed, entryRest, kept, keptBytes, slotsOf, placeOf}
-use Rattle.entries.proofs.Same.{zeros-agree, slots-agree, place-agree}
+use Rattle.entries.specs.Entry.{entrySize, entryFixed, closedPlace, kept, keptBytes, closedOf, slotsOf, placeOf}
+use Rattle.entries.proofs.Same.{slots-agree, place-agree, closed-agree}
 use Rattle.table.specs.Table.{table2, headSize, bodies, agrees, contentsOk, recordsOf, entryOf}
 use Rattle.table.proofs.Laws.{known-2}
 use Rattle.table.proofs.Bodies.{Placed, placed-of, placed-before}
-use Rattle.table.proofs.Kept.{Contents, Own, number, bank, codes, same-contents, same-valid}
+use Rattle.table.proofs.Kept.{Contents, Rest, rest-agree, Own, number, bank, codes, same-contents, same-valid}
 use Rattle.service.specs.Service.{settled}
 use Rattle.service.proofs.Totals.{agrees-is, is-agrees, kept-same, put-paid, put-collected}
 use Rattle.packing.specs.Packing.{packed}
 use Rattle.packing.proofs.Packed.{packed-long, packed-before, packed-after}
 use Rattle.keeping.specs.Keeping.{keepsAt, keptAt}
-use Rattle.keeping.proofs.Repaired.{keeps-length, repaired-ok, repaired-records, kept-agree}
+use Rattle.keeping.proofs.Repaired.{keeps-length, repaired-ok, repaired-records, repaired-later, kept-agree}
 use Rattle.salvage.specs.Salvage.{keepsOf, keptOf, bodyRepaired, repairedFrom, repaired}
 use Rattle.salvage.specs.Repaired.{Repairs}
 use Rattle.salvage.specs.Inner.{Fits}
@@ -56,22 +56,22 @@ module _ (t : List ℕ) (at : ℕ) (F : Fits t at) where
   rs = keptOf t at
 
   room : base + slotSize * length (keepsOf t at) ≤ length t
-  room = omega (arith, keeps-length t base n [], F .inside)
+  room = omega (arith, keeps-length (closedOf t at) t base n [], F .inside)
 
   pub mid-long : length (packed t (placeOf t at) (keepsOf t at)) ≡ length t
   mid-long = packed-long t base (keepsOf t at) room
 
   mid-after : (p m : ℕ) → base + slotSize * n ≤ p → Agree mid p t p m
-  mid-after p m h = packed-after t base (keepsOf t at) room p m (omega (arith, keeps-length t base n []))
+  mid-after p m h = packed-after t base (keepsOf t at) room p m (omega (arith, keeps-length (closedOf t at) t base n []))
 
   pub mid-before : (p m : ℕ) → p + m ≤ placeOf t at → Agree (packed t (placeOf t at) (keepsOf t at)) p t p m
   mid-before = packed-before t base (keepsOf t at) room
 
   pub mid-ok : bodyOk (packed t (placeOf t at) (keepsOf t at)) (placeOf t at) (slotsOf t at) ≡ true
-  mid-ok = repaired-ok t base n (F .inside)
+  mid-ok = repaired-ok (closedOf t at) t base n (F .inside)
 
   pub mid-records : recordsAt (packed t (placeOf t at) (keepsOf t at)) (placeOf t at) (slotsOf t at) ≡ keptOf t at
-  mid-records = repaired-records t base n (F .inside)
+  mid-records = repaired-records (closedOf t at) t base n (F .inside)
 
   -- its entry there, and what the totals set anew make of it
   fixed : Agree mid at t at entryFixed
@@ -118,14 +118,17 @@ module _ (t : List ℕ) (at : ℕ) (F : Fits t at) where
   next-before p m h =
       rw is (through (agree-before mid (at + entryFixed) sums p (omega (arith, room-there)) m h) (mid-before p m (omega (arith, F .past))))
 
-  past-sums : (p m : ℕ) → at + entryRest ≤ p → Agree (bodyRepaired t at) p mid p m
+  past-sums : (p m : ℕ) → at + closedPlace ≤ p → Agree (bodyRepaired t at) p mid p m
   past-sums p m h = rw is (agree-after mid (at + entryFixed) sums p (omega (arith, room-there)) m (omega (arith, sixteen)))
 
-  pub next-between : (p m : ℕ) → at + entryRest ≤ p → p + m ≤ placeOf t at → Agree (bodyRepaired t at) p t p m
+  pub next-between : (p m : ℕ) → at + closedPlace ≤ p → p + m ≤ placeOf t at → Agree (bodyRepaired t at) p t p m
   next-between p m h l = through (past-sums p m h) (mid-before p m l)
 
   pub next-after : (p m : ℕ) → placeOf t at + slotSize * slotsOf t at ≤ p → Agree (bodyRepaired t at) p t p m
   next-after p m h = through (past-sums p m (omega (arith, F .past))) (mid-after p m h)
+
+  pub next-closed : closedOf (bodyRepaired t at) at ≡ closedOf t at
+  next-closed = closed-agree at at (next-between (at + closedPlace) 2 (omega arith) (omega (arith, F .past)))
 
   slots-are : Agree (bodyRepaired t at) base mid base (slotSize * n)
   slots-are = past-sums base (slotSize * n) (omega (arith, F .past))
@@ -156,15 +159,16 @@ record Mended (u t : List ℕ) (c : ℕ) : Type 0 where
   body : bodyOk u (placeOf t (entryOf c)) (slotsOf t (entryOf c)) ≡ true
   records : recordsAt u (placeOf t (entryOf c)) (slotsOf t (entryOf c)) ≡ keptOf t (entryOf c)
   agreed : agrees u (entryOf c) (recordsAt u (placeOf t (entryOf c)) (slotsOf t (entryOf c))) ≡ true
+  closed : closedOf u (entryOf c) ≡ closedOf t (entryOf c)
 
 pub fits-of : (t : List ℕ) → contentsOk table2 t ≡ true → (b : ℕ) → b < bodies t → Fits t (entryOf b)
 fits-of t ok b h =
     let w = placed-of known-2 t ok b h in
     record { past = omega (arith, w .entry-in, w .past); inside = w .inside; few = w .own-form .most-slots }
 
--- the rest of an entry is zero
-rest-of : (t : List ℕ) → contentsOk table2 t ≡ true → (b : ℕ) → b < bodies t → zeros t (entryOf b + entryRest) (entryOf b + entrySize) ≡ true
-rest-of t ok b h = placed-of known-2 t ok b h .own-entry .padded
+-- an entry past its totals
+rest-of : (t : List ℕ) → contentsOk table2 t ≡ true → (b : ℕ) → b < bodies t → Rest t (entryOf b)
+rest-of t ok b h = let e = placed-of known-2 t ok b h .own-entry in record { year = e .closed; zero = e .padded }
 
 side : {A : Type 0} (b c : ℕ) → (c ≤ b → A) → (b < c → A) → A
 side {A} b c f g = go (ltb b c) refl
@@ -197,17 +201,15 @@ module _ (t : List ℕ) (ok : contentsOk table2 t ≡ true) (b : ℕ) (h : b < b
         (λ l. next-between t at F (entryOf c) entryFixed (omega arith) (omega (arith, low c b k h)));
   }
 
-  step-rest : (c : ℕ) → c < bodies t → zeros next (entryOf c + entryRest) (entryOf c + entrySize) ≡ true
+  step-rest : (c : ℕ) → c < bodies t → Rest next (entryOf c)
   step-rest c k =
-      let a : Agree next (entryOf c + entryRest) t (entryOf c + entryRest) 8 =
-      side c b (λ l. next-between t at F (entryOf c + entryRest) 8 (omega arith) (omega (arith, low c b k h)))
-      (λ l. next-before t at F (entryOf c + entryRest) 8 (omega arith)) in
+      let a : Agree next (entryOf c + closedPlace) t (entryOf c + closedPlace) (entrySize - closedPlace) =
+      side c b (λ l. next-between t at F (entryOf c + closedPlace) (entrySize - closedPlace) (omega arith) (omega (arith, low c b k h)))
+      (λ l. next-before t at F (entryOf c + closedPlace) (entrySize - closedPlace) (omega arith)) in
       let i = low c b k h in
       let m = F .inside in
       let g = next-long t at F in
-      zeros-agree a 0 8 (omega arith) (entryOf c + entryRest) (entryOf c + entrySize) (entryOf c + entryRest) (entryOf c + entrySize)
-      (omega arith) (omega arith) (omega arith) (omega arith) (omega arith) (omega arith)
-      ∙ rest-of t ok c k
+      rest-agree (entryOf c) a (omega arith) (omega arith) (rest-of t ok c k)
 
   pub step-right : contentsOk table2 (bodyRepaired t (entryOf b)) ≡ true
   step-right = same-contents step-contents ok step-rest
@@ -267,6 +269,7 @@ module _ (t : List ℕ) (ok : contentsOk table2 t ≡ true) (b : ℕ) (h : b < b
         body = body-agree (slotsOf t e) a ∙ next-ok t e G;
         records = r ∙ next-records t e G;
         agreed = is-agrees u e (recordsAt u (placeOf t e) (slotsOf t e)) (s .0 ∙ w .0 ∙ ap (centsOf 1) (sym r)) (s .1 ∙ w .1 ∙ ap (centsOf 2) (sym r));
+        closed = closed-agree e e (on (x .entry) closedPlace 2 (omega arith)) ∙ next-closed t e G;
       }
 
   later-mended : (c : ℕ) → b < c → c < bodies t → Mended u t c
@@ -276,10 +279,12 @@ module _ (t : List ℕ) (ok : contentsOk table2 t ≡ true) (b : ℕ) (h : b < b
       let y = step-after t ok b h c l k in
       let p = place-is t ok b h c k in
       let q = slots-is t ok b h c k in
+      let g : closedOf then e ≡ closedOf t e = closed-agree e e (on (y .entry) closedPlace 2 (omega arith)) in
       record {
         body = (λ i. bodyOk u (sym p i) (sym q i)) ∙ x .body;
-        records = (λ i. recordsAt u (sym p i) (sym q i)) ∙ x .records ∙ (λ i. keptAt then (p i) (q i)) ∙ kept-agree (slotsOf t e) (y .slots);
+        records = (λ i. recordsAt u (sym p i) (sym q i)) ∙ x .records ∙ (λ i. keptAt (g i) then (p i) (q i)) ∙ kept-agree (closedOf t e) (slotsOf t e) (y .slots);
         agreed = (λ i. agrees u e (recordsAt u (sym p i) (sym q i))) ∙ x .agreed;
+        closed = x .closed ∙ g;
       }
 
   joined : All t u b
@@ -317,7 +322,7 @@ all (suc n) t ok b e =
 -- THE THEOREM
 pub repairs : (t : List ℕ) → contentsOk table2 t ≡ true → Repairs t (repaired t)
 repairs t ok = record {
-  valid = same-valid C ok (λ b h. record { body = A .mended b (omega arith) h .body; kept = A .mended b (omega arith) h .agreed; rest = rest-of u (A .right) b (omega (arith, count)) });
+  valid = same-valid C ok own;
   long = C .long;
   bank = bank C ok;
   number = count;
@@ -326,6 +331,7 @@ repairs t ok = record {
   records = λ b h. (λ i. recordsAt u (place b h i) (size b h i)) ∙ A .mended b (omega arith) h .records;
   paid = λ b h. let m = A .mended b (omega arith) h in agrees-is u (entryOf b) (recordsAt u (placeOf t (entryOf b)) (slotsOf t (entryOf b))) (m .agreed) .0 ∙ ap (centsOf 1) (m .records);
   collected = λ b h. let m = A .mended b (omega arith) h in agrees-is u (entryOf b) (recordsAt u (placeOf t (entryOf b)) (slotsOf t (entryOf b))) (m .agreed) .1 ∙ ap (centsOf 2) (m .records);
+  closed = λ b h. A .mended b (omega arith) h .closed;
 }
   where
     u : List ℕ
@@ -345,3 +351,14 @@ repairs t ok = record {
 
     size : (b : ℕ) → b < bodies t → slotsOf u (entryOf b) ≡ slotsOf t (entryOf b)
     size b h = slots-agree (C .entries b h) (omega arith)
+
+    own : (b : ℕ) → b < bodies t → Own u t (entryOf b)
+    own b h =
+        let e : ℕ = entryOf b in
+        let m = A .mended b (omega arith) h in
+        record {
+          body = m .body;
+          kept = m .agreed;
+          later = (λ i. allLater (m .closed i) (m .records i)) ∙ repaired-later (closedOf t e) t (placeOf t e) (slotsOf t e) (fits-of t ok b h .inside);
+          rest = rest-of u (A .right) b (omega (arith, count));
+        }

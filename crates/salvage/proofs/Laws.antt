@@ -10,7 +10,7 @@ use borrow.Author.Tests.{le-leb, lt-leb}
 use Rattle.words.specs.Numbers.{put, bytes2, bytes4}
 use Rattle.words.proofs.Laws.{put-put}
 use Rattle.body.specs.Body.{centsOf}
-use Rattle.entries.specs.Entry.{entrySize, entryFixed, keptBytes, slotsOf, placeOf}
+use Rattle.entries.specs.Entry.{entrySize, entryFixed, keptBytes, closedOf, slotsOf, placeOf}
 use Rattle.table.specs.Table.{table2, headSize, bodies, contentsOk, recordsOf, entryOf}
 use Rattle.table.proofs.Laws.{head, laid}
 use Rattle.table.proofs.Kept.{number}
@@ -40,7 +40,7 @@ module _ (t : List ℕ) (ok : contentsOk table2 t ≡ true) (at left : ℕ) {n :
 pub few-bodies : (t : List ℕ) → contentsOk table2 t ≡ true → (headSize ≤ length t) × (bodies t ≤ 16)
 few-bodies t ok = let w = head table2 t (laid table2 t ok .head-ok) in (w .long, w .few)
 
--- ONE MORE BODY, of k; p and s are its place and its slots as they were read
+-- ONE MORE BODY, of k; p, s and y are its place, its slots and its closed year as they were read
 module _ (t : List ℕ) (at k : ℕ) (h : 0 < k) where
   more : k ≡ suc (k - 1)
   more = omega arith
@@ -49,17 +49,17 @@ module _ (t : List ℕ) (at k : ℕ) (h : 0 < k) where
   unfolding repairedFrom
   repaired-more = ap (repairedFrom t at) more
 
-  module _ {p s : ℕ} (e : p ≡ placeOf t at) (f : s ≡ slotsOf t at) where
-    pub moved-more : movedIn t at k ≡ moved (keepsAt t p s) ∷ movedIn t (at + entrySize) (k - 1)
+  module _ {p s y : ℕ} (e : p ≡ placeOf t at) (f : s ≡ slotsOf t at) (g : y ≡ closedOf t at) where
+    pub moved-more : movedIn t at k ≡ moved (keepsAt y t p s) ∷ movedIn t (at + entrySize) (k - 1)
     unfolding movedIn
-    moved-more = ap (movedIn t at) more ∙ (λ i. moved (keepsAt t (sym e i) (sym f i)) ∷ movedIn t (at + entrySize) (k - 1))
+    moved-more = ap (movedIn t at) more ∙ (λ i. moved (keepsAt (sym g i) t (sym e i) (sym f i)) ∷ movedIn t (at + entrySize) (k - 1))
 
-    pub blanked-more : blankedIn t at k ≡ blankedFrom t p (keepsAt t p s) ++ blankedIn t (at + entrySize) (k - 1)
+    pub blanked-more : blankedIn t at k ≡ blankedFrom t p (keepsAt y t p s) ++ blankedIn t (at + entrySize) (k - 1)
     unfolding blankedIn
-    blanked-more = ap (blankedIn t at) more ∙ (λ i. blankedFrom t (sym e i) (keepsAt t (sym e i) (sym f i)) ++ blankedIn t (at + entrySize) (k - 1))
+    blanked-more = ap (blankedIn t at) more ∙ (λ i. blankedFrom t (sym e i) (keepsAt (sym g i) t (sym e i) (sym f i)) ++ blankedIn t (at + entrySize) (k - 1))
 
-    pub count-more : length (blankedIn t at k) ≡ length (blankedFrom t p (keepsAt t p s)) + length (blankedIn t (at + entrySize) (k - 1))
-    count-more = ap length blanked-more ∙ length-append (blankedFrom t p (keepsAt t p s)) (blankedIn t (at + entrySize) (k - 1))
+    pub count-more : length (blankedIn t at k) ≡ length (blankedFrom t p (keepsAt y t p s)) + length (blankedIn t (at + entrySize) (k - 1))
+    count-more = ap length blanked-more ∙ length-append (blankedFrom t p (keepsAt y t p s)) (blankedIn t (at + entrySize) (k - 1))
 
 module _ (t : List ℕ) (at k : ℕ) (h : k ≤ 0) where
   none : k ≡ 0
@@ -133,9 +133,10 @@ pub settled-with : (t t′ : List ℕ) (at : ℕ) {a b : ℕ} → a ≡ centsOf 
 unfolding settled
 settled-with t t′ at e f g = g ∙ (λ i. put t (at + entryFixed) (keptBytes (e i) (f i)))
 
--- a body packed by the place and the slots that were read
-pub packed-by : (t t′ : List ℕ) (at : ℕ) {p s : ℕ} → p ≡ placeOf t at → s ≡ slotsOf t at → t′ ≡ packed t p (keepsAt t p s) → t′ ≡ packed t (placeOf t at) (keepsOf t at)
-packed-by t t′ at e f g = g ∙ (λ i. packed t (e i) (keepsAt t (e i) (f i)))
+-- a body packed by the place, the slots and the closed year that were read
+pub packed-by : (t t′ : List ℕ) (at : ℕ) {p s y : ℕ} → p ≡ placeOf t at → s ≡ slotsOf t at → y ≡ closedOf t at
+    → t′ ≡ packed t p (keepsAt y t p s) → t′ ≡ packed t (placeOf t at) (keepsOf t at)
+packed-by t t′ at e f h g = g ∙ (λ i. packed t (e i) (keepsAt (h i) t (e i) (f i)))
 
 -- THE ANSWER; n and c as they were counted, m the report's length
 module _ (t : List ℕ) (m : ℕ) where

@@ -89,8 +89,8 @@ all-left t at (suc n) f =
 pub unchanged : (t : List ℕ) → areBytes t ≡ true → tableOk t ≡ true → Unchanged t
 unchanged t b ok = record {
   same = sym (one-table t (repaired t) b (bytes-repaired (bodies t) t b headSize) ok (R .valid) matching);
-  none-moved = all-still t headSize (bodies t) (λ c h. valid-moved t _ _ (body-at t ok c h .inside) (body-at t ok c h .holds .body));
-  none-blanked = all-left t headSize (bodies t) (λ c h. valid-blanked t _ _ (body-at t ok c h .inside) (body-at t ok c h .holds .body));
+  none-moved = all-still t headSize (bodies t) (λ c h. valid-moved _ t _ _ (body-at t ok c h .inside) (body-at t ok c h .holds .body) (body-at t ok c h .holds .later));
+  none-blanked = all-left t headSize (bodies t) (λ c h. valid-blanked _ t _ _ (body-at t ok c h .inside) (body-at t ok c h .holds .body) (body-at t ok c h .holds .later));
 }
   where
     R : Repairs t (repaired t)
@@ -101,7 +101,8 @@ unchanged t b ok = record {
       bank = sym (R .bank);
       codes = sym (R .codes);
       slots = λ c h. sym (R .slots c h);
-      records = λ c h. sym (R .records c h ∙ valid-kept t _ _ (body-at t ok c h .inside) (body-at t ok c h .holds .body));
+      records = λ c h. sym (R .records c h ∙ valid-kept _ t _ _ (body-at t ok c h .inside) (body-at t ok c h .holds .body) (body-at t ok c h .holds .later));
+      closed = λ c h. sym (R .closed c h);
     }
 
 pub once : (t : List ℕ) → areBytes t ≡ true → contentsOk table2 t ≡ true → Unchanged (repaired t)

@@ -7,7 +7,7 @@ use mathlib.Core.List.{List, []}
 use lib.ListN.{length, replicate}
 use Rattle.record.specs.Slot.{mandatoKind, reversaleKind}
 use Rattle.body.specs.Body.{centsOf}
-use Rattle.entries.specs.Entry.{kept, slotsOf}
+use Rattle.entries.specs.Entry.{kept, closedOf, slotsOf}
 use Rattle.table.specs.Table.{headSize, bodies, abiOf, codesOf, recordsOf, tableOk, entryOf}
 use Rattle.salvage.specs.Salvage.{keptOf, repaired, movedIn, blanked}
 
@@ -25,6 +25,8 @@ pub record Repairs (t u : List ℕ) : Type 0 where
   pub records : (b : ℕ) → b < bodies t → recordsOf u (entryOf b) ≡ keptOf t (entryOf b)
   pub paid : (b : ℕ) → b < bodies t → kept mandatoKind u (entryOf b) ≡ centsOf mandatoKind (keptOf t (entryOf b))
   pub collected : (b : ℕ) → b < bodies t → kept reversaleKind u (entryOf b) ≡ centsOf reversaleKind (keptOf t (entryOf b))
+  -- the closed year is the old one's
+  pub closed : (b : ℕ) → b < bodies t → closedOf u (entryOf b) ≡ closedOf t (entryOf b)
 
 -- "A valid table comes out the same": nothing is moved, nothing blanked
 pub record Unchanged (t : List ℕ) : Type 0 where

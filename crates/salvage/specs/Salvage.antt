@@ -1,5 +1,6 @@
 -- Salvage of a damaged table (document 02, Req 13): "A repair needs a valid head and entries but for the kept totals. Slot by slot, it keeps a record that is
--- valid by itself and whose key hasn't been kept earlier in that body, blanks the others, moves the kept ones up in order and sets the totals anew."
+-- valid by itself and whose key hasn't been kept earlier in that body, blanks the others, moves the kept ones up in order and sets the totals anew." Req 14: "a
+-- valid table holds no record of that or an earlier year, and salvage blanks such records".
 use Prim.Native.Nat.{ℕ, zero, suc, _+_}
 use mathlib.Core.Path.{_≡_}
 use mathlib.Core.Bool.{cond}
@@ -8,7 +9,7 @@ use lib.ListN.{length}
 use lib.Dec.{leb}
 use Rattle.words.specs.Numbers.{put, bytes2, bytes4}
 use Rattle.record.specs.declared.Record.{Record}
-use Rattle.entries.specs.Entry.{entrySize, slotsOf, placeOf}
+use Rattle.entries.specs.Entry.{entrySize, slotsOf, placeOf, closedOf}
 use Rattle.table.specs.Table.{table2, headSize, bodies, contentsOk}
 use Rattle.service.specs.Service.{settled}
 use Rattle.packing.specs.Packing.{packed}
@@ -19,10 +20,10 @@ use Rattle.salvage.specs.declared.SalvageReply.{SalvageReply}
 
 -- OF THE BODY whose entry is at `at`: the flags of its slots, 1 for a kept one, and the records that are kept
 abbrev pub keepsOf : List ℕ → ℕ → List ℕ
-keepsOf t at = keepsAt t (placeOf t at) (slotsOf t at)
+keepsOf t at = keepsAt (closedOf t at) t (placeOf t at) (slotsOf t at)
 
 abbrev pub keptOf : List ℕ → ℕ → List Record
-keptOf t at = keptAt t (placeOf t at) (slotsOf t at)
+keptOf t at = keptAt (closedOf t at) t (placeOf t at) (slotsOf t at)
 
 -- THE REPAIRED TABLE
 

@@ -38,7 +38,8 @@ fn count_blanked(t: &[u8], n: usize) -> usize
     while 0 < left {
         let base = entries::place_of(t, at);
         let slots = entries::slots_of(t, at);
-        count += mending::blanked_in(t, base, slots);
+        let closed = entries::closed_of(t, at);
+        count += mending::blanked_in(t, base, slots, closed);
         at += entries::ENTRY;
         left -= 1;
     }
@@ -56,7 +57,8 @@ fn put_moved(r: &mut [u8], t: &[u8], n: usize)
     while 0 < left {
         let base = entries::place_of(t, at);
         let slots = entries::slots_of(t, at);
-        words::write2(r, to, mending::moved_in(t, base, slots) as u64);
+        let closed = entries::closed_of(t, at);
+        words::write2(r, to, mending::moved_in(t, base, slots, closed) as u64);
         to += 2;
         at += entries::ENTRY;
         left -= 1;
@@ -74,7 +76,8 @@ fn put_blanked(r: &mut [u8], t: &[u8], n: usize)
     while 0 < left {
         let base = entries::place_of(t, at);
         let slots = entries::slots_of(t, at);
-        to = mending::places_in(r, to, t, base, slots);
+        let closed = entries::closed_of(t, at);
+        to = mending::places_in(r, to, t, base, slots, closed);
         at += entries::ENTRY;
         left -= 1;
     }
@@ -100,7 +103,8 @@ fn repair_at(t: &mut [u8], at: usize)
 {
     let base = entries::place_of(t, at);
     let n = entries::slots_of(t, at);
-    mending::repair_in(t, base, n);
+    let closed = entries::closed_of(t, at);
+    mending::repair_in(t, base, n, closed);
     settle_at(t, at);
 }
 

@@ -14,7 +14,7 @@ use Rattle.record.specs.Slot.{slotSize, recordAt, withState}
 use Rattle.record.proofs.Back.{agree-before, agree-after}
 use Rattle.slots.specs.Slots.{recordsAt, findIn, nth, statePlace}
 use Rattle.slots.proofs.Held.{Held, search-held}
-use Rattle.entries.specs.Entry.{entrySize, entryFixed, entryRest, kept, keptBytes}
+use Rattle.entries.specs.Entry.{entrySize, entryFixed, closedPlace, kept, keptBytes}
 use Rattle.ranges.specs.declared.Found.the-variants.{At}
 use Rattle.body.specs.Body.{bodyOk, centsOf}
 use Rattle.body.proofs.Laws.{cents-most}

@@ -16,7 +16,7 @@ use Rattle.record.specs.Slot.{slotSize}
 use Rattle.record.proofs.Back.{agree-before, agree-after}
 use Rattle.slots.specs.Slots.{recordsAt, nth}
 use Rattle.body.specs.Body.{bodyOk, centsOf}
-use Rattle.entries.specs.Entry.{entrySize, entryFixed, entryRest, kept, keptBytes}
+use Rattle.entries.specs.Entry.{entrySize, entryFixed, closedPlace, kept, keptBytes}
 use Rattle.table.specs.Table.{agrees}
 use Rattle.valid.proofs.Valid.{Valid}
 use Rattle.rules.specs.declared.Noticed.the-variants.{Moved}
@@ -97,7 +97,7 @@ cash-moves false key line rs i cents kind e ok h =
 pub record Settled (t t′ : List ℕ) (e base n : ℕ) : Type 0 where
   pub long : length t′ ≡ length t
   pub before : (p m : ℕ) → p + m ≤ e + entryFixed → Agree t′ p t p m
-  pub between : (p m : ℕ) → e + entryRest ≤ p → p + m ≤ base → Agree t′ p t p m
+  pub between : (p m : ℕ) → e + closedPlace ≤ p → p + m ≤ base → Agree t′ p t p m
   pub after : (p m : ℕ) → base + slotSize * n ≤ p → Agree t′ p t p m
   pub ok : bodyOk t′ base n ≡ true
   pub agreed : agrees t′ e (recordsAt t′ base n) ≡ true

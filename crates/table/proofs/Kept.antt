@@ -11,11 +11,11 @@ use Rattle.scan.specs.Bytes.{between, all, isDigit}
 use Rattle.words.proofs.Laws.{Agree, on, same2, same4}
 use Rattle.record.specs.Slot.{slotSize}
 use Rattle.slots.specs.Slots.{recordsAt}
-use Rattle.body.specs.Body.{bodyOk}
+use Rattle.body.specs.Body.{bodyOk, allLater}
 use Rattle.body.proofs.Same.{fewer}
 use Rattle.ranges.specs.Ranges.{zeros}
-use Rattle.entries.specs.Entry.{entrySize, entryFixed, entryRest, requestSize, slotsOf, placeOf, codesFrom, findCode}
-use Rattle.entries.proofs.Same.{part-agree, zeros-agree, slots-agree, place-agree, form-agree, Rows, codes-rows}
+use Rattle.entries.specs.Entry.{entrySize, entryFixed, closedPlace, entryRest, requestSize, slotsOf, placeOf, closedOf, closedOk, codesFrom, findCode}
+use Rattle.entries.proofs.Same.{part-agree, zeros-agree, slots-agree, place-agree, closed-agree, form-agree, Rows, codes-rows}
 use Rattle.entries.proofs.Same.Rows.{none, row}
 use Rattle.bounds.specs.Bounds.{maxLength}
 use Rattle.table.specs.Table.{table2, headSize, bodies, abiOf, headOk, entryOk, layoutOk, agrees, bodyHolds, bodiesOk, contentsOk, validAs, tableOk, codesOf, bodyOf, entryOf}
@@ -35,11 +35,28 @@ pub record Contents (u t : List ℕ) : Type 0 where
   pub top : Agree u 0 t 0 headSize
   pub entries : (b : ℕ) → b < bodies t → Agree u (entryOf b) t (entryOf b) entryFixed
 
--- what makes one body of u valid, at the place and with the slots that t gives it: its slots, its kept totals and the rest of its entry
+-- an entry's bytes past what is kept: its closed year and the rest
+pub record Rest (u : List ℕ) (at : ℕ) : Type 0 where
+  pub year : closedOk (closedOf u at) ≡ true
+  pub zero : zeros u (at + entryRest) (at + entrySize) ≡ true
+
+-- these bytes agree with those of an entry that has them right
+pub rest-agree : {u t : List ℕ} (at : ℕ) → Agree u (at + closedPlace) t (at + closedPlace) (entrySize - closedPlace)
+    → at + entrySize ≤ length u → at + entrySize ≤ length t → Rest t at → Rest u at
+rest-agree {u} {t} at a lu lt r =
+    record {
+      year = ap (λ (y : ℕ). closedOk y) (closed-agree at at (fewer a 2 (omega arith))) ∙ r .year;
+      zero = zeros-agree a 2 8 (omega arith) (at + entryRest) (at + entrySize) (at + entryRest) (at + entrySize)
+          (omega arith) (omega arith) (omega arith) (omega arith) lu lt ∙ r .zero;
+    }
+
+-- what makes one body of u valid, at the place and with the slots that t gives it: its slots, its kept totals, its records later than its closed year, and
+-- the rest of its entry
 pub record Own (u t : List ℕ) (at : ℕ) : Type 0 where
   pub body : bodyOk u (placeOf t at) (slotsOf t at) ≡ true
   pub kept : agrees u at (recordsAt u (placeOf t at) (slotsOf t at)) ≡ true
-  pub rest : zeros u (at + entryRest) (at + entrySize) ≡ true
+  pub later : allLater (closedOf u at) (recordsAt u (placeOf t at) (slotsOf t at)) ≡ true
+  pub rest : Rest u at
 
 module _ {u t : List ℕ} (s : Contents u t) (ok : contentsOk table2 t ≡ true) where
   room : headSize + entrySize * bodies t ≤ length t
@@ -72,7 +89,7 @@ module _ {u t : List ℕ} (s : Contents u t) (ok : contentsOk table2 t ≡ true)
   Same at = Agree u at t at entryFixed
 
   abbrev Fits : ℕ → Type 0
-  Fits at = Same at × (zeros u (at + entryRest) (at + entrySize) ≡ true)
+  Fits at = Same at × Rest u at
 
   entry-same : (at p : ℕ) → at + entrySize ≤ headSize + entrySize * bodies t → Fits at → entryOk table2 t at p ≡ true → entryOk table2 u at p ≡ true
   unfolding entryOk
@@ -82,7 +99,7 @@ module _ {u t : List ℕ} (s : Contents u t) (ok : contentsOk table2 t ≡ true)
       let w = entry table2 t at p e in
       let f = form-agree (fewer (a .0) requestSize (omega arith)) (omega arith) (omega arith) (w .formed) in
       let q = place-agree (a .0) (omega arith) ∙ w .placed in
-      rw (f, a .1, eq-eqb (placeOf u at) p q)
+      rw (f, a .1 .year, a .1 .zero, eq-eqb (placeOf u at) p q)
 
   layout-same : (at n p : ℕ) → at + entrySize * n ≤ headSize + entrySize * bodies t → ((b : ℕ) → b < n → Fits (at + entrySize * b)) → layoutOk table2 t at n p ≡ true → layoutOk table2 u at n p ≡ true
   unfolding layoutOk
@@ -114,10 +131,10 @@ module _ {u t : List ℕ} (s : Contents u t) (ok : contentsOk table2 t ≡ true)
       let a = first Valid at n f in
       let p = place-agree (a .0) (omega arith) in
       let k = slots-agree (a .0) (omega arith) in
-      rw (p, k, a .1 .body, a .1 .kept) (bodies-same (at + entrySize) n (later Valid at n f))
+      rw (p, k, a .1 .body, a .1 .later, a .1 .kept) (bodies-same (at + entrySize) n (later Valid at n f))
 
   -- its contents are right, and it is valid where each body is
-  pub same-contents : ((b : ℕ) → b < bodies t → zeros u (entryOf b + entryRest) (entryOf b + entrySize) ≡ true) → contentsOk table2 u ≡ true
+  pub same-contents : ((b : ℕ) → b < bodies t → Rest u (entryOf b)) → contentsOk table2 u ≡ true
   same-contents f =
       let w = laid table2 t ok in
       rw (

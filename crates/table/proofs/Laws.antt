@@ -14,15 +14,17 @@ use Rattle.words.specs.Numbers.{be2, be4}
 use Rattle.record.specs.Slot.{slotSize}
 use Rattle.ranges.specs.Ranges.{zeros}
 use Rattle.slots.specs.Slots.{recordsAt}
-use Rattle.body.specs.Body.{bodyOk, centsOf}
+use Rattle.record.specs.declared.Record.{Record}
+use Rattle.body.specs.Body.{bodyOk, centsOf, allLater}
 use Rattle.body.specs.Inner.{summed}
 use Rattle.body.specs.declared.Sums.the-variants.{Broken, Right}
 use Rattle.body.proofs.Laws.{summed-right, summed-broken}
-use Rattle.entries.specs.Entry.{entrySize, kept, slotsOf, placeOf, formOk, formsOk, codesFrom, distinctCodes}
+use Rattle.body.proofs.Later.{open-later}
+use Rattle.entries.specs.Entry.{entrySize, kept, closedOf, closedOk, slotsOf, placeOf, formOk, formsOk, codesFrom, distinctCodes}
 use Rattle.entries.proofs.Laws.{times, Form, form}
 use Rattle.bounds.specs.Bounds.{maxBodies}
 use Rattle.table.specs.declared.Layout.{Layout}
-use Rattle.table.specs.Table.{table1, table2, headSize, bodies, abiOf, headOk, entryOk, layoutOk, agrees, recordsOf, linesHold, bodyHolds, bodiesOk, validAs, contentsOk}
+use Rattle.table.specs.Table.{table1, table2, headSize, bodies, abiOf, headOk, yearOk, entryOk, layoutOk, agrees, recordsOf, linesHold, yearsHold, bodyHolds, bodiesOk, validAs, contentsOk}
 use Rattle.table.specs.Inner.{Known, sumsAgree}
 
 -- LAYOUTS
@@ -32,11 +34,12 @@ known-1 = record {
   inside = omega arith;
   small = omega arith;
   room = λ (e : false ≡ true). let z : _≡_ {A = ℕ} 0 1 = cc in absurd (omega arith);
+  year = λ (e : false ≡ true). let z : _≡_ {A = ℕ} 0 1 = cc in absurd (omega arith);
   fits = omega arith;
 }
 
 pub known-2 : Known table2
-known-2 = record { fixed = omega arith; inside = omega arith; small = omega arith; room = λ e. omega arith; fits = omega arith }
+known-2 = record { fixed = omega arith; inside = omega arith; small = omega arith; room = λ e. omega arith; year = λ e. omega arith; fits = omega arith }
 
 -- a few entries take few bytes
 pub entries-most : {L : Layout} → Known L → (n : ℕ) → n ≤ maxBodies → L .entry * n ≤ entrySize * maxBodies
@@ -107,21 +110,33 @@ module _ (L : Layout) (t : List ℕ) (at p : ℕ) where
     unfolding entryOk
     entry-place h = rw (f, ← e, ne-eqb q p h)
 
-    pub entry-rest : q ≡ p → entryOk L t at p ≡ zeros t (at + L .rest) (at + L .entry)
-    unfolding entryOk
-    entry-rest h = rw (f, ← e, eq-eqb q p h)
+    module _ (h : q ≡ p) {b : Bool} (g : b ≡ yearOk L t at) where
+      pub entry-year : b ≡ false → entryOk L t at p ≡ false
+      unfolding entryOk
+      entry-year y = rw (f, ← e, eq-eqb q p h, ← g, y)
+
+      pub entry-rest : b ≡ true → entryOk L t at p ≡ zeros t (at + L .rest) (at + L .entry)
+      unfolding entryOk
+      entry-rest y = rw (f, ← e, eq-eqb q p h, ← g, y)
+
+-- its closed year is read
+pub year-is : (L : Layout) (t : List ℕ) (at : ℕ) → L .closes ≡ true → {year : ℕ} → year ≡ closedOf t at → closedOk year ≡ yearOk L t at
+year-is L t at k e = sym (λ i. cond (k i) (closedOk (sym e i)) true)
 
 pub record Entry (L : Layout) (t : List ℕ) (at p : ℕ) : Type 0 where
   pub formed : formOk t at ≡ true
   pub placed : placeOf t at ≡ p
+  pub closed : yearOk L t at ≡ true
   pub padded : zeros t (at + L .rest) (at + L .entry) ≡ true
 
 pub entry : (L : Layout) (t : List ℕ) (at p : ℕ) → entryOk L t at p ≡ true → Entry L t at p
 unfolding entryOk
 entry L t at p e =
-    let a = both (formOk t at) (eqb (placeOf t at) p && zeros t (at + L .rest) (at + L .entry)) e in
-    let b = both (eqb (placeOf t at) p) (zeros t (at + L .rest) (at + L .entry)) (a .1) in
-    record { formed = a .0; placed = eqb-true (placeOf t at) p (b .0); padded = b .1 }
+    let z = zeros t (at + L .rest) (at + L .entry) in
+    let a = both (formOk t at) (eqb (placeOf t at) p && (yearOk L t at && z)) e in
+    let b = both (eqb (placeOf t at) p) (yearOk L t at && z) (a .1) in
+    let c = both (yearOk L t at) z (b .1) in
+    record { formed = a .0; placed = eqb-true (placeOf t at) p (b .0); closed = c .0; padded = c .1 }
 
 -- THE LAYOUT: the first of k = m + 1 entries, and the rest
 module _ (L : Layout) (t : List ℕ) (at k m p : ℕ) (e : k ≡ suc m) where
@@ -205,32 +220,61 @@ module _ (L : Layout) (t : List ℕ) (at : ℕ) {p n : ℕ} (e : p ≡ placeOf t
 
       pub holds-lines : c ≡ false → bodyHolds L t at ≡ false
       unfolding bodyHolds
-      holds-lines x = λ i. its-right .0 i && (its-lines x i && cond (L .keeps) (agrees t at (recordsOf t at)) true)
+      holds-lines x =
+          λ i. its-right .0 i && (its-lines x i && (yearsHold L t at (recordsOf t at) && cond (L .keeps) (agrees t at (recordsOf t at)) true))
 
-      pub holds-kept : c ≡ true → L .keeps ≡ true → bodyHolds L t at ≡ sumsAgree t at a b
-      unfolding bodyHolds agrees
-      holds-kept h k =
-          let w = its-right in
-          let x : a ≡ centsOf 1 (recordsOf t at) = let z = w .1 in cc in
-          let y : b ≡ centsOf 2 (recordsOf t at) = let z = w .1 in cc in
-          (λ i. w .0 i && (its-lines h i && cond (k i) (agrees t at (recordsOf t at)) true)) ∙ rw (← x, ← y)
+      module _ (h : c ≡ true) {d : Bool} (r : d ≡ yearsHold L t at (recordsAt t p n)) where
+        read-years : yearsHold L t at (recordsAt t p n) ≡ yearsHold L t at (recordsOf t at)
+        read-years i = yearsHold L t at (recordsAt t (e i) (f i))
 
-      pub holds-bare : c ≡ true → L .keeps ≡ false → bodyHolds L t at ≡ true
-      unfolding bodyHolds
-      holds-bare h k = λ i. its-right .0 i && (its-lines h i && cond (k i) (agrees t at (recordsOf t at)) true)
+        its-years : {x : Bool} → d ≡ x → yearsHold L t at (recordsOf t at) ≡ x
+        its-years x = sym read-years ∙ sym r ∙ x
+
+        -- the last test
+        its-last : {x : Bool} → d ≡ x → {k : Bool} → L .keeps ≡ k → bodyHolds L t at ≡ (x && cond k (agrees t at (recordsOf t at)) true)
+        unfolding bodyHolds
+        its-last x k = λ i. its-right .0 i && (its-lines h i && (its-years x i && cond (k i) (agrees t at (recordsOf t at)) true))
+
+        pub holds-years : d ≡ false → bodyHolds L t at ≡ false
+        holds-years x = its-last x refl
+
+        pub holds-kept : d ≡ true → L .keeps ≡ true → bodyHolds L t at ≡ sumsAgree t at a b
+        unfolding agrees
+        holds-kept x k =
+            let z = its-right .1 in
+            let u : a ≡ centsOf 1 (recordsOf t at) = cc in
+            let v : b ≡ centsOf 2 (recordsOf t at) = cc in
+            its-last x k ∙ rw (← u, ← v)
+
+        pub holds-bare : d ≡ true → L .keeps ≡ false → bodyHolds L t at ≡ true
+        holds-bare x k = its-last x k
+
+-- a valid body that never closed has no record of a closed year
+pub years-bare : (L : Layout) (t : List ℕ) (at : ℕ) (rs : List Record) → L .closes ≡ false → yearsHold L t at rs ≡ true
+years-bare L t at rs k = ap (λ (b : Bool). cond b (allLater (closedOf t at) rs) true) k
+
+module _ (L : Layout) (t : List ℕ) (at p n : ℕ) (k : L .closes ≡ true) {year : ℕ} (e : year ≡ closedOf t at) where
+  pub years-are : yearsHold L t at (recordsAt t p n) ≡ allLater year (recordsAt t p n)
+  years-are i = cond (k i) (allLater (sym e i) (recordsAt t p n)) true
+
+  pub years-none : year ≡ 0 → bodyOk t p n ≡ true → yearsHold L t at (recordsAt t p n) ≡ true
+  years-none z ok = years-are ∙ open-later t p n year (omega arith) ok
 
 -- what an entry whose body holds tells
 pub record Holds (L : Layout) (t : List ℕ) (at : ℕ) : Type 0 where
   pub body : bodyOk t (placeOf t at) (slotsOf t at) ≡ true
   pub lines : linesHold L (recordsOf t at) ≡ true
+  pub later : yearsHold L t at (recordsOf t at) ≡ true
   pub kept : L .keeps ≡ true → agrees t at (recordsOf t at) ≡ true
 
 pub holds : (L : Layout) (t : List ℕ) (at : ℕ) → bodyHolds L t at ≡ true → Holds L t at
 unfolding bodyHolds
 holds L t at e =
-    let a = both (bodyOk t (placeOf t at) (slotsOf t at)) (linesHold L (recordsOf t at) && cond (L .keeps) (agrees t at (recordsOf t at)) true) e in
-    let c = both (linesHold L (recordsOf t at)) (cond (L .keeps) (agrees t at (recordsOf t at)) true) (a .1) in
-    record { body = a .0; lines = c .0; kept = λ k. ap (λ (b : Bool). cond b (agrees t at (recordsOf t at)) true) (sym k) ∙ c .1 }
+    let k = cond (L .keeps) (agrees t at (recordsOf t at)) true in
+    let a = both (bodyOk t (placeOf t at) (slotsOf t at)) (linesHold L (recordsOf t at) && (yearsHold L t at (recordsOf t at) && k)) e in
+    let c = both (linesHold L (recordsOf t at)) (yearsHold L t at (recordsOf t at) && k) (a .1) in
+    let d = both (yearsHold L t at (recordsOf t at)) k (c .1) in
+    record { body = a .0; lines = c .0; later = d .0; kept = λ k. ap (λ (b : Bool). cond b (agrees t at (recordsOf t at)) true) (sym k) ∙ d .1 }
 
 module _ (L : Layout) (t : List ℕ) (at k m : ℕ) (e : k ≡ suc m) where
   pub bodies-not : bodyHolds L t at ≡ false → bodiesOk L t at k ≡ false

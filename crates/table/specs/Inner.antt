@@ -9,12 +9,13 @@ use Rattle.record.specs.Slot.{mandatoKind, reversaleKind}
 use Rattle.entries.specs.Entry.{entrySize, entryFixed, kept}
 use Rattle.table.specs.declared.Layout.{Layout}
 
--- an entry's rest lies in it and past what never changes; an entry that keeps totals is one of table 2
+-- an entry's rest lies in it and past what never changes; an entry that keeps totals, or a closed year, is one of table 2
 pub record Known (l : Layout) : Type 0 where
   pub fixed : entryFixed ≤ l .rest
   pub inside : l .rest ≤ l .entry
   pub small : l .entry ≤ entrySize
   pub room : l .keeps ≡ true → entrySize ≤ l .entry
+  pub year : l .closes ≡ true → entrySize ≤ l .entry
   pub fits : l .most ≤ maxLength
 
 -- an entry keeps these sums

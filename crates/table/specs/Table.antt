@@ -12,23 +12,24 @@ use Rattle.record.specs.Slot.{slotSize, mandatoKind, reversaleKind}
 use Rattle.record.specs.declared.Record.{Record}
 use Rattle.ranges.specs.Ranges.{zeros}
 use Rattle.slots.specs.Slots.{recordsAt}
-use Rattle.body.specs.Body.{bodyOk, centsOf, noneReplaced}
+use Rattle.body.specs.Body.{bodyOk, centsOf, noneReplaced, allLater}
 use Rattle.ranges.specs.declared.Found.{Found}
-use Rattle.entries.specs.Entry.{entrySize, entryFixed, entryRest, kept, slotsOf, placeOf, formOk, codesFrom, findCode, distinctCodes}
+use Rattle.entries.specs.Entry.{entrySize, entryFixed, entryRest, kept, closedOf, closedOk, slotsOf, placeOf, formOk, codesFrom, findCode, distinctCodes}
 use Rattle.table.specs.declared.Layout.{Layout}
 
--- WHAT TELLS TABLES APART: an entry's size, where its rest begins, whether it keeps totals before that, whether lines may be replaced, the head's number, the
--- greatest length
+-- WHAT TELLS TABLES APART: an entry's size, where its rest begins, whether it keeps totals before that, whether lines may be replaced, whether it has a closed year
+-- after the totals, the head's number, the greatest length
 
 -- document 01: "2-3 the number 1", "One entry per body, 32 bytes", "20-23 place of its first slot; rest zero", "line states (0 no line, 1 waiting,
 -- 2 executed)", "at most 65,536"
 abbrev pub table1 : Layout
-table1 = record { entry = 32; rest = entryFixed; keeps = false; replaces = false; number = 1; most = 65536 }
+table1 = record { entry = 32; rest = entryFixed; keeps = false; replaces = false; closes = false; number = 1; most = 65536 }
 
 -- document 02, Req 04: "Entries grow to 48 bytes: cents paid at 24-31, cents collected at 32-39, rest zero. The head's number becomes 2, and a table is
--- valid only if these agree with the records. .. The greatest table length becomes 65,792." Req 07: "replaced (line state 3)"
+-- valid only if these agree with the records. .. The greatest table length becomes 65,792." Req 07: "replaced (line state 3)". Req 14: "Entry bytes 40-41
+-- hold the year"
 abbrev pub table2 : Layout
-table2 = record { entry = entrySize; rest = entryRest; keeps = true; replaces = true; number = 2; most = maxLength }
+table2 = record { entry = entrySize; rest = entryRest; keeps = true; replaces = true; closes = true; number = 2; most = maxLength }
 
 -- A VALID TABLE of a layout
 
@@ -53,9 +54,13 @@ headOk l t =
     between headSize (l .most) (length t) && (between 1 maxBodies (bodies t) && (eqb (be2 t 2) (l .number) && (eqb (be4 t 4) (length t)
     && (all isDigit (abiOf t) && (zeros t (abiPlace + abiLength) headSize && leb (headSize + l .entry * bodies t) (length t))))))
 
+-- an entry's closed year, where it has one: "2000 to 2099, 0 before the first close"
+abbrev pub yearOk : Layout → List ℕ → ℕ → Bool
+yearOk l t at = cond (l .closes) (closedOk (closedOf t at)) true
+
 -- an entry whose slots begin at p: "20-23 place of its first slot", "rest zero"
 unfoldable pub entryOk : Layout → List ℕ → ℕ → ℕ → Bool
-entryOk l t at p = formOk t at && (eqb (placeOf t at) p && zeros t (at + l .rest) (at + l .entry))
+entryOk l t at p = formOk t at && (eqb (placeOf t at) p && (yearOk l t at && zeros t (at + l .rest) (at + l .entry)))
 
 -- "The bodies' slots follow the contents without gaps, in entry order": the n entries from `at` on, the first one's slots at p; the last slot
 -- ends the buffer
@@ -75,10 +80,15 @@ recordsOf t at = recordsAt t (placeOf t at) (slotsOf t at)
 abbrev pub linesHold : Layout → List Record → Bool
 linesHold l rs = cond (l .replaces) true (noneReplaced rs)
 
+-- "a valid table holds no record of that or an earlier year"
+abbrev pub yearsHold : Layout → List ℕ → ℕ → List Record → Bool
+yearsHold l t at rs = cond (l .closes) (allLater (closedOf t at) rs) true
+
 -- the body of the entry at `at` is valid, and what the entry keeps agrees with it
 unfoldable pub bodyHolds : Layout → List ℕ → ℕ → Bool
 bodyHolds l t at =
-    bodyOk t (placeOf t at) (slotsOf t at) && (linesHold l (recordsOf t at) && cond (l .keeps) (agrees t at (recordsOf t at)) true)
+    bodyOk t (placeOf t at) (slotsOf t at) && (linesHold l (recordsOf t at) && (yearsHold l t at (recordsOf t at)
+    && cond (l .keeps) (agrees t at (recordsOf t at)) true))
 
 -- the bodies of the n entries from `at` on
 unfoldable pub bodiesOk : Layout → List ℕ → ℕ → ℕ → Bool

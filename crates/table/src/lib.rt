@@ -10,8 +10,9 @@ ghost use lib.ListN.{length};
 ghost use Rattle.bounds.specs.Bounds.{maxBodies, maxLength, maxSlots};
 ghost use Rattle.record.specs.Slot.{slotSize};
 ghost use Rattle.slots.specs.Slots.{recordsAt};
+ghost use Rattle.body.specs.Body.{bodyOk};
 ghost use Rattle.entries.specs.Entry.{entrySize, slotsOf, placeOf};
-ghost use Rattle.table.specs.Table.{table1, table2, headSize, bodies, headOk, entryOk, layoutOk, linesHold, bodyHolds, bodiesOk, validAs, tableOk, bodyOf, contentsOk};
+ghost use Rattle.table.specs.Table.{table1, table2, headSize, bodies, headOk, yearOk, entryOk, layoutOk, linesHold, yearsHold, bodyHolds, bodiesOk, validAs, tableOk, bodyOf, contentsOk};
 ghost use Rattle.table.specs.Inner.{Known, sumsAgree};
 
 pub const HEAD: usize = 16;
@@ -24,13 +25,14 @@ pub const REST: usize = 13;
 // An entry of a table 1.
 pub const OLD_ENTRY: usize = 32;
 
-// What tells tables apart: an entry's size, where its rest begins, whether it keeps totals before that, whether lines may be replaced, the head's number,
-// the greatest length.
+// What tells tables apart: an entry's size, where its rest begins, whether it keeps totals before that, whether lines may be replaced, whether it has a
+// closed year after the totals, the head's number, the greatest length.
 pub struct Layout {
     pub entry: usize,
     pub rest: usize,
     pub keeps: bool,
     pub replaces: bool,
+    pub closes: bool,
     pub number: u64,
     pub most: usize,
 }
@@ -43,6 +45,7 @@ pub fn table_1() -> Layout
         rest: entries::FIXED,
         keeps: false,
         replaces: false,
+        closes: false,
         number: 1,
         most: 65536,
     }
@@ -56,6 +59,7 @@ pub fn table_2() -> Layout
         rest: entries::REST,
         keeps: true,
         replaces: true,
+        closes: true,
         number: 2,
         most: bounds::MAX_LENGTH,
     }
@@ -102,6 +106,18 @@ fn head_ok(t: &[u8], l: Layout) -> bool
     HEAD + l.entry * n <= len
 }
 
+// Whether an entry's closed year may stand, where it has one.
+fn year_ok(t: &[u8], at: usize, l: Layout) -> bool
+    requires { ⌜ Known l × (at + l .entry ≤ length (now t)) ⌝ }
+    ensures { λ r. ⌜ r ≡ yearOk l (now (t .entry)) at ⌝ }
+{
+    if l.closes {
+        entries::closed_ok(entries::closed_of(t, at))
+    } else {
+        true
+    }
+}
+
 fn entry_ok(t: &[u8], at: usize, p: usize, l: Layout) -> bool
     requires { ⌜ Known l × (at + l .entry ≤ length (now t)) × (length (now t) ≤ maxLength) ⌝ }
     ensures { λ r. ⌜ r ≡ entryOk l (now (t .entry)) at p ⌝ }
@@ -110,6 +126,9 @@ fn entry_ok(t: &[u8], at: usize, p: usize, l: Layout) -> bool
         return false;
     }
     if entries::place_of(t, at) != p {
+        return false;
+    }
+    if !year_ok(t, at, l) {
         return false;
     }
     ranges::are_zero(t, at + l.rest, at + l.entry)
@@ -155,6 +174,22 @@ fn lines_hold(t: &[u8], base: usize, n: usize, l: Layout) -> bool
     body::none_replaced(t, base, n)
 }
 
+// Whether a valid body's records are of later years than the entry's closed one, where it has one. A body that never closed is not walked again: valid
+// records are of 2000 on.
+fn years_hold(t: &[u8], at: usize, base: usize, n: usize, l: Layout) -> bool
+    requires { ⌜ Known l × (at + l .entry ≤ length (now t)) × (base + slotSize * n ≤ length (now t)) × (bodyOk (now t) base n ≡ true) ⌝ }
+    ensures { λ r. ⌜ r ≡ yearsHold l (now (t .entry)) at (recordsAt (now (t .entry)) base n) ⌝ }
+{
+    if !l.closes {
+        return true;
+    }
+    let closed = entries::closed_of(t, at);
+    if closed == 0 {
+        return true;
+    }
+    body::all_later(t, base, n, closed)
+}
+
 // Whether the body of the entry at a place is valid, and what the entry keeps agrees with it.
 fn body_holds(t: &[u8], at: usize, l: Layout) -> bool
     requires { ⌜ Known l × (at + l .entry ≤ length (now t)) × (placeOf (now t) at + slotSize * slotsOf (now t) at ≤ length (now t))
@@ -167,6 +202,9 @@ fn body_holds(t: &[u8], at: usize, l: Layout) -> bool
         return false;
     };
     if !lines_hold(t, base, n, l) {
+        return false;
+    }
+    if !years_hold(t, at, base, n, l) {
         return false;
     }
     if l.keeps {

@@ -32,6 +32,7 @@ use Rattle.rules.specs.declared.Ruling.the-variants.{Accepted, Refused}
 use Rattle.rules.specs.declared.Noticed.{Noticed}
 use Rattle.rules.specs.declared.Noticed.the-variants.{Moved, Unmoved}
 use Rattle.rules.specs.Rules.{changeOf, wasExecuted, situationOf, stepCode, sameOrder, placed, unless, stepped, judgeChange, keyFor, judgeOrder, orderCode, lineMoves, noticeIn, noticeAt, judgeNotice, noticeCode}
+use Rattle.entries.specs.Entry.{closedOf}
 use Rattle.service.specs.Service.{noticeComes}
 use Rattle.address.specs.declared.Addressed.{Addressed}
 use Rattle.address.specs.declared.Addressed.the-variants.{Invalid, Unknown, Body}
@@ -45,11 +46,14 @@ use Rattle.opening.specs.declared.Opened.{Opened}
 use Rattle.opening.specs.declared.Opened.the-variants.{Open, WrongRequest, WrongLength}
 use Rattle.opening.specs.Opening.{openCode}
 use Rattle.desk.specs.declared.FlowAnswer.{FlowAnswer}
-use Rattle.desk.specs.declared.FlowAnswer.the-variants.{InvalidTable, UnknownEdition, TooLong, BrokenMarkup, BrokenStructure, BrokenField, OtherBank, UnknownBody, NoRoom, Taken}
+use Rattle.desk.specs.declared.FlowAnswer.the-variants.{InvalidTable, UnknownEdition, TooLong, BrokenMarkup, BrokenStructure, BrokenField, OtherBank, UnknownBody, ClosedYear, NoRoom, Taken}
 use Rattle.desk.specs.Desk.{flowReply, flowCode}
 use Rattle.journal.specs.Journal.{checked, journalBy, journalOf}
 use Rattle.journal.proofs.Laws.{checked-one}
-use Rattle.theorems.specs.Engine.{Call, flow, execute, reverse, totals, journal, Answer, answerCode, Step}
+use Rattle.year_end.specs.declared.CloseAnswer.{CloseAnswer}
+use Rattle.year_end.specs.YearEnd.{closeBy, closeCode}
+use Rattle.year_end.proofs.Laws.{close-one}
+use Rattle.theorems.specs.Engine.{Call, flow, execute, reverse, totals, journal, close, Answer, answerCode, Step}
 use Rattle.theorems.specs.Codes.{oneOf, openCodes, noticeCodes, callCodes, causesWith, orderRefusals, orderCodes}
 
 -- 0, or one of these
@@ -271,6 +275,7 @@ flow-codes ed f out BrokenStructure = refl
 flow-codes ed f out (BrokenField p c) = refl
 flow-codes ed f out OtherBank = refl
 flow-codes ed f out UnknownBody = refl
+flow-codes ed f out ClosedYear = refl
 flow-codes ed f out NoRoom = refl
 flow-codes ed f out (Taken n m k) = refl
 
@@ -286,6 +291,7 @@ flow-causes (BrokenField p Misformed) = refl
 flow-causes (BrokenField p OutOfRange) = refl
 flow-causes OtherBank = refl
 flow-causes UnknownBody = refl
+flow-causes ClosedYear = refl
 flow-causes NoRoom = refl
 flow-causes (Taken n m k) = refl
 
@@ -299,6 +305,13 @@ journal-codes : (t code s : List ℕ) (b : Addressed) → oneOf (callCodes (jour
 journal-codes t code s Invalid = refl
 journal-codes t code s Unknown = refl
 journal-codes t code s (Body e base n) = checked-one (λ c. oneOf (callCodes (journal code s)) c ≡ true) refl refl refl refl refl refl (recordsAt t base n) s
+
+close-codes : (t code : List ℕ) (year : ℕ) (b : Addressed) → oneOf (callCodes (close code year)) (closeCode (closeBy t year b)) ≡ true
+unfolding closeBy
+close-codes t code year Invalid = refl
+close-codes t code year Unknown = refl
+close-codes t code year (Body e base n) =
+    close-one (λ a. oneOf (callCodes (close code year)) (closeCode a) ≡ true) (closedOf t e) year (recordsAt t base n) refl refl refl refl refl
 
 pub call-codes : (c : Call) (t : List ℕ) (a : Answer) (t′ : List ℕ) → Step c t a t′ → oneOf (callCodes c) (answerCode a) ≡ true
 unfolding totalsOf journalOf
@@ -319,3 +332,7 @@ call-codes (journal code m) t a t′ s =
     ap (λ (x : Answer). oneOf (callCodes (journal code m)) (answerCode x)) (s .2)
     ∙ ap (oneOf (callCodes (journal code m))) (s .1)
     ∙ journal-codes t code m (addressed t code)
+call-codes (close code year) t a t′ s =
+    ap (λ (x : Answer). oneOf (callCodes (close code year)) (answerCode x)) (s .2)
+    ∙ ap (λ (x : CloseAnswer). oneOf (callCodes (close code year)) (closeCode x)) (s .1 .0)
+    ∙ close-codes t code year (addressed t code)

@@ -28,6 +28,11 @@ use Rattle.convert.specs.Convert.{convertCode, convertTable}
 use Rattle.salvage.specs.declared.Salvaged.{Salvaged}
 use Rattle.salvage.specs.declared.Salvaged.the-variants as Salvaged
 use Rattle.salvage.specs.Salvage.{salvageReply, salvageTable, salvageReport}
+use Rattle.entries.specs.Entry.{closedOf}
+use Rattle.slots.specs.Slots.{recordsAt}
+use Rattle.year_end.specs.declared.CloseAnswer.{CloseAnswer}
+use Rattle.year_end.specs.declared.CloseAnswer.the-variants as CloseAnswer
+use Rattle.year_end.specs.YearEnd.{closeOf, closeStored, closeBy, closeTableBy, closeReply, closeCode}
 use Rattle.desk.proofs.Refusals.{code-keeps}
 use Rattle.digits.specs.Digits.{isRefusal}
 use Rattle.theorems.specs.Codes.{oneOf, convertCodes, salvageCodes, orderRefusals}
@@ -83,6 +88,31 @@ salvage-codes (Salvaged.Repaired k) = refl
 salvage-codes Salvaged.InvalidContents = refl
 salvage-codes Salvaged.ShortReport = refl
 
+-- A CLOSE that is refused
+stored-keeps : (t : List ℕ) (e base n year : ℕ) (a : CloseAnswer) → (closeCode a ≡ 0 → ⊥) → closeStored t e base n year a ≡ t
+stored-keeps t e base n year (CloseAnswer.Closed k) f = absurd (f refl)
+stored-keeps t e base n year CloseAnswer.InvalidTable f = refl
+stored-keeps t e base n year CloseAnswer.UnknownBody f = refl
+stored-keeps t e base n year CloseAnswer.NotAYear f = refl
+stored-keeps t e base n year CloseAnswer.AlreadyClosed f = refl
+stored-keeps t e base n year CloseAnswer.EarlierRemains f = refl
+stored-keeps t e base n year CloseAnswer.LineWaits f = refl
+
+none-removed : (a : CloseAnswer) → (closeCode a ≡ 0 → ⊥) → closeReply a .removed ≡ 0
+none-removed (CloseAnswer.Closed k) f = absurd (f refl)
+none-removed CloseAnswer.InvalidTable f = refl
+none-removed CloseAnswer.UnknownBody f = refl
+none-removed CloseAnswer.NotAYear f = refl
+none-removed CloseAnswer.AlreadyClosed f = refl
+none-removed CloseAnswer.EarlierRemains f = refl
+none-removed CloseAnswer.LineWaits f = refl
+
+close-keeps : (t : List ℕ) (year : ℕ) (a : Addressed) → (closeCode (closeBy t year a) ≡ 0 → ⊥) → closeTableBy t year a ≡ t
+unfolding closeBy closeTableBy
+close-keeps t year Invalid f = refl
+close-keeps t year Unknown f = refl
+close-keeps t year (Body e base n) f = stored-keeps t e base n year (closeOf (closedOf t e) year (recordsAt t base n)) f
+
 -- A MESSAGE'S CODES are those of a refused order: computed below 27, and from there on none is
 abbrev Same : ℕ → Type 0
 Same c = isRefusal c ≡ oneOf orderRefusals c
@@ -129,5 +159,6 @@ condition1 = record {
       p .1 ∙ dated-keeps t executing k line (addressed t code) (targetCode d) (λ e. f (ap noticeCodeOf (p .0) ∙ e));
   refused-opening = λ q t a t′ p f. p .1 ∙ opening-keeps q t a f;
   refused-conversion = λ o t a t′ p f. p .1 ∙ convert-keeps o t a f;
+  refused-close = λ t code year a t′ p f. (p .1 ∙ close-keeps t year (addressed t code) (λ e. f (ap closeCode (p .0) ∙ e)), none-removed a f);
   refused-salvage = λ t r a t′ r′ p f. let w = salvage-keeps t r a f in (p .1 ∙ w .0, p .2 ∙ w .1);
 }

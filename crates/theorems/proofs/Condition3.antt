@@ -29,7 +29,7 @@ use Rattle.isolation.specs.Machine.{Laws}
 use Rattle.isolation.proofs.OrderLaws.{mine-by-body, strays-by-body}
 use Rattle.isolation.proofs.Runs.{good-run}
 use Rattle.isolation.proofs.Isolated.{isolated}
-use Rattle.theorems.specs.Engine.{Call, flow, execute, reverse, totals, journal, Answer, Engine, answerCode, namesIn, names, whichBody, position, who, machine, tableAfter, namesBy}
+use Rattle.theorems.specs.Engine.{Call, flow, execute, reverse, totals, journal, close, Answer, Engine, answerCode, namesIn, names, whichBody, position, who, machine, tableAfter, namesBy}
 use Rattle.theorems.specs.Condition3.{FromValid, FromOpening}
 use Rattle.theorems.specs.Codes.{oneOf, strayCodes, bodyCodes}
 use Rattle.theorems.proofs.Steps.{answer, after, one-step}
@@ -43,6 +43,7 @@ no-one (execute code k line d) = (refl, refl)
 no-one (reverse code k line d) = (refl, refl)
 no-one (totals code) = (refl, refl)
 no-one (journal code s) = (refl, refl)
+no-one (close code year) = (refl, refl)
 
 module _ (E : Engine) (t₀ : List ℕ) (r : tableOk t₀ ≡ true) where
   by : (c : Call) (w : Option ℕ) → who t₀ c ≡ w → Serves t₀ (strayCodes c) (bodyCodes c) (E .answer c) (E .next c) w
@@ -115,6 +116,7 @@ module _ (E : Engine) (t₀ : List ℕ) (r : tableOk t₀ ≡ true) where
     named (reverse code k line d) = refl
     named (totals code) = refl
     named (journal code s) = refl
+    named (close code year) = refl
 
     placed : (x : Option (List ℕ)) → position now x ≡ position t₀ x
     placed none = refl

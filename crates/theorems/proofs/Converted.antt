@@ -97,6 +97,7 @@ matching o t u S U = record {
   codes = S .codes ∙ sym (U .codes);
   slots = λ b h. let l : b < bodies o = omega (arith, S .number) in S .slots b l ∙ sym (U .slots b l);
   records = λ b h. let l : b < bodies o = omega (arith, S .number) in S .records b l ∙ sym (U .records b l);
+  closed = λ b h. let l : b < bodies o = omega (arith, S .number) in S .closed b l ∙ sym (U .closed b l);
 }
 
 pub conversion : FromTable1

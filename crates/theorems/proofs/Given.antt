@@ -10,7 +10,7 @@ use Rattle.scan.specs.Bytes.{textIs}
 use Rattle.ranges.specs.Ranges.{isNothing}
 use Rattle.ranges.specs.declared.Found.{Found}
 use Rattle.ranges.specs.declared.Found.the-variants.{At, Nothing}
-use Rattle.entries.specs.Entry.{slotsOf, placeOf}
+use Rattle.entries.specs.Entry.{slotsOf, placeOf, closedOf}
 use Rattle.table.specs.Table.{tableOk, abiOf, bodyOf, entryOf}
 use Rattle.order.specs.Ordinativo.{Ordinativo}
 use Rattle.editions.specs.declared.Edition.{Edition}
@@ -23,9 +23,9 @@ use Rattle.flow.specs.declared.Verdict.the-variants.{MarkupBreaks, StructureBre
 use Rattle.flow.specs.Flow.{verdictOf, headerOf, flowOrders}
 use Rattle.address.specs.Address.{bodyAt}
 use Rattle.desk.specs.declared.FlowAnswer.{FlowAnswer}
-use Rattle.desk.specs.declared.FlowAnswer.the-variants.{InvalidTable, UnknownEdition, TooLong, OtherBank, NoRoom}
+use Rattle.desk.specs.declared.FlowAnswer.the-variants.{InvalidTable, UnknownEdition, TooLong, OtherBank, ClosedYear, NoRoom}
 use Rattle.desk.specs.Desk.{Reading, refused, served, forBody, forFlow, byEdition, maxFlow, flowReads, flowAnswer, FlowPromise, flowReply, flowCode}
-use Rattle.theorems.specs.Given.{breaksAt, breaksBy, verdictAs, flowRefusals, firstOf}
+use Rattle.theorems.specs.Given.{breaksAt, breaksBy, verdictAs, closedBy, flowRefusals, firstOf}
 
 -- a reading that refuses has a code other than 0
 abbrev pub Coding : Reading → Type 0
@@ -44,14 +44,19 @@ module _ (t f : List ℕ) (room : ℕ) where
   by-room base n year os true = record { code = refl; place = refl; cause = refl; coding = tt }
   by-room base n year os false = record { code = refl; place = refl; cause = refl; coding = λ e. omega arith }
 
+  by-year : (base n year : ℕ) (os : List Ordinativo) (c u : Bool)
+      → Given (firstOf ((36, c) ∷ (8, not u) ∷ [])) 0 0 (cond c (refused ClosedYear) (cond u (served base n year os) (refused NoRoom)))
+  by-year base n year os true u = record { code = refl; place = refl; cause = refl; coding = λ e. omega arith }
+  by-year base n year os false u = by-room base n year os u
+
   by-body : (year : ℕ) (os : List Ordinativo) (x : Found)
-      → Given (firstOf ((7, isNothing x) ∷ (8, not (leb (16 * length os) room)) ∷ [])) 0 0 (forBody room year os (bodyAt t x))
+      → Given (firstOf ((7, isNothing x) ∷ (36, leb year (closedBy t x)) ∷ (8, not (leb (16 * length os) room)) ∷ [])) 0 0 (forBody t room year os (bodyAt t x))
   by-body year os Nothing = record { code = refl; place = refl; cause = refl; coding = λ e. omega arith }
-  by-body year os (At b) = by-room (placeOf t (entryOf b)) (slotsOf t (entryOf b)) year os (leb (16 * length os) room)
+  by-body year os (At b) = by-year (placeOf t (entryOf b)) (slotsOf t (entryOf b)) year os (leb year (closedOf t (entryOf b))) (leb (16 * length os) room)
 
   by-bank : (h : Header) (os : List Ordinativo) (u : Bool)
-      → Given (firstOf ((6, not u) ∷ (7, isNothing (bodyOf t (h .ente))) ∷ (8, not (leb (16 * length os) room)) ∷ [])) 0 0
-      (cond u (forBody room (h .esercizio) os (bodyAt t (bodyOf t (h .ente)))) (refused OtherBank))
+      → Given (firstOf ((6, not u) ∷ (7, isNothing (bodyOf t (h .ente))) ∷ (36, leb (h .esercizio) (closedBy t (bodyOf t (h .ente)))) ∷ (8, not (leb (16 * length os) room)) ∷ [])) 0 0
+      (cond u (forBody t room (h .esercizio) os (bodyAt t (bodyOf t (h .ente)))) (refused OtherBank))
   by-bank h os true = by-body (h .esercizio) os (bodyOf t (h .ente))
   by-bank h os false = record { code = refl; place = refl; cause = refl; coding = λ e. omega arith }
 

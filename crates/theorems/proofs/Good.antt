@@ -11,17 +11,17 @@ use lib.Seq.{ext-getD, getD-take, getD-drop, take-at, drop-at}
 use lib.Dec.{eqb, ltb}
 use borrow.Author.Tests.{eqb-true, eqb-false, ltb-true, ltb-false}
 use Rattle.scan.specs.Bytes.{part}
-use Rattle.words.proofs.Laws.{Agree}
+use Rattle.words.proofs.Laws.{Agree, on}
 use Rattle.record.specs.Slot.{slotSize}
 use Rattle.slots.specs.Slots.{recordsAt}
-use Rattle.body.specs.Body.{bodyOk, centsOf}
+use Rattle.body.specs.Body.{bodyOk, centsOf, allLater}
 use Rattle.body.proofs.Same.{fewer, records-agree, body-agree}
-use Rattle.entries.specs.Entry.{entrySize, entryFixed, entryRest, slotsOf, placeOf}
-use Rattle.entries.proofs.Same.{part-agree, zeros-agree}
+use Rattle.entries.specs.Entry.{entrySize, entryFixed, closedPlace, slotsOf, placeOf, closedOf}
+use Rattle.entries.proofs.Same.{part-agree, closed-agree}
 use Rattle.table.specs.Table.{table2, headSize, bodies, abiOf, entryOk, layoutOk, agrees, tableOk, bodyOf, entryOf}
 use Rattle.table.proofs.Laws.{entry, lay-split, head, table}
 use Rattle.table.proofs.Bodies.{body-at, apart}
-use Rattle.table.proofs.Kept.{Contents, Own, first, later, same-bodies, same-abi, same-find, same-slots, same-place, same-table}
+use Rattle.table.proofs.Kept.{Contents, Own, rest-agree, first, later, same-bodies, same-abi, same-find, same-slots, same-place, same-table}
 use Rattle.contents.proofs.Laws.{length-part}
 use Rattle.valid.proofs.Moved.{split}
 use Rattle.service.specs.Inner.{Served}
@@ -83,6 +83,13 @@ parted {xs} {ys} {xs′} {ys′} n l l′ e =
 part-of : {s t : List ℕ} {p n : ℕ} → Agree s p t p n → p + n ≤ length s → p + n ≤ length t → part s p (p + n) ≡ part t p (p + n)
 part-of {s} {t} {p} {n} a ls lt = part-agree a 0 n (omega arith) p (p + n) p (p + n) (omega arith) refl (omega arith) refl ls lt
 
+-- an entry's bytes past what is kept: its closed year and the rest
+past-kept : {s t : List ℕ} (b : ℕ) → Agree s (tailOf b) t (tailOf b) tailSize → Agree s (entryOf b + closedPlace) t (entryOf b + closedPlace) (entrySize - closedPlace)
+past-kept b a = let q : entryOf b + closedPlace ≡ tailOf b + 16 = omega arith in rw q (on a 16 8 (omega arith))
+
+pub closed-alike : {t₀ s t : List ℕ} (b : ℕ) → Alike t₀ b s t → closedOf s (entryOf b) ≡ closedOf t (entryOf b)
+closed-alike b a = closed-agree (entryOf b) (entryOf b) (fewer (past-kept b (a .tail)) 2 (omega arith))
+
 -- what a body owns makes it valid in s where it does in t, which agrees with s there
 own-kept : (t₀ : List ℕ) {s t : List ℕ} (b : ℕ) → Alike t₀ b s t → tailOf b + tailSize ≤ length s → tailOf b + tailSize ≤ length t → Own t t₀ (entryOf b) → Own s t₀ (entryOf b)
 own-kept t₀ {s} {t} b a ls lt o =
@@ -92,8 +99,8 @@ own-kept t₀ {s} {t} b a ls lt o =
     record {
       body = body-agree (size t₀ b) (a .slots) ∙ o .body;
       kept = is-agrees s (entryOf b) (recordsAt s (base t₀ b) (size t₀ b)) (k .0 ∙ w .0 ∙ ap (centsOf 1) (sym r)) (k .1 ∙ w .1 ∙ ap (centsOf 2) (sym r));
-      rest = zeros-agree (a .tail) 16 tailSize (omega arith) (entryOf b + entryRest) (entryOf b + entrySize) (entryOf b + entryRest) (entryOf b + entrySize)
-          (omega arith) (omega arith) (omega arith) (omega arith) (omega arith) (omega arith) ∙ o .rest;
+      later = (λ i. allLater (closed-alike b a i) (r i)) ∙ o .later;
+      rest = rest-agree (entryOf b) (past-kept b (a .tail)) (omega arith) (omega arith) (o .rest);
     }
 
 -- what agrees in each entry agrees in all of them
@@ -179,13 +186,14 @@ module _ (t₀ : List ℕ) (r : tableOk t₀ ≡ true) where
       pub slots-is : slotsOf t (entryOf b) ≡ size t₀ b
       slots-is = same-slots (g .contents) r b h
 
-      own-is : Own t t₀ (entryOf b)
+      pub own-is : Own t t₀ (entryOf b)
       own-is =
           let w = body-at t (g .ok) b (omega (arith, count-is)) in
           record {
             body = sym (λ i. bodyOk t (place-is i) (slots-is i)) ∙ w .holds .body;
             kept = sym (λ i. agrees t (entryOf b) (recordsAt t (place-is i) (slots-is i))) ∙ w .holds .kept refl;
-            rest = w .own-entry .padded;
+            later = sym (λ i. allLater (closedOf t (entryOf b)) (recordsAt t (place-is i) (slots-is i))) ∙ w .holds .later;
+            rest = record { year = w .own-entry .closed; zero = w .own-entry .padded };
           }
 
       pub ready : Ready t (base t₀ b) (size t₀ b)
@@ -193,7 +201,11 @@ module _ (t₀ : List ℕ) (r : tableOk t₀ ≡ true) where
           let l = g .contents .long in
           (omega (arith, inside b h), own-is .body)
 
-      tail-in : tailOf b + tailSize ≤ length t
+      -- its records are of years later than the one it closed last
+      pub open-is : allLater (closedOf t (entryOf b)) (recordsAt t (base t₀ b) (size t₀ b)) ≡ true
+      open-is = own-is .later
+
+      pub tail-in : tailOf b + tailSize ≤ length t
       tail-in = omega (arith, g .contents .long, entries-in)
 
       pub served : Served t (entryOf b) (base t₀ b) (size t₀ b)
@@ -234,12 +246,13 @@ module _ (t₀ : List ℕ) (r : tableOk t₀ ≡ true) where
       }
 
   module _ (t t′ : List ℕ) (g : Good t₀ t) (b : ℕ) (h : b < bodies t₀) where
-    -- what writes body b's slots and settles its entry
-    pub settled-wrote : Settled t t′ (entryOf b) (base t₀ b) (size t₀ b) → Wrote t₀ t t′ b
-    settled-wrote k =
+    -- what writes body b's slots, where its records stay of open years, and settles its entry
+    pub settled-wrote : Settled t t′ (entryOf b) (base t₀ b) (size t₀ b) → allLater (closedOf t (entryOf b)) (recordsAt t′ (base t₀ b) (size t₀ b)) ≡ true → Wrote t₀ t t′ b
+    settled-wrote k o =
         let i = inside b h .0 in
         let m = tail-in t g b h in
-        let rest = k .between (entryOf b + entryRest) (entrySize - entryRest) (omega arith) (omega arith) in
+        let rest = k .between (entryOf b + closedPlace) (entrySize - closedPlace) (omega arith) (omega arith) in
+        let c = closed-agree (entryOf b) (entryOf b) (fewer rest 2 (omega arith)) in
         record {
           long = k .long;
           before = k .before;
@@ -248,14 +261,14 @@ module _ (t₀ : List ℕ) (r : tableOk t₀ ≡ true) where
           own = record {
             body = k .ok;
             kept = k .agreed;
-            rest = zeros-agree rest 0 (entrySize - entryRest) (omega arith) (entryOf b + entryRest) (entryOf b + entrySize) (entryOf b + entryRest) (entryOf b + entrySize)
-                (omega arith) (omega arith) (omega arith) (omega arith) (omega (arith, k .long)) (omega arith) ∙ own-is t g b h .rest;
+            later = ap (λ (y : ℕ). allLater y (recordsAt t′ (base t₀ b) (size t₀ b))) c ∙ o;
+            rest = rest-agree (entryOf b) rest (omega (arith, k .long)) (omega arith) (own-is t g b h .rest);
           };
         }
 
     -- what writes its slots alone
-    pub kept-wrote : Kept t t′ (base t₀ b) (size t₀ b) → Wrote t₀ t t′ b
-    kept-wrote k = let s = served t g b h in settled-wrote (kept-settled (s .entry) (s .agreed) k)
+    pub kept-wrote : Kept t t′ (base t₀ b) (size t₀ b) → allLater (closedOf t (entryOf b)) (recordsAt t′ (base t₀ b) (size t₀ b)) ≡ true → Wrote t₀ t t′ b
+    kept-wrote k o = let s = served t g b h in settled-wrote (kept-settled (s .entry) (s .agreed) k) o
 
     pub wrote-left : Wrote t₀ t t′ b → Left t₀ t t′ b
     wrote-left k =
@@ -298,6 +311,7 @@ module _ (t₀ : List ℕ) (r : tableOk t₀ ≡ true) where
                 record {
                   body = (λ j. bodyOk t′ (place-is t g c m j) (slots-is t g c m j)) ∙ k .body;
                   kept = (λ j. agrees t′ (entryOf c) (recordsAt t′ (place-is t g c m j) (slots-is t g c m j))) ∙ k .kept;
+                  later = (λ j. allLater (closedOf t′ (entryOf c)) (recordsAt t′ (place-is t g c m j) (slots-is t g c m j))) ∙ k .later;
                   rest = k .rest;
                 });
             contents = record {

@@ -6,9 +6,11 @@ pub mod Condition2
 pub mod Good
 pub mod Named
 pub mod Steps
+pub mod Closed
 pub mod Calls
 pub mod Condition3
 pub mod Weighing
+pub mod Staying
 pub mod Split
 pub mod History
 pub mod NoSecond

@@ -10,6 +10,7 @@ use lib.Dec.{leb}
 use Rattle.scan.specs.Bytes.{textIs}
 use Rattle.ranges.specs.declared.Found.{Found}
 use Rattle.ranges.specs.declared.Found.the-variants.{At, Nothing}
+use Rattle.entries.specs.Entry.{closedOf}
 use Rattle.table.specs.Table.{bodies, abiOf, tableOk, bodyOf, entryOf}
 use Rattle.table.proofs.Bodies.{found-body}
 use Rattle.order.specs.Ordinativo.{Ordinativo}
@@ -27,7 +28,7 @@ use Rattle.rules.proofs.Kept.{Writable, Writables, none, more}
 use Rattle.address.specs.declared.Addressed.the-variants.{Unknown, Body}
 use Rattle.address.specs.Address.{bodyAt, bodyNamed, addressed}
 use Rattle.desk.specs.declared.FlowAnswer.{FlowAnswer}
-use Rattle.desk.specs.declared.FlowAnswer.the-variants.{UnknownEdition, TooLong, BrokenMarkup, BrokenStructure, BrokenField, OtherBank, UnknownBody, NoRoom}
+use Rattle.desk.specs.declared.FlowAnswer.the-variants.{UnknownEdition, TooLong, BrokenMarkup, BrokenStructure, BrokenField, OtherBank, UnknownBody, ClosedYear, NoRoom}
 use Rattle.desk.specs.Desk.{Reading, refused, served, forBody, forFlow, maxFlow, flowReads, flowCode}
 use Rattle.theorems.specs.Engine.{flow, namesIn, namesBy, whichBody, position, who}
 use Rattle.theorems.specs.Codes.{oneOf, strayCodes}
@@ -42,13 +43,16 @@ pub data Names (t₀ code : List ℕ) : Option ℕ → Type 0 where
 abbrev pub Always : List ℕ → ℕ → List ℕ → List ℕ → Reading → Type 0
 Always t₀ ed f out x = (t : List ℕ) → Good t₀ t → flowReads t ed f (length out) ≡ x
 
+-- what it reads for a body: whether there is room, and whether the year is closed
+abbrev pub forYear : ℕ → ℕ → ℕ → List Ordinativo → Bool → Bool → Reading
+forYear base n year os room closed = cond closed (refused ClosedYear) (cond room (served base n year os) (refused NoRoom))
+
 pub data Reads (t₀ : List ℕ) (ed : ℕ) (f out : List ℕ) : Option ℕ → Type 0 where
   -- refused before a body is found
   refuses : (a : FlowAnswer) → oneOf (strayCodes (flow ed f out)) (flowCode a) ≡ true → Always t₀ ed f out (refused a) → Reads t₀ ed f out none
-  -- body b's, with no room for its outcomes
-  shuts : (b : ℕ) → b < bodies t₀ → Always t₀ ed f out (refused NoRoom) → Reads t₀ ed f out (some b)
-  -- body b's, served
-  serves : (b : ℕ) → b < bodies t₀ → (year : ℕ) (os : List Ordinativo) → Writables os → (2000 ≤ year) × (year ≤ 2099) → Always t₀ ed f out (served (base t₀ b) (size t₀ b) year os)
+  -- body b's: refused where it has closed the year, or where there is no room for the outcomes; else served
+  serves : (b : ℕ) → b < bodies t₀ → (year : ℕ) (os : List Ordinativo) → Writables os → (2000 ≤ year) × (year ≤ 2099) → (room : Bool)
+      → ((t : List ℕ) → Good t₀ t → flowReads t ed f (length out) ≡ forYear (base t₀ b) (size t₀ b) year os room (leb year (closedOf t (entryOf b))))
       → Reads t₀ ed f out (some b)
 
 -- THE ORDERS OF A FLOW THAT STANDS
@@ -107,35 +111,24 @@ module _ (t₀ : List ℕ) (r : tableOk t₀ ≡ true) where
           os = flowOrders y f at
 
           bank-reads : (u : Bool) → textIs (abiOf t₀) (h .abi) ≡ u → (t : List ℕ) → Good t₀ t
-              → flowReads t ed f (length out) ≡ cond u (forBody (length out) (h .esercizio) os (bodyNamed t (h .ente))) (refused OtherBank)
+              → flowReads t ed f (length out) ≡ cond u (forBody t (length out) (h .esercizio) os (bodyNamed t (h .ente))) (refused OtherBank)
           bank-reads u e t g =
               verdict-reads (Stands at) stands t g
-              ∙ ap (λ (y : Bool). cond y (forBody (length out) (h .esercizio) os (bodyNamed t (h .ente))) (refused OtherBank))
+              ∙ ap (λ (y : Bool). cond y (forBody t (length out) (h .esercizio) os (bodyNamed t (h .ente))) (refused OtherBank))
               (ap (λ (a : List ℕ). textIs a (h .abi)) (abi-is t₀ r t g) ∙ e)
 
           module _ (bank : textIs (abiOf t₀) (h .abi) ≡ true) where
-            by-room : (b : ℕ) → bodyOf t₀ (h .ente) ≡ At b → (u : Bool) → leb (16 * length os) (length out) ≡ u → Reads t₀ ed f out (some b)
-            by-room b e u k = go u k
-              where
-                l : b < bodies t₀
-                l = low (h .ente) b e
-
-                reads : (u : Bool) → leb (16 * length os) (length out) ≡ u → Always t₀ ed f out (cond u (served (base t₀ b) (size t₀ b) (h .esercizio) os) (refused NoRoom))
-                reads u k t g =
-                    bank-reads true bank t g
-                    ∙ ap (forBody (length out) (h .esercizio) os) (body-some t g (h .ente) b e l)
-                    ∙ ap (λ (y : Bool). cond y (served (base t₀ b) (size t₀ b) (h .esercizio) os) (refused NoRoom)) k
-
-                go : (u : Bool) → leb (16 * length os) (length out) ≡ u → Reads t₀ ed f out (some b)
-                go false k = shuts b l (reads false k)
-                go true k =
-                    let d = flow-stood y f at stands in
-                    serves b l (h .esercizio) os (writables os (orders-ok y f at d)) (header-ok y f at d .0 .esercizio) (reads true k)
+            its-body : (b : ℕ) → bodyOf t₀ (h .ente) ≡ At b → Reads t₀ ed f out (some b)
+            its-body b e =
+                let l = low (h .ente) b e in
+                let d = flow-stood y f at stands in
+                serves b l (h .esercizio) os (writables os (orders-ok y f at d)) (header-ok y f at d .0 .esercizio) (leb (16 * length os) (length out))
+                (λ t g. bank-reads true bank t g ∙ ap (forBody t (length out) (h .esercizio) os) (body-some t g (h .ente) b e l))
 
             by-body : (x : Found) → bodyOf t₀ (h .ente) ≡ x → Reads t₀ ed f out (whichBody x)
             by-body Nothing e =
-                refuses UnknownBody refl (λ t g. bank-reads true bank t g ∙ ap (forBody (length out) (h .esercizio) os) (body-none t g (h .ente) e))
-            by-body (At b) e = by-room b e (leb (16 * length os) (length out)) refl
+                refuses UnknownBody refl (λ t g. bank-reads true bank t g ∙ ap (forBody t (length out) (h .esercizio) os) (body-none t g (h .ente) e))
+            by-body (At b) e = its-body b e
 
           by-bank : (u : Bool) → textIs (abiOf t₀) (h .abi) ≡ u → Reads t₀ ed f out (position t₀ (cond u (some (h .ente)) none))
           by-bank false e = refuses OtherBank refl (bank-reads false e)

@@ -10,6 +10,8 @@ use Rattle.salvage.specs.declared.Salvaged.{Salvaged}
 use Rattle.salvage.specs.Salvage.{salvageTable, salvageReport, salvageReply, SalvagePromise}
 use Rattle.notices.specs.declared.NoticeAnswer.{NoticeAnswer}
 use Rattle.notices.specs.Notices.{noticeReply, noticeCodeOf}
+use Rattle.year_end.specs.declared.CloseAnswer.{CloseAnswer}
+use Rattle.year_end.specs.YearEnd.{closeReply, closeCode}
 use Rattle.desk.specs.declared.FlowReply.{FlowReply}
 use Rattle.desk.specs.Desk.{flowReply}
 use Rattle.theorems.specs.NoSecond.{NoSecond}
@@ -43,6 +45,7 @@ no-second = record {
   notice = λ t executing code k line d a b u v m n. (one (m .0) (n .0), one (m .1) (n .1));
   totals = λ t code a b m n. one m n;
   journal = λ t code s a b m n. one m n;
+  close = λ t code year a b u v m n. (one (m .0) (n .0), one (m .1) (n .1));
   salvage = one-salvage;
   field = λ s place a b m n. one m n;
   name = λ s place a b m n. one m n;
@@ -66,4 +69,7 @@ no-second = record {
   salvage-replies = λ t r m n k l u v x y p q.
       let e = one-salvage t r (p .0) (q .0) u v x y (p .1) (q .1) in
       (same (λ (a : Salvaged). salvageReply a .code) (e .0) (p .2) (q .2), same (λ (a : Salvaged). salvageReply a .blanked) (e .0) (p .3) (q .3), e .1, e .2);
+  close-replies = λ t code year m n k l u v x y.
+      let e = one (x .1 .0) (y .1 .0) in
+      (same closeCode e (x .2) (y .2), same (λ (a : CloseAnswer). closeReply a .removed) e (x .3) (y .3), one (x .1 .1) (y .1 .1));
 }

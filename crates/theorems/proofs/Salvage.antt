@@ -97,4 +97,5 @@ salvaged E t r k t₀ r₀ p = record {
       codes = U .codes ∙ sym (R .codes);
       slots = λ b h. let l : b < bodies t = omega (arith, U .number) in U .slots b l ∙ sym (R .slots b l);
       records = λ b h. let l : b < bodies t = omega (arith, U .number) in U .records b l ∙ sym (R .records b l);
+      closed = λ b h. let l : b < bodies t = omega (arith, U .number) in U .closed b l ∙ sym (R .closed b l);
     }

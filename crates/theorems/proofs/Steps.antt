@@ -6,8 +6,9 @@ use Prim.Native.Nat.{ℕ}
 use lib.ListN.{length}
 use Rattle.notices.specs.Notices.{noticeAnswer, noticeTable, totalsOf}
 use Rattle.journal.specs.Journal.{journalOf}
+use Rattle.year_end.specs.YearEnd.{closeAnswer, closeTable}
 use Rattle.desk.specs.Desk.{flowReads, flowAnswer, flowTable, flowOutcomes}
-use Rattle.theorems.specs.Engine.{Call, flow, execute, reverse, totals, journal, Answer, ofFlow, ofNotice, ofTotals, ofJournal, Step, Engine, Happens, nothing, step, machine}
+use Rattle.theorems.specs.Engine.{Call, flow, execute, reverse, totals, journal, close, Answer, ofFlow, ofNotice, ofTotals, ofJournal, ofClose, Step, Engine, Happens, nothing, step, machine}
 use Rattle.theorems.specs.Condition3.{AnyRun}
 use Rattle.isolation.specs.Machine.{stateAfter, log}
 
@@ -17,6 +18,7 @@ answer (execute code k line d) t = ofNotice (noticeAnswer t true code k line d)
 answer (reverse code k line d) t = ofNotice (noticeAnswer t false code k line d)
 answer (totals code) t = ofTotals (totalsOf t code)
 answer (journal code s) t = ofJournal (journalOf t code s)
+answer (close code year) t = ofClose (closeAnswer t code year)
 
 abbrev pub after : Call → List ℕ → List ℕ
 after (flow ed f out) t = flowTable t (flowReads t ed f (length out))
@@ -24,6 +26,7 @@ after (execute code k line d) t = noticeTable t true code k line d
 after (reverse code k line d) t = noticeTable t false code k line d
 after (totals code) t = t
 after (journal code s) t = t
+after (close code year) t = closeTable t code year
 
 pub steps : (c : Call) (t : List ℕ) → Step c t (answer c t) (after c t)
 steps (flow ed f out) t = (flowAnswer t (flowReads t ed f (length out)), flowOutcomes t out (flowReads t ed f (length out)), (refl, refl, refl), refl)
@@ -31,6 +34,7 @@ steps (execute code k line d) t = (noticeAnswer t true code k line d, (refl, ref
 steps (reverse code k line d) t = (noticeAnswer t false code k line d, (refl, refl), refl)
 steps (totals code) t = (totalsOf t code, refl, refl, refl)
 steps (journal code s) t = (journalOf t code s, refl, refl, refl)
+steps (close code year) t = (closeAnswer t code year, (refl, refl), refl)
 
 pub one-step : (c : Call) (t : List ℕ) (a : Answer) (t′ : List ℕ) → Step c t a t′ → (a ≡ answer c t) × (t′ ≡ after c t)
 one-step (flow ed f out) t a t′ s = (s .3 ∙ (λ i. ofFlow (s .2 .0 i) (s .2 .2 i)), s .2 .1)
@@ -38,6 +42,7 @@ one-step (execute code k line d) t a t′ s = (s .2 ∙ ap ofNotice (s .1 .0), s
 one-step (reverse code k line d) t a t′ s = (s .2 ∙ ap ofNotice (s .1 .0), s .1 .1)
 one-step (totals code) t a t′ s = (s .2 ∙ ap ofTotals (s .1), s .3)
 one-step (journal code m) t a t′ s = (s .2 ∙ ap ofJournal (s .1), s .3)
+one-step (close code year) t a t′ s = (s .2 ∙ ap ofClose (s .1 .0), s .1 .1)
 
 -- there is one
 pub ours : Engine

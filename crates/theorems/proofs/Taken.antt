@@ -13,7 +13,7 @@ use Rattle.ranges.specs.declared.Found.the-variants.{At, Nothing}
 use Rattle.record.specs.Slot.{slotSize}
 use Rattle.slots.specs.Slots.{recordsAt}
 use Rattle.body.specs.Body.{bodyOk}
-use Rattle.entries.specs.Entry.{slotsOf, placeOf}
+use Rattle.entries.specs.Entry.{slotsOf, placeOf, closedOf}
 use Rattle.table.specs.Table.{tableOk, abiOf, bodyOf, entryOf}
 use Rattle.table.proofs.Bodies.{body-at, found-body}
 use Rattle.order.specs.Ordinativo.{Ordinativo}
@@ -35,7 +35,7 @@ use Rattle.service.proofs.Searches.{all-most}
 use Rattle.rules.proofs.Kept.{Writables, none, more}
 use Rattle.service.proofs.Kept.{order-kept, order-records, all-kept, all-records}
 use Rattle.desk.specs.declared.FlowAnswer.{FlowAnswer}
-use Rattle.desk.specs.declared.FlowAnswer.the-variants.{InvalidTable, UnknownEdition, TooLong, BrokenMarkup, BrokenStructure, BrokenField, OtherBank, UnknownBody, NoRoom}
+use Rattle.desk.specs.declared.FlowAnswer.the-variants.{InvalidTable, UnknownEdition, TooLong, BrokenMarkup, BrokenStructure, BrokenField, OtherBank, UnknownBody, ClosedYear, NoRoom}
 use Rattle.desk.specs.Desk.{Reading, refused, served, maxFlow, flowReads, flowAnswer, FlowPromise, flowCode, flowReply}
 use Rattle.theorems.specs.Engine.{bodyRecords}
 use Rattle.theorems.specs.Codes.{outcomeCodes}
@@ -120,15 +120,17 @@ module _ (t : List ℕ) (ed : ℕ) (f out : List ℕ) (a : FlowAnswer) (t′ out
         }
 
     by-room : (at b : ℕ) → tableOk t ≡ true → leb (length f) maxFlow ≡ true → verdictOf y f ≡ Stands at → textIs (abiOf t) (headerOf y f at .abi) ≡ true
-        → bodyOf t (headerOf y f at .ente) ≡ At b → (u : Bool) → leb (outcomeSize * length (flowOrders y f at)) (length out) ≡ u → Taken t ed f a t′ out′
+        → bodyOf t (headerOf y f at .ente) ≡ At b → (c : Bool) → leb (headerOf y f at .esercizio) (closedOf t (entryOf b)) ≡ c
+        → (u : Bool) → leb (outcomeSize * length (flowOrders y f at)) (length out) ≡ u → Taken t ed f a t′ out′
     unfolding flowReads
-    by-room at b ok l s k e true d = is-taken at b ok s k e (rw (ok, num, l, s, k, e, d))
-    by-room at b ok l s k e false d = not-refused NoRoom (λ q. omega arith) (rw (ok, num, l, s, k, e, d))
+    by-room at b ok l s k e true x u d = not-refused ClosedYear (λ q. omega arith) (rw (ok, num, l, s, k, e, x))
+    by-room at b ok l s k e false x true d = is-taken at b ok s k e (rw (ok, num, l, s, k, e, x, d))
+    by-room at b ok l s k e false x false d = not-refused NoRoom (λ q. omega arith) (rw (ok, num, l, s, k, e, x, d))
 
     by-body : (at : ℕ) → tableOk t ≡ true → leb (length f) maxFlow ≡ true → verdictOf y f ≡ Stands at → textIs (abiOf t) (headerOf y f at .abi) ≡ true
         → (x : Found) → bodyOf t (headerOf y f at .ente) ≡ x → Taken t ed f a t′ out′
     unfolding flowReads
-    by-body at ok l s k (At b) e = by-room at b ok l s k e (leb (outcomeSize * length (flowOrders y f at)) (length out)) refl
+    by-body at ok l s k (At b) e = by-room at b ok l s k e (leb (headerOf y f at .esercizio) (closedOf t (entryOf b))) refl (leb (outcomeSize * length (flowOrders y f at)) (length out)) refl
     by-body at ok l s k Nothing e = not-refused UnknownBody (λ q. omega arith) (rw (ok, num, l, s, k, e))
 
     by-bank : (at : ℕ) → tableOk t ≡ true → leb (length f) maxFlow ≡ true → verdictOf y f ≡ Stands at → (u : Bool) → textIs (abiOf t) (headerOf y f at .abi) ≡ u → Taken t ed f a t′ out′

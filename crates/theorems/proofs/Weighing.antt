@@ -1,5 +1,5 @@
 -- WHAT A LOG WEIGHS: weights add up, and a flow that is served weighs what the rules' codes let its orders weigh. For cash by history (History).
-use Prim.Native.Nat.{ℕ, _+_, _*_, _≤_}
+use Prim.Native.Nat.{ℕ, _+_, _*_, _≤_, _<_}
 use mathlib.Core.Path.{_≡_, refl, ap, _∙_, subst}
 use mathlib.Core.Bool.{Bool, true, false, cond}
 use mathlib.Core.List.{List, [], _∷_}
@@ -13,6 +13,7 @@ use Rattle.record.specs.declared.Record.{Record}
 use Rattle.record.specs.Slot.{slotSize}
 use Rattle.slots.specs.Slots.{recordsAt}
 use Rattle.body.specs.Body.{bodyOk}
+use Rattle.entries.specs.Entry.{closedOf}
 use Rattle.table.specs.Table.{tableOk, abiOf}
 use Rattle.editions.specs.declared.Edition.{Edition}
 use Rattle.editions.specs.declared.Edited.{Edited}
@@ -26,7 +27,9 @@ use Rattle.rules.specs.declared.Ruling.{Ruling}
 use Rattle.rules.specs.declared.Ruling.the-variants.{Accepted, Refused}
 use Rattle.rules.specs.declared.Noticed.{Noticed}
 use Rattle.rules.specs.Rules.{orderCode, judgeOrder, judgeNotice}
+use Rattle.rules.specs.Worth.{Which}
 use Rattle.rules.specs.Effects.{recordsBy, allRecords, recordsMoved}
+use Rattle.closing.specs.Closing.{staying}
 use Rattle.rules.proofs.Kept.{Writable, Writables, none, more}
 use Rattle.service.specs.Service.{orderLeaves}
 use Rattle.service.proofs.Kept.{order-kept, order-records}
@@ -36,10 +39,10 @@ use Rattle.address.specs.declared.Addressed.{Addressed}
 use Rattle.address.specs.declared.Addressed.the-variants.{Invalid, Unknown, Body}
 use Rattle.address.specs.Address.{bodyNamed}
 use Rattle.desk.specs.declared.FlowAnswer.{FlowAnswer}
-use Rattle.desk.specs.declared.FlowAnswer.the-variants.{InvalidTable, TooLong, OtherBank, NoRoom}
+use Rattle.desk.specs.declared.FlowAnswer.the-variants.{InvalidTable, TooLong, OtherBank, ClosedYear, NoRoom}
 use Rattle.desk.specs.Desk.{refused, served, forBody, forFlow, byEdition, maxFlow, flowReads, flowCode}
 use Rattle.isolation.specs.Tally.{tally}
-use Rattle.theorems.specs.Engine.{Call, flow, execute, reverse, totals, journal, Answer, ofFlow, ofNotice, ofTotals, ofJournal}
+use Rattle.theorems.specs.Engine.{Call, flow, execute, reverse, totals, journal, close, Answer, ofFlow, ofNotice, ofTotals, ofJournal, ofClose}
 use Rattle.theorems.specs.Codes.{outcomeCodes}
 use Rattle.theorems.specs.Condition2.{codesInTurn}
 use Rattle.theorems.specs.History.{Weight, weighed, ofReversal, reversals, OrderWeight, ofOrders, ofVerdict, ofEdited, ofFlowed, accepted}
@@ -81,10 +84,12 @@ flowed-adds u w (flow ed f lent) (ofFlow a out) = cond-adds u w f out (eqb (flow
 flowed-adds u w (flow ed f lent) (ofNotice a) = refl
 flowed-adds u w (flow ed f lent) (ofTotals a) = refl
 flowed-adds u w (flow ed f lent) (ofJournal c) = refl
+flowed-adds u w (flow ed f lent) (ofClose a) = refl
 flowed-adds u w (execute code k n d) a = refl
 flowed-adds u w (reverse code k n d) a = refl
 flowed-adds u w (totals code) a = refl
 flowed-adds u w (journal code s) a = refl
+flowed-adds u w (close code year) a = refl
 
 pub tally-adds : (f g : Call → Answer → ℕ) (ls : List (Call × Answer)) → tally (λ c a. f c a + g c a) ls ≡ tally f ls + tally g ls
 tally-adds f g [] = refl
@@ -108,6 +113,7 @@ weighed-none k n (ofNotice a) = refl
 weighed-none k n (ofFlow a out) = refl
 weighed-none k n (ofTotals a) = refl
 weighed-none k n (ofJournal c) = refl
+weighed-none k n (ofClose a) = refl
 
 reversal-none : (c : Call) (a : Answer) → ofReversal no-notice c a ≡ 0
 reversal-none (reverse code k n d) a = weighed-none k n a
@@ -115,13 +121,20 @@ reversal-none (execute code k n d) a = refl
 reversal-none (flow ed f out) a = refl
 reversal-none (totals code) a = refl
 reversal-none (journal code s) a = refl
+reversal-none (close code year) a = refl
 
 pub reversals-none : (ls : List (Call × Answer)) → reversals no-notice ls ≡ 0
 reversals-none [] = refl
 reversals-none (l ∷ ls) = omega (arith, reversal-none (l .0) (l .1), reversals-none ls)
 
--- a number that a body's records tell: an accepted order moves it by what it gains and loses, and a notice by what its answer weighs
-pub record Weighs (w : Weight) (gain loss : OrderWeight) (h : List Record → ℕ) : Type 0 where
+-- the orders of which p tells are of years later than this one
+abbrev pub Beyond : Which → ℕ → Type 0
+Beyond p year = (k : Key) → p k ≡ true → year < k .esercizio
+
+-- a number that a body's records tell: an accepted order moves it by what it gains and loses, a notice by what its answer weighs, and a close, where it
+-- tells of later years alone, by nothing
+pub record Weighs (p : Which) (w : Weight) (gain loss : OrderWeight) (h : List Record → ℕ) : Type 0 where
+  pub removes : (year : ℕ) → Beyond p year → (rs : List Record) → h (staying year rs) ≡ h rs
   pub order : (t : List ℕ) (at n year : ℕ) (o : Ordinativo) → Writable o → (j : Ruling) → judgeOrder n year o (recordsAt t at n) ≡ j
       → h (recordsBy year o (recordsAt t at n) j) + weighs j (loss year o) ≡ h (recordsAt t at n) + weighs j (gain year o)
   pub executes : (t : List ℕ) (at n : ℕ) → bodyOk t at n ≡ true → (k : Key) (line : ℕ) (m : Noticed) → judgeNotice true k line (recordsAt t at n) ≡ m
@@ -142,7 +155,7 @@ code-weighs (Refused c) h n = go (eqb c 0) refl
         absurd (omega arith)
     go false q = refl
 
-module _ (w : Weight) (gain loss : OrderWeight) (h : List Record → ℕ) (W : Weighs w gain loss h) (base n year : ℕ) (y : (2000 ≤ year) × (year ≤ 2099)) where
+module _ (p : Which) (w : Weight) (gain loss : OrderWeight) (h : List Record → ℕ) (W : Weighs p w gain loss h) (base n year : ℕ) (y : (2000 ≤ year) × (year ≤ 2099)) where
   abbrev Balanced : List Ordinativo → List Record → Type 0
   Balanced os rs = h (allRecords n year os rs) + ofOrders loss year os (codesInTurn n year os rs) ≡ h rs + ofOrders gain year os (codesInTurn n year os rs)
 
@@ -173,12 +186,17 @@ module _ (w : OrderWeight) (t f out′ : List ℕ) (base n year room : ℕ) (os 
       λ i. ofOrders w (p i) (q i) (outcomeCodes (length (q i)) out′)
   by-room b m year′ os′ false e = no-clash e
 
-  by-body : (year′ : ℕ) (os′ : List Ordinativo) (a : Addressed) → forBody room year′ os′ a ≡ served base n year os → Its (ofOrders w year′ os′ (outcomeCodes (length os′) out′))
-  by-body year′ os′ (Body e b m) q = by-room b m year′ os′ (leb (16 * length os′) room) q
+  by-year : (b m year′ : ℕ) (os′ : List Ordinativo) (c u : Bool) → cond c (refused ClosedYear) (cond u (served b m year′ os′) (refused NoRoom)) ≡ served base n year os
+      → Its (ofOrders w year′ os′ (outcomeCodes (length os′) out′))
+  by-year b m year′ os′ true u e = no-clash e
+  by-year b m year′ os′ false u e = by-room b m year′ os′ u e
+
+  by-body : (year′ : ℕ) (os′ : List Ordinativo) (a : Addressed) → forBody t room year′ os′ a ≡ served base n year os → Its (ofOrders w year′ os′ (outcomeCodes (length os′) out′))
+  by-body year′ os′ (Body e b m) q = by-year b m year′ os′ (leb year′ (closedOf t e)) (leb (16 * length os′) room) q
   by-body year′ os′ Unknown q = no-clash q
   by-body year′ os′ Invalid q = no-clash q
 
-  by-bank : (year′ : ℕ) (os′ : List Ordinativo) (a : Addressed) (u : Bool) → cond u (forBody room year′ os′ a) (refused OtherBank) ≡ served base n year os
+  by-bank : (year′ : ℕ) (os′ : List Ordinativo) (a : Addressed) (u : Bool) → cond u (forBody t room year′ os′ a) (refused OtherBank) ≡ served base n year os
       → Its (ofOrders w year′ os′ (outcomeCodes (length os′) out′))
   by-bank year′ os′ a true q = by-body year′ os′ a q
   by-bank year′ os′ a false q = no-clash q

@@ -5,7 +5,7 @@ use mathlib.Core.List.{List, [], _∷_, _++_}
 use lib.Dec.{eqb}
 use lib.ListN.{getD, drop}
 use Rattle.service.specs.Service.{outcomeSize}
-use Rattle.theorems.specs.Engine.{Call, flow, execute, reverse, totals, journal}
+use Rattle.theorems.specs.Engine.{Call, flow, execute, reverse, totals, journal, close}
 
 abbrev pub oneOf : List ℕ → ℕ → Bool
 oneOf [] c = false
@@ -28,13 +28,14 @@ abbrev pub salvageCodes : List ℕ
 salvageCodes = 0 ∷ 34 ∷ 35 ∷ []
 
 -- A CALL THAT NAMES NO BODY of a valid table. A flow: "2 the flow is longer than 32,768 bytes; 3 the markup breaks; 4 the structure breaks; 5 a field
--- breaks; 6 codice_ABI_BT isn't the table's; 7 no body has this code", or "23, no such edition" (document 02, Req 05). A notice: 7, or "27 no date or outside the years, 28 closing day" (Req 08). Totals and a journal: 7
+-- breaks; 6 codice_ABI_BT isn't the table's; 7 no body has this code", or "23, no such edition" (document 02, Req 05). A notice: 7, or "27 no date or outside the years, 28 closing day" (Req 08). Totals, a journal and a close: 7
 abbrev pub strayCodes : Call → List ℕ
 strayCodes (flow ed f out) = 2 ∷ 3 ∷ 4 ∷ 5 ∷ 6 ∷ 7 ∷ 23 ∷ []
 strayCodes (execute code k line d) = 7 ∷ 27 ∷ 28 ∷ []
 strayCodes (reverse code k line d) = 7 ∷ 27 ∷ 28 ∷ []
 strayCodes (totals code) = 7 ∷ []
 strayCodes (journal code s) = 7 ∷ []
+strayCodes (close code year) = 7 ∷ []
 
 -- a notice for a body: "16 (no such order), 17, 20 (no such line), then for execution 21 (already executed), for reversal 22 (not executed)"
 abbrev pub noticeCodes : Bool → List ℕ
@@ -46,13 +47,19 @@ noticeCodes false = 0 ∷ 16 ∷ 17 ∷ 20 ∷ 22 ∷ []
 abbrev pub journalCodes : List ℕ
 journalCodes = 0 ∷ 29 ∷ 30 ∷ 31 ∷ 32 ∷ 33 ∷ []
 
--- A CALL THAT NAMES A BODY. A flow: "8 the outcome buffer has under 16 bytes per order .. Otherwise the code is 0"
+-- a close for a body: "37 not a year of 2000 to 2099, 36 not later than the last one closed, 38 a record of an earlier year remains, 39 an acquired order of that
+-- year has a waiting line" (document 02, Req 14)
+abbrev pub closeCodes : List ℕ
+closeCodes = 0 ∷ 36 ∷ 37 ∷ 38 ∷ 39 ∷ []
+
+-- A CALL THAT NAMES A BODY. A flow: "8 the outcome buffer has under 16 bytes per order .. Otherwise the code is 0", and "36 year closed" (document 02, Req 14)
 abbrev pub bodyCodes : Call → List ℕ
-bodyCodes (flow ed f out) = 0 ∷ 8 ∷ []
+bodyCodes (flow ed f out) = 0 ∷ 8 ∷ 36 ∷ []
 bodyCodes (execute code k line d) = noticeCodes true
 bodyCodes (reverse code k line d) = noticeCodes false
 bodyCodes (totals code) = 0 ∷ []
 bodyCodes (journal code s) = journalCodes
+bodyCodes (close code year) = closeCodes
 
 -- ANY CALL: "1 the table isn't valid", or one of those
 abbrev pub callCodes : Call → List ℕ

@@ -17,6 +17,8 @@ use Rattle.salvage.specs.declared.Salvaged.{Salvaged}
 use Rattle.salvage.specs.Salvage.{salvageReply, SalvagePromise}
 use Rattle.notices.specs.declared.NoticeAnswer.{NoticeAnswer}
 use Rattle.notices.specs.Notices.{noticeCodeOf, NoticePromise}
+use Rattle.year_end.specs.declared.CloseAnswer.{CloseAnswer}
+use Rattle.year_end.specs.YearEnd.{ClosePromise, closeReply, closeCode}
 use Rattle.desk.specs.declared.FlowAnswer.{FlowAnswer}
 use Rattle.desk.specs.Desk.{FlowPromise, flowCode, flowReply}
 use Rattle.theorems.specs.Engine.{Call, Answer, Step, answerCode}
@@ -49,3 +51,6 @@ pub record Condition1 : Type 0 where
   pub refused-conversion : (o t : List ℕ) (a : Converted) (t′ : List ℕ) → ConvertPromise o t a t′ → (convertCode a ≡ 0 → ⊥) → t′ ≡ t
   -- and of salvage: its refusals "both leave table and report unchanged"
   pub refused-salvage : (t r : List ℕ) (a : Salvaged) (t′ r′ : List ℕ) → SalvagePromise t r a t′ r′ → (salvageReply a .code ≡ 0 → ⊥) → (t′ ≡ t) × (r′ ≡ r)
+  -- and of a close: "a refusal removes 0 and changes nothing"
+  pub refused-close : (t code : List ℕ) (year : ℕ) (a : CloseAnswer) (t′ : List ℕ) → ClosePromise t code year a t′ → (closeCode a ≡ 0 → ⊥)
+      → (t′ ≡ t) × (closeReply a .removed ≡ 0)

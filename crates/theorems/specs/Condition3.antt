@@ -13,7 +13,8 @@ use Rattle.isolation.specs.Machine.{Isolated, log}
 use Rattle.theorems.specs.Engine.{Call, Answer, Engine, Happens, answerCode, names, who, machine, tableAfter}
 use Rattle.theorems.specs.Codes.{oneOf, strayCodes, bodyCodes}
 
--- of the engine E, for "any sequence of flows, notices and totals calls" from the table t₀ on; since Req 10 of journals too
+-- of the engine E, for "any sequence of flows, notices and totals calls" from the table t₀ on; since Req 10 of journals too, and since Req 14 of closes
+-- ("condition 3's sequence now takes closes too, anywhere in it, and stands")
 pub record Condition3 (E : Engine) (t₀ : List ℕ) : Type 0 where
   -- "Every answer, every outcome byte and the final table are those of serving the bodies one after another in contents order, each with its own calls
   -- in their own order .. Each body's answers and records are also those it would get had the other bodies never called. A call that names no body of the

@@ -1,4 +1,4 @@
--- THE DESK'S CALLS AS A MACHINE: its states are a table's bytes, its calls flows, notices, totals and journals, and its answers any engine's that keeps the calls'
+-- THE DESK'S CALLS AS A MACHINE: its states are a table's bytes, its calls flows, notices, totals, journals and closes, and its answers any engine's that keeps the calls'
 -- promises. Which body a call names and which bytes a body owns are read from t₀, the table that the calls start from.
 use Prim.Native.Nat.{ℕ, zero, suc, _+_, _*_}
 use mathlib.Core.Path.{_≡_}
@@ -29,6 +29,8 @@ use Rattle.notices.specs.declared.NoticeAnswer.{NoticeAnswer}
 use Rattle.notices.specs.declared.TotalsAnswer.{TotalsAnswer}
 use Rattle.notices.specs.Notices.{NoticePromise, noticeCodeOf, TotalsPromise}
 use Rattle.journal.specs.Journal.{JournalPromise}
+use Rattle.year_end.specs.declared.CloseAnswer.{CloseAnswer}
+use Rattle.year_end.specs.YearEnd.{ClosePromise, closeCode}
 use Rattle.desk.specs.declared.FlowAnswer.{FlowAnswer}
 use Rattle.desk.specs.Desk.{maxFlow, FlowPromise, flowCode}
 use Rattle.isolation.specs.Machine.{Machine, stateAfter}
@@ -44,6 +46,8 @@ pub data Call : Type 0 where
   totals : List ℕ → Call
   -- body code; a journal's movements (document 02, Req 10)
   journal : List ℕ → List ℕ → Call
+  -- body code; the year to close (document 02, Req 14)
+  close : List ℕ → ℕ → Call
 
 pub data Answer : Type 0 where
   -- with the outcome buffer's bytes afterwards
@@ -51,6 +55,7 @@ pub data Answer : Type 0 where
   ofNotice : NoticeAnswer → Answer
   ofTotals : TotalsAnswer → Answer
   ofJournal : ℕ → Answer
+  ofClose : CloseAnswer → Answer
 
 -- what each call promises: on the table t, the answer a and the table t′ afterwards
 abbrev pub Step : Call → List ℕ → Answer → List ℕ → Type 0
@@ -59,6 +64,7 @@ Step (execute code k line d) t a t′ = (r : NoticeAnswer) × NoticePromise t tr
 Step (reverse code k line d) t a t′ = (r : NoticeAnswer) × NoticePromise t false code k line d r t′ × (a ≡ ofNotice r)
 Step (totals code) t a t′ = (r : TotalsAnswer) × TotalsPromise t code r × (a ≡ ofTotals r) × (t′ ≡ t)
 Step (journal code s) t a t′ = (r : ℕ) × JournalPromise t code s r × (a ≡ ofJournal r) × (t′ ≡ t)
+Step (close code year) t a t′ = (r : CloseAnswer) × ClosePromise t code year r t′ × (a ≡ ofClose r)
 
 -- an engine that keeps the promises on every table
 pub record Engine : Type 0 where
@@ -77,6 +83,7 @@ answerCode (ofFlow a out) = flowCode a
 answerCode (ofNotice a) = noticeCodeOf a
 answerCode (ofTotals a) = a .code
 answerCode (ofJournal c) = c
+answerCode (ofClose a) = closeCode a
 
 -- WHICH BODY A CALL NAMES, read from the call and from t₀, the table that the calls start from: its ABI digits and its bodies' codes.
 
@@ -103,6 +110,7 @@ names t₀ (execute code k line d) = namesOn (targetCode d) code
 names t₀ (reverse code k line d) = namesOn (targetCode d) code
 names t₀ (totals code) = some code
 names t₀ (journal code s) = some code
+names t₀ (close code year) = some code
 
 abbrev pub whichBody : Found → Option ℕ
 whichBody (At b) = some b

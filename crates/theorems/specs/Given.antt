@@ -6,8 +6,11 @@ use lib.ListN.{length}
 use lib.Dec.{leb}
 use Rattle.scan.specs.Bytes.{textIs}
 use Rattle.ranges.specs.Ranges.{isNothing}
+use Rattle.ranges.specs.declared.Found.{Found}
+use Rattle.ranges.specs.declared.Found.the-variants.{At, Nothing}
 use Rattle.fields.specs.Causes.{causeNumber}
-use Rattle.table.specs.Table.{tableOk, abiOf, bodyOf}
+use Rattle.entries.specs.Entry.{closedOf}
+use Rattle.table.specs.Table.{tableOk, abiOf, bodyOf, entryOf}
 use Rattle.editions.specs.declared.Edition.{Edition}
 use Rattle.editions.specs.declared.Edition.the-variants.{Oil}
 use Rattle.editions.specs.declared.Edited.{Edited}
@@ -68,6 +71,11 @@ isUnknown NoEdition = true
 abbrev pub verdictAs : Edited → List ℕ → Verdict
 verdictAs x f = verdictOf (editionRead x) f
 
+-- the last year that a body closed; 0 before the first close, and where there is no body
+abbrev pub closedBy : List ℕ → Found → ℕ
+closedBy t (At b) = closedOf t (entryOf b)
+closedBy t Nothing = 0
+
 -- of the flow f, whose number names the edition x or none and whose verdict is v, on the table t with an outcome buffer of so many bytes
 abbrev pub flowRefusals : List ℕ → Edited → List ℕ → ℕ → Verdict → List (ℕ × Bool)
 flowRefusals t x f room v =
@@ -85,6 +93,8 @@ flowRefusals t x f room v =
     ∷ (6, not (textIs (abiOf t) (headerOf (editionRead x) f (standsAt v) .abi)))
     -- "no body has this code"
     ∷ (7, isNothing (bodyOf t (headerOf (editionRead x) f (standsAt v) .ente)))
+    -- "36 year closed, after 7" (document 02, Req 14)
+    ∷ (36, leb (headerOf (editionRead x) f (standsAt v) .esercizio) (closedBy t (bodyOf t (headerOf (editionRead x) f (standsAt v) .ente))))
     -- "the outcome buffer has under 16 bytes per order"
     ∷ (8, not (leb (outcomeSize * length (flowOrders (editionRead x) f (standsAt v))) room))
     ∷ []

@@ -1,13 +1,14 @@
 -- CASH BY HISTORY (document 02, Req 11): "Treasurers ask where a balance came from." What the lines of a body's log, its calls with the answers it was given,
--- tell of its records.
+-- tell of its records. Since Req 14 a close removes a year's records: what is said of them is said of the years that no close in the log has closed.
 use Prim.Native.Nat.{ℕ, _+_, _≤_, _<_}
 use mathlib.Core.Path.{_≡_}
 use mathlib.Core.Bool.{true, not, cond}
 use mathlib.Core.Logic.{_⊎_}
 use mathlib.Core.Option.{some}
-use mathlib.Core.List.{List, [], _∷_}
+use mathlib.Core.List.{List, [], _∷_, _++_}
 use lib.ListN.{length}
-use lib.Dec.{eqb}
+use lib.Dec.{eqb, ltb}
+use Rattle.scan.specs.Bytes.{all}
 use Rattle.record.specs.declared.Key.{Key}
 use Rattle.record.specs.declared.Record.{Record}
 use Rattle.record.specs.Slot.{mandatoKind, reversaleKind, replacedLine}
@@ -32,7 +33,7 @@ use Rattle.rules.specs.Worth.{Which, States, Value, Years, worthOf, worth, areH
 use Rattle.isolation.specs.Order.{mine}
 use Rattle.isolation.specs.Machine.{whose, log}
 use Rattle.isolation.specs.Tally.{tally}
-use Rattle.theorems.specs.Engine.{Call, flow, execute, reverse, totals, journal, Answer, ofFlow, ofNotice, ofTotals, ofJournal, Engine, position, machine, tableAfter, bodyRecords}
+use Rattle.theorems.specs.Engine.{Call, flow, execute, reverse, totals, journal, close, Answer, ofFlow, ofNotice, ofTotals, ofJournal, ofClose, Engine, answerCode, position, machine, tableAfter, bodyRecords}
 use Rattle.theorems.specs.Codes.{outcomeCodes}
 
 -- NOTICES
@@ -45,6 +46,7 @@ weighed w k n (ofNotice a) = w k n a
 weighed w k n (ofFlow a out) = 0
 weighed w k n (ofTotals a) = 0
 weighed w k n (ofJournal c) = 0
+weighed w k n (ofClose a) = 0
 
 -- of a line of the log: the weight of an execution, or of a reversal; other calls weigh nothing
 abbrev pub ofExecution : Weight → Call → Answer → ℕ
@@ -53,6 +55,7 @@ ofExecution w (reverse code k n d) a = 0
 ofExecution w (flow ed f out) a = 0
 ofExecution w (totals code) a = 0
 ofExecution w (journal code s) a = 0
+ofExecution w (close code year) a = 0
 
 abbrev pub ofReversal : Weight → Call → Answer → ℕ
 ofReversal w (reverse code k n d) a = weighed w k n a
@@ -60,6 +63,7 @@ ofReversal w (execute code k n d) a = 0
 ofReversal w (flow ed f out) a = 0
 ofReversal w (totals code) a = 0
 ofReversal w (journal code s) a = 0
+ofReversal w (close code year) a = 0
 
 -- of all lines
 abbrev pub executions : Weight → List (Call × Answer) → ℕ
@@ -115,6 +119,7 @@ ofTaken w ed f (ofFlow a out) = cond (eqb (flowCode a) 0) (ofEdited w f out (edi
 ofTaken w ed f (ofNotice a) = 0
 ofTaken w ed f (ofTotals a) = 0
 ofTaken w ed f (ofJournal c) = 0
+ofTaken w ed f (ofClose a) = 0
 
 abbrev pub ofFlowed : OrderWeight → Call → Answer → ℕ
 ofFlowed w (flow ed f out) a = ofTaken w ed f a
@@ -122,6 +127,7 @@ ofFlowed w (execute code k n d) a = 0
 ofFlowed w (reverse code k n d) a = 0
 ofFlowed w (totals code) a = 0
 ofFlowed w (journal code s) a = 0
+ofFlowed w (close code year) a = 0
 
 -- of all lines
 abbrev pub accepted : OrderWeight → List (Call × Answer) → ℕ
@@ -145,6 +151,29 @@ gone kind years ls = accepted (goneBy kind years) ls
 -- how many accepted replacement orders brought this line in: those of that key with so many lines
 abbrev pub broughtTimes : Key → ℕ → List (Call × Answer) → ℕ
 broughtTimes key line ls = brought (withKey key) (onLine line) ls
+
+-- CLOSES
+-- the year of an accepted close
+abbrev pub ofClosing : Call → Answer → List ℕ
+ofClosing (close code year) a = cond (eqb (answerCode a) 0) (year ∷ []) []
+ofClosing (flow ed f out) a = []
+ofClosing (execute code k n d) a = []
+ofClosing (reverse code k n d) a = []
+ofClosing (totals code) a = []
+ofClosing (journal code s) a = []
+
+-- of all lines
+abbrev pub closedIn : List (Call × Answer) → List ℕ
+closedIn [] = []
+closedIn (l ∷ ls) = ofClosing (l .0) (l .1) ++ closedIn ls
+
+-- "years not closed": later than every year that was. "The years are looked at when the sum is made", after all these lines
+abbrev pub openIn : List (Call × Answer) → Years
+openIn ls y = all (λ c. ltb c y) (closedIn ls)
+
+-- the orders of which p tells are of such years
+abbrev pub OpenKeys : Which → List (Call × Answer) → Type 0
+OpenKeys p ls = (k : Key) → p k ≡ true → openIn ls (k .esercizio) ≡ true
 
 -- THE RECORDS
 -- cents of a kind in some years
@@ -184,48 +213,59 @@ module _ (E : Engine) (t₀ : List ℕ) (b : ℕ) (cs : List Call) where
 
   -- from the records that it started with
   pub record History (start : List Record) : Type 0 where
-    -- the cents of its records of a kind, with those of its accepted reversals, are those of the start, with those of its accepted executions: "a
-    -- replacement adds nothing to either"
-    pub cash-history : (kind : ℕ) → centsOf kind (bodyRecords b now) + reversals (cash kind) L ≡ centsOf kind start + executions (cash kind) L
-    -- of a kind in some years, one (`eqb y`) or more: a replacement moves cents between years alone
-    pub years-history : (kind : ℕ) (years : Years)
+    -- "Req 11 then counts only notices for years not closed, plus the cents of each accepted replacement line of an open year whose named line is of a closed
+    -- one, less those of a closed year whose named line is of an open one": the cents of all its records of a kind, with those of its accepted reversals for open
+    -- years and what went from these to closed ones, are those of the start in open years, with those of its accepted executions and what came to them
+    pub cash-history : (kind : ℕ)
+        → centsOf kind (bodyRecords b now) + reversals (cashIn kind (openIn L)) L + gone kind (openIn L) L
+        ≡ centsIn kind (openIn L) start + executions (cashIn kind (openIn L)) L + come kind (openIn L) L
+    -- and where no year was closed: "a replacement adds nothing to either"
+    pub cash-unclosed : closedIn L ≡ [] → (kind : ℕ) → centsOf kind (bodyRecords b now) + reversals (cash kind) L ≡ centsOf kind start + executions (cash kind) L
+    -- of a kind in some open years, one (`eqb y`) or more: a replacement moves cents between years alone
+    pub years-history : (kind : ℕ) (years : Years) → ((y : ℕ) → years y ≡ true → openIn L y ≡ true)
         → centsIn kind years (bodyRecords b now) + reversals (cashIn kind years) L + gone kind years L ≡ centsIn kind years start + executions (cashIn kind years) L + come kind years L
-    -- of the orders of any keys, and whatever a line is held to be worth: a replacement brings its own lines in, and gives up those that they name
-    pub worth-history : (p : Which) (v : Value)
+    -- of the orders of any keys of open years, and whatever a line is held to be worth: a replacement brings its own lines in, and gives up those that they name
+    pub worth-history : (p : Which) (v : Value) → OpenKeys p L
         → worth p v (bodyRecords b now) + reversals (weight p v) L + given p v L ≡ worth p v start + executions (weight p v) L + brought p v L
-    -- of one line: it is held as often as it was at the start, executed and brought in, less its reversals
-    pub line-history : (key : Key) (line : ℕ)
+    -- of one line of an open year: it is held as often as it was at the start, executed and brought in, less its reversals
+    pub line-history : (key : Key) (line : ℕ) → openIn L (key .esercizio) ≡ true
         → heldTimes key line (bodyRecords b now) + reversals (perTime key line) L ≡ heldTimes key line start + executions (perTime key line) L + broughtTimes key line L
     -- at any moment it is held at most once, and at most one replacement brought it in
     pub line-most : (key : Key) (line : ℕ) → heldTimes key line (bodyRecords b now) ≤ 1
-    pub brought-most : (key : Key) (line : ℕ) → broughtTimes key line L ≤ 1
+    pub brought-most : (key : Key) (line : ℕ) → openIn L (key .esercizio) ≡ true → broughtTimes key line L ≤ 1
     -- it is replaced as often as it was at the start and as accepted replacements gave it up: a replaced line stays replaced ..
-    pub replaced-history : (key : Key) (line : ℕ) → replacedTimes key line (bodyRecords b now) ≡ replacedTimes key line start + given (withKey key) (onLine line) L
+    pub replaced-history : (key : Key) (line : ℕ) → openIn L (key .esercizio) ≡ true → replacedTimes key line (bodyRecords b now) ≡ replacedTimes key line start + given (withKey key) (onLine line) L
     -- .. and none is replaced twice: "25 .. already replaced"
-    pub replaced-most : (key : Key) (line : ℕ) → replacedTimes key line start + given (withKey key) (onLine line) L ≤ 1
+    pub replaced-most : (key : Key) (line : ℕ) → openIn L (key .esercizio) ≡ true → replacedTimes key line start + given (withKey key) (onLine line) L ≤ 1
     -- what totals answer at that moment are the cents of those records
     pub totals-are : (code : List ℕ) → position t₀ (some code) ≡ some b → (a : TotalsAnswer) → TotalsPromise now code a
         → (a .paid ≡ centsOf mandatoKind (bodyRecords b now)) × (a .collected ≡ centsOf reversaleKind (bodyRecords b now))
 
   -- from a fresh table
   pub record Fresh : Type 0 where
-    -- the cents are those executed less those reversed
-    pub cash-opened : (kind : ℕ) → centsOf kind (bodyRecords b now) + reversals (cash kind) L ≡ executions (cash kind) L
+    -- the cents are those executed less those reversed, of open years, with what came to these, less what went from them
+    pub cash-opened : (kind : ℕ)
+        → centsOf kind (bodyRecords b now) + reversals (cashIn kind (openIn L)) L + gone kind (openIn L) L ≡ executions (cashIn kind (openIn L)) L + come kind (openIn L) L
     -- and so are those that totals answer
     pub totals-opened : (code : List ℕ) → position t₀ (some code) ≡ some b → (a : TotalsAnswer) → TotalsPromise now code a
+        → (a .paid + reversals (cashIn mandatoKind (openIn L)) L + gone mandatoKind (openIn L) L ≡ executions (cashIn mandatoKind (openIn L)) L + come mandatoKind (openIn L) L)
+        × (a .collected + reversals (cashIn reversaleKind (openIn L)) L + gone reversaleKind (openIn L) L ≡ executions (cashIn reversaleKind (openIn L)) L + come reversaleKind (openIn L) L)
+    -- where no year was closed, they are those executed less those reversed (Req 11's own words)
+    pub cash-never-closed : closedIn L ≡ [] → (kind : ℕ) → centsOf kind (bodyRecords b now) + reversals (cash kind) L ≡ executions (cash kind) L
+    pub totals-never-closed : closedIn L ≡ [] → (code : List ℕ) → position t₀ (some code) ≡ some b → (a : TotalsAnswer) → TotalsPromise now code a
         → (a .paid + reversals (cash mandatoKind) L ≡ executions (cash mandatoKind) L)
         × (a .collected + reversals (cash reversaleKind) L ≡ executions (cash reversaleKind) L)
-    -- of a kind in some years: with what came from other years, less what went to them
-    pub years-opened : (kind : ℕ) (years : Years)
+    -- of a kind in some open years: with what came from other years, less what went to them
+    pub years-opened : (kind : ℕ) (years : Years) → ((y : ℕ) → years y ≡ true → openIn L y ≡ true)
         → centsIn kind years (bodyRecords b now) + reversals (cashIn kind years) L + gone kind years L ≡ executions (cashIn kind years) L + come kind years L
-    -- of one line: executions less reversals, and one where a replacement brought it in, is whether it is held
-    pub line-held : (key : Key) (line : ℕ)
+    -- of one line of an open year: executions less reversals, and one where a replacement brought it in, is whether it is held
+    pub line-held : (key : Key) (line : ℕ) → openIn L (key .esercizio) ≡ true
         → heldTimes key line (bodyRecords b now) + reversals (perTime key line) L ≡ executions (perTime key line) L + broughtTimes key line L
     -- "for each line (key and line number) that no replacement brought in, executions less reversals is 0 or 1"
-    pub line-opened : (key : Key) (line : ℕ) → broughtTimes key line L ≡ 0
+    pub line-opened : (key : Key) (line : ℕ) → openIn L (key .esercizio) ≡ true → broughtTimes key line L ≡ 0
         → (executions (perTime key line) L ≡ reversals (perTime key line) L) ⊎ (executions (perTime key line) L ≡ reversals (perTime key line) L + 1)
     -- and for one that a replacement brought in, 0 or -1
-    pub line-brought : (key : Key) (line : ℕ) → broughtTimes key line L ≡ 1
+    pub line-brought : (key : Key) (line : ℕ) → openIn L (key .esercizio) ≡ true → broughtTimes key line L ≡ 1
         → (executions (perTime key line) L ≡ reversals (perTime key line) L) ⊎ (executions (perTime key line) L + 1 ≡ reversals (perTime key line) L)
 
 -- from any valid table: one opened, converted or in use

@@ -23,6 +23,8 @@ use Rattle.notices.specs.declared.NoticeAnswer.{NoticeAnswer}
 use Rattle.notices.specs.declared.TotalsAnswer.{TotalsAnswer}
 use Rattle.notices.specs.Notices.{NoticePromise, NoticeReplies, TotalsPromise}
 use Rattle.journal.specs.Journal.{JournalPromise}
+use Rattle.year_end.specs.declared.CloseAnswer.{CloseAnswer}
+use Rattle.year_end.specs.YearEnd.{ClosePromise, CloseReplies}
 use Rattle.desk.specs.declared.FlowAnswer.{FlowAnswer}
 use Rattle.desk.specs.declared.FlowReply.{FlowReply}
 use Rattle.desk.specs.Desk.{FlowPromise, FlowReplies}
@@ -38,6 +40,8 @@ pub record NoSecond : Type 0 where
   pub totals : (t code : List ℕ) (a b : TotalsAnswer) → TotalsPromise t code a → TotalsPromise t code b → a ≡ b
   -- a journal (Req 10), the exported function's promise too
   pub journal : (t code s : List ℕ) (a b : ℕ) → JournalPromise t code s a → JournalPromise t code s b → a ≡ b
+  -- a close (Req 14)
+  pub close : (t code : List ℕ) (year : ℕ) (a b : CloseAnswer) (u v : List ℕ) → ClosePromise t code year a u → ClosePromise t code year b v → (a ≡ b) × (u ≡ v)
   -- salvage (Req 13)
   pub salvage : (t r : List ℕ) (a b : Salvaged) (u v x y : List ℕ) → SalvagePromise t r a u x → SalvagePromise t r b v y → (a ≡ b) × (u ≡ v) × (x ≡ y)
   -- a field's own words: where they stand in the flow, and so which they are
@@ -55,3 +59,4 @@ pub record NoSecond : Type 0 where
   pub notice-replies : (t : List ℕ) (executing : Bool) (code : List ℕ) (k : Key) (line : ℕ) (d : Date) (m n cents dents : ℕ) (u v : List ℕ)
       → NoticeReplies t executing code k line d m cents u → NoticeReplies t executing code k line d n dents v → (m ≡ n) × (cents ≡ dents) × (u ≡ v)
   pub salvage-replies : (t r : List ℕ) (m n k l : ℕ) (u v x y : List ℕ) → SalvageReplies t r m k u x → SalvageReplies t r n l v y → (m ≡ n) × (k ≡ l) × (u ≡ v) × (x ≡ y)
+  pub close-replies : (t code : List ℕ) (year m n k l : ℕ) (u v : List ℕ) → CloseReplies t code year m k u → CloseReplies t code year n l v → (m ≡ n) × (k ≡ l) × (u ≡ v)

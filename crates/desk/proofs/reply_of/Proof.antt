@@ -61,6 +61,12 @@ enum-told-8 c = search needs
 refusal-requires-8 : tie.Need-refusal-requires-8
 refusal-requires-8 c κs = search needs
 
+enum-told-9 : tie.Need-enum-told-9
+enum-told-9 c = search needs
+
+refusal-requires-9 : tie.Need-refusal-requires-9
+refusal-requires-9 c κs = search needs
+
 enum-known-a-2 : tie.Need-enum-known-a-2
 enum-known-a-2 c = search needs
 
@@ -92,7 +98,10 @@ returns-9 : tie.Need-returns-9
 returns-9 c = rw (c .before .enum-told8 .given .1) (c .refusal8 .ensures)
 
 returns-10 : tie.Need-returns-10
-returns-10 c = rw (c .before .a2 .given .1) (refl, refl, refl, refl, refl, refl)
+returns-10 c = rw (c .before .enum-told9 .given .1) (c .refusal9 .ensures)
+
+returns-11 : tie.Need-returns-11
+returns-11 c = rw (c .before .a2 .given .1) (refl, refl, refl, refl, refl, refl)
 
 pub reply-of-spec : {M : Type 1} → statement M
 reply-of-spec =
@@ -116,6 +125,8 @@ reply-of-spec =
     refusal-requires-7
     enum-told-8
     refusal-requires-8
+    enum-told-9
+    refusal-requires-9
     enum-known-a-2
     returns
     returns-2
@@ -126,4 +137,5 @@ reply-of-spec =
     returns-7
     returns-8
     returns-9
-    returns-10)
+    returns-10
+    returns-11)

@@ -15,13 +15,13 @@ use Rattle.record.proofs.key_at.Reads as key-at-reads
 use Rattle.slots.proofs.mark_of.Reads as mark-of-reads
 
 abbrev Inv-loop : tie.InvT-loop
-Inv-loop t base flags₀ seen₀ i₀ flags seen i = (i ≤ length flags₀) × (length flags ≡ length flags₀) × (keepsAt t base (length flags₀) ≡ flagsFrom t base (length flags₀) flags i) × Marked seen (sofar t base flags i)
+Inv-loop t base flags₀ closed seen₀ i₀ flags seen i = (i ≤ length flags₀) × (length flags ≡ length flags₀) × (keepsAt closed t base (length flags₀) ≡ flagsFrom closed t base (length flags₀) flags i) × Marked seen (sofar t base flags i)
 
 abbrev μ-loop : tie.MeasureT-loop
-μ-loop t base flags₀ seen₀ i₀ flags seen i = length flags₀ - i
+μ-loop t base flags₀ closed seen₀ i₀ flags seen i = length flags₀ - i
 
 loop-holds : tie.Need-loop-holds Inv-loop μ-loop
-loop-holds c = (omega arith, refl, flags-start (c .before .before .args .t .now) (c .before .before .args .base) _ (c .before .before .args .flags .now), marked-start (c .before .before .args .t .now) (c .before .before .args .base) (c .before .before .args .flags .now) _ (length-replicate {A = ℕ} 4096 0))
+loop-holds c = (omega arith, refl, flags-start (c .before .before .args .closed) (c .before .before .args .t .now) (c .before .before .args .base) _ (c .before .before .args .flags .now), marked-start (c .before .before .args .t .now) (c .before .before .args .base) (c .before .before .args .flags .now) _ (length-replicate {A = ℕ} 4096 0))
 
 mul-key-at : tie.Need-mul-key-at Inv-loop μ-loop
 mul-key-at c = search needs
@@ -58,8 +58,8 @@ loop-again c =
     let l = c .before .before .before .before .before .loop in (
       omega arith,
       simp length-set (l .inv .1),
-      l .inv .2 ∙ flags-more (c .before .before .before .before .before .before .before .before .args .t .now) (c .before .before .before .before .before .before .before .before .args .base) (length (c .before .before .before .before .before .before .before .before .args .flags .now)) (l .flags) (l .i) _ (sym (l .inv .1)) (omega arith) (c .flag-of .ensures),
-      marked-more (c .before .before .before .before .before .before .before .before .args .t .now) (c .before .before .before .before .before .before .before .before .args .base) (l .flags) (l .seen) (l .i) _ (c .before .before .mark-of .result) (omega (arith, l .inv .1)) (c .before .before .before .key-at .ensures) (c .before .before .mark-of .ensures .0) (c .before .before .mark-of .ensures .1) (c .flag-of .ensures) (l .inv .3),
+      l .inv .2 ∙ flags-more (c .before .before .before .before .before .before .before .before .args .closed) (c .before .before .before .before .before .before .before .before .args .t .now) (c .before .before .before .before .before .before .before .before .args .base) (length (c .before .before .before .before .before .before .before .before .args .flags .now)) (l .flags) (l .i) _ (sym (l .inv .1)) (omega arith) (c .flag-of .ensures),
+      marked-more (c .before .before .before .before .before .before .before .before .args .closed) (c .before .before .before .before .before .before .before .before .args .t .now) (c .before .before .before .before .before .before .before .before .args .base) (l .flags) (l .seen) (l .i) _ (c .before .before .mark-of .result) (omega (arith, l .inv .1)) (c .before .before .before .key-at .ensures) (c .before .before .mark-of .ensures .0) (c .before .before .mark-of .ensures .1) (c .flag-of .ensures) (l .inv .3),
     )
 
 same-length : tie.Need-same-length Inv-loop μ-loop
@@ -68,7 +68,7 @@ same-length c = search needs
 returns : tie.Need-returns Inv-loop μ-loop
 returns c =
     let l = c .before .loop in
-    sym (l .inv .2 ∙ flags-end (c .before .before .before .before .args .t .now) (c .before .before .before .before .args .base) (length (c .before .before .before .before .args .flags .now)) (l .flags) (l .i) (sym (l .inv .1)) (omega arith) (omega arith))
+    sym (l .inv .2 ∙ flags-end (c .before .before .before .before .args .closed) (c .before .before .before .before .args .t .now) (c .before .before .before .before .args .base) (length (c .before .before .before .before .args .flags .now)) (l .flags) (l .i) (sym (l .inv .1)) (omega arith) (omega arith))
 
 pub flags-of-spec : {M : Type 1} → statement M
 flags-of-spec =

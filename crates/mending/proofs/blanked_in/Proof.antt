@@ -26,7 +26,7 @@ blanked-by-requires c κs = search needs
 returns : tie.Need-returns
 returns c =
     let q = room (c .before .before .before .before .args .n) (omega arith) in
-    (c .before .blanked-by .ensures .0 ∙ ap (λ (m : ℕ). length (blankedFrom (c .before .before .before .before .args .t .now) (c .before .before .before .before .args .base) (keepsAt (c .before .before .before .before .args .t .now) (c .before .before .before .before .args .base) m))) q, omega (arith, c .before .blanked-by .ensures .1))
+    (c .before .blanked-by .ensures .0 ∙ ap (λ (m : ℕ). length (blankedFrom (c .before .before .before .before .args .t .now) (c .before .before .before .before .args .base) (keepsAt (c .before .before .before .before .args .closed) (c .before .before .before .before .args .t .now) (c .before .before .before .before .args .base) m))) q, omega (arith, c .before .blanked-by .ensures .1))
 
 pub blanked-in-spec : {M : Type 1} → statement M
 blanked-in-spec =

@@ -23,7 +23,7 @@ moved-by-requires : tie.Need-moved-by-requires
 moved-by-requires c κs = search needs
 
 returns : tie.Need-returns
-returns c = c .before .moved-by .ensures ∙ ap (λ (m : ℕ). moved (keepsAt (c .before .before .before .before .args .t .now) (c .before .before .before .before .args .base) m)) (room (c .before .before .before .before .args .n) (omega arith))
+returns c = c .before .moved-by .ensures ∙ ap (λ (m : ℕ). moved (keepsAt (c .before .before .before .before .args .closed) (c .before .before .before .before .args .t .now) (c .before .before .before .before .args .base) m)) (room (c .before .before .before .before .args .n) (omega arith))
 
 pub moved-in-spec : {M : Type 1} → statement M
 moved-in-spec =

@@ -24,7 +24,7 @@ part-flags-end c = search needs
 places-by-requires : tie.Need-places-by-requires
 places-by-requires c κs =
     let q = room (c .before .before .before .before .args .n) (omega arith) in
-    let e = ap (λ (m : ℕ). length (blankedFrom (c .before .before .before .before .args .t .now) (c .before .before .before .before .args .base) (keepsAt (c .before .before .before .before .args .t .now) (c .before .before .before .before .args .base) m))) q in
+    let e = ap (λ (m : ℕ). length (blankedFrom (c .before .before .before .before .args .t .now) (c .before .before .before .before .args .base) (keepsAt (c .before .before .before .before .args .closed) (c .before .before .before .before .args .t .now) (c .before .before .before .before .args .base) m))) q in
     (omega arith, omega arith)
 
 same-length : tie.Need-same-length
@@ -33,8 +33,8 @@ same-length c = search needs
 returns : tie.Need-returns
 returns c =
     let q = room (c .before .before .before .before .before .before .before .before .args .n) (omega arith) in (
-      c .before .before .before .places-by .ensures .0 ∙ ap (λ (m : ℕ). c .before .before .before .before .before .before .before .before .args .to + 4 * length (blankedFrom (c .before .before .before .before .before .before .before .before .args .t .now) (c .before .before .before .before .before .before .before .before .args .base) (keepsAt (c .before .before .before .before .before .before .before .before .args .t .now) (c .before .before .before .before .before .before .before .before .args .base) m))) q,
-      c .before .before .before .places-by .ensures .1 ∙ ap (λ (m : ℕ). put (c .before .before .before .before .before .before .before .before .args .r .now) (c .before .before .before .before .before .before .before .before .args .to) (each bytes4 (blankedFrom (c .before .before .before .before .before .before .before .before .args .t .now) (c .before .before .before .before .before .before .before .before .args .base) (keepsAt (c .before .before .before .before .before .before .before .before .args .t .now) (c .before .before .before .before .before .before .before .before .args .base) m)))) q,
+      c .before .before .before .places-by .ensures .0 ∙ ap (λ (m : ℕ). c .before .before .before .before .before .before .before .before .args .to + 4 * length (blankedFrom (c .before .before .before .before .before .before .before .before .args .t .now) (c .before .before .before .before .before .before .before .before .args .base) (keepsAt (c .before .before .before .before .before .before .before .before .args .closed) (c .before .before .before .before .before .before .before .before .args .t .now) (c .before .before .before .before .before .before .before .before .args .base) m))) q,
+      c .before .before .before .places-by .ensures .1 ∙ ap (λ (m : ℕ). put (c .before .before .before .before .before .before .before .before .args .r .now) (c .before .before .before .before .before .before .before .before .args .to) (each bytes4 (blankedFrom (c .before .before .before .before .before .before .before .before .args .t .now) (c .before .before .before .before .before .before .before .before .args .base) (keepsAt (c .before .before .before .before .before .before .before .before .args .closed) (c .before .before .before .before .before .before .before .before .args .t .now) (c .before .before .before .before .before .before .before .before .args .base) m)))) q,
     )
 
 pub places-in-spec : {M : Type 1} → statement M

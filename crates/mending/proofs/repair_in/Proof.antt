@@ -27,7 +27,7 @@ same-length : tie.Need-same-length
 same-length c = search needs
 
 returns : tie.Need-returns
-returns c = c .before .before .before .repair-by .ensures ∙ ap (λ (m : ℕ). packed (c .before .before .before .before .before .before .before .args .t .now) (c .before .before .before .before .before .before .before .args .base) (keepsAt (c .before .before .before .before .before .before .before .args .t .now) (c .before .before .before .before .before .before .before .args .base) m)) (room (c .before .before .before .before .before .before .before .args .n) (omega arith))
+returns c = c .before .before .before .repair-by .ensures ∙ ap (λ (m : ℕ). packed (c .before .before .before .before .before .before .before .args .t .now) (c .before .before .before .before .before .before .before .args .base) (keepsAt (c .before .before .before .before .before .before .before .args .closed) (c .before .before .before .before .before .before .before .args .t .now) (c .before .before .before .before .before .before .before .args .base) m)) (room (c .before .before .before .before .before .before .before .args .n) (omega arith))
 
 pub repair-in-spec : {M : Type 1} → statement M
 repair-in-spec =

@@ -12,6 +12,7 @@ use Rattle.salvage.proofs.count_blanked.Statement.{statement}
 use Rattle.salvage.proofs.count_blanked.Tie as tie
 use Rattle.salvage.proofs.count_blanked.Reads as reads
 use Rattle.salvage.proofs.count_blanked.Lts as lts
+use Rattle.entries.proofs.closed_of.Reads as closed-of-reads
 use Rattle.entries.proofs.place_of.Reads as place-of-reads
 use Rattle.entries.proofs.slots_of.Reads as slots-of-reads
 use Rattle.mending.proofs.blanked_in.Reads as blanked-in-reads
@@ -43,29 +44,37 @@ slots-of-requires c κs =
     let w = few-bodies (c .before .before .before .before .args .t .now) (c .before .before .before .before .pre .0) in
     omega arith
 
-blanked-in-requires : tie.Need-blanked-in-requires Inv-loop μ-loop
-blanked-in-requires c κs =
+closed-of-requires : tie.Need-closed-of-requires Inv-loop μ-loop
+closed-of-requires c κs =
     let F = turn (c .before .before .before .before .before .args .t .now) (c .before .before .before .before .before .pre .0) (c .before .before .before .loop .at) (c .before .before .before .loop .left) (c .before .before .before .before .before .pre .1) (c .before .before .before .loop .inv .0) (omega arith) in
     let p = F .past in
     let i = F .inside in
     let w = few-bodies (c .before .before .before .before .before .args .t .now) (c .before .before .before .before .before .pre .0) in
-    (omega (arith, c .before .place-of .ensures .0, c .slots-of .ensures .0), omega (arith, c .slots-of .ensures .0, F .few))
+    omega arith
+
+blanked-in-requires : tie.Need-blanked-in-requires Inv-loop μ-loop
+blanked-in-requires c κs =
+    let F = turn (c .before .before .before .before .before .before .args .t .now) (c .before .before .before .before .before .before .pre .0) (c .before .before .before .before .loop .at) (c .before .before .before .before .loop .left) (c .before .before .before .before .before .before .pre .1) (c .before .before .before .before .loop .inv .0) (omega arith) in
+    let p = F .past in
+    let i = F .inside in
+    let w = few-bodies (c .before .before .before .before .before .before .args .t .now) (c .before .before .before .before .before .before .pre .0) in
+    (omega (arith, c .before .before .place-of .ensures .0, c .before .slots-of .ensures .0), omega (arith, c .before .slots-of .ensures .0, F .few))
 
 add-count : tie.Need-add-count Inv-loop μ-loop
 add-count c =
-    let F = turn (c .before .before .before .before .before .before .args .t .now) (c .before .before .before .before .before .before .pre .0) (c .before .before .before .before .loop .at) (c .before .before .before .before .loop .left) (c .before .before .before .before .before .before .pre .1) (c .before .before .before .before .loop .inv .0) (omega arith) in
+    let F = turn (c .before .before .before .before .before .before .before .args .t .now) (c .before .before .before .before .before .before .before .pre .0) (c .before .before .before .before .before .loop .at) (c .before .before .before .before .before .loop .left) (c .before .before .before .before .before .before .before .pre .1) (c .before .before .before .before .before .loop .inv .0) (omega arith) in
     let p = F .past in
     let i = F .inside in
-    let w = few-bodies (c .before .before .before .before .before .before .args .t .now) (c .before .before .before .before .before .before .pre .0) in
-    omega (arith, c .blanked-in .ensures .1, c .before .slots-of .ensures .0, F .few, c .before .before .before .before .before .before .pre .1)
+    let w = few-bodies (c .before .before .before .before .before .before .before .args .t .now) (c .before .before .before .before .before .before .before .pre .0) in
+    omega (arith, c .blanked-in .ensures .1, c .before .before .slots-of .ensures .0, F .few, c .before .before .before .before .before .before .before .pre .1)
 
 add-at : tie.Need-add-at Inv-loop μ-loop
 add-at c =
-    let F = turn (c .before .before .before .before .before .before .args .t .now) (c .before .before .before .before .before .before .pre .0) (c .before .before .before .before .loop .at) (c .before .before .before .before .loop .left) (c .before .before .before .before .before .before .pre .1) (c .before .before .before .before .loop .inv .0) (omega arith) in
+    let F = turn (c .before .before .before .before .before .before .before .args .t .now) (c .before .before .before .before .before .before .before .pre .0) (c .before .before .before .before .before .loop .at) (c .before .before .before .before .before .loop .left) (c .before .before .before .before .before .before .before .pre .1) (c .before .before .before .before .before .loop .inv .0) (omega arith) in
     let p = F .past in
     let i = F .inside in
-    let w = few-bodies (c .before .before .before .before .before .before .args .t .now) (c .before .before .before .before .before .before .pre .0) in
-    omega (arith, c .before .before .before .before .before .before .pre .1)
+    let w = few-bodies (c .before .before .before .before .before .before .before .args .t .now) (c .before .before .before .before .before .before .before .pre .0) in
+    omega (arith, c .before .before .before .before .before .before .before .pre .1)
 
 sub-left : tie.Need-sub-left Inv-loop μ-loop
 sub-left c = search needs
@@ -75,12 +84,12 @@ loop-less c = search needs
 
 loop-again : tie.Need-loop-again Inv-loop μ-loop
 loop-again c =
-    let F = turn (c .before .before .before .before .before .before .args .t .now) (c .before .before .before .before .before .before .pre .0) (c .before .before .before .before .loop .at) (c .before .before .before .before .loop .left) (c .before .before .before .before .before .before .pre .1) (c .before .before .before .before .loop .inv .0) (omega arith) in
+    let F = turn (c .before .before .before .before .before .before .before .args .t .now) (c .before .before .before .before .before .before .before .pre .0) (c .before .before .before .before .before .loop .at) (c .before .before .before .before .before .loop .left) (c .before .before .before .before .before .before .before .pre .1) (c .before .before .before .before .before .loop .inv .0) (omega arith) in
     let p = F .past in
     let i = F .inside in
-    let w = few-bodies (c .before .before .before .before .before .before .args .t .now) (c .before .before .before .before .before .before .pre .0) in
-    let k = count-more (c .before .before .before .before .before .before .args .t .now) (c .before .before .before .before .loop .at) (c .before .before .before .before .loop .left) (omega arith) (c .before .before .place-of .ensures .0) (c .before .slots-of .ensures .0) in
-    (omega arith, c .before .before .before .before .loop .inv .1 ∙ omega (arith, c .blanked-in .ensures .0), omega (arith, c .blanked-in .ensures .1, c .before .slots-of .ensures .0, F .few))
+    let w = few-bodies (c .before .before .before .before .before .before .before .args .t .now) (c .before .before .before .before .before .before .before .pre .0) in
+    let k = count-more (c .before .before .before .before .before .before .before .args .t .now) (c .before .before .before .before .before .loop .at) (c .before .before .before .before .before .loop .left) (omega arith) (c .before .before .before .place-of .ensures .0) (c .before .before .slots-of .ensures .0) (c .before .closed-of .ensures .0) in
+    (omega arith, c .before .before .before .before .before .loop .inv .1 ∙ omega (arith, c .blanked-in .ensures .0), omega (arith, c .blanked-in .ensures .1, c .before .before .slots-of .ensures .0, F .few))
 
 returns : tie.Need-returns Inv-loop μ-loop
 returns c =
@@ -96,6 +105,7 @@ count-blanked-spec =
     loop-holds
     place-of-requires
     slots-of-requires
+    closed-of-requires
     blanked-in-requires
     add-count
     add-at

@@ -16,6 +16,7 @@ use Rattle.salvage.proofs.put_blanked.Statement.{statement}
 use Rattle.salvage.proofs.put_blanked.Tie as tie
 use Rattle.salvage.proofs.put_blanked.Reads as reads
 use Rattle.salvage.proofs.put_blanked.Lts as lts
+use Rattle.entries.proofs.closed_of.Reads as closed-of-reads
 use Rattle.entries.proofs.place_of.Reads as place-of-reads
 use Rattle.entries.proofs.slots_of.Reads as slots-of-reads
 use Rattle.mending.proofs.places_in.Reads as places-in-reads
@@ -56,22 +57,30 @@ slots-of-requires c κs =
     let w = few-bodies (c .before .before .before .before .before .args .t .now) (c .before .before .before .before .before .pre .0) in
     omega arith
 
-places-in-requires : tie.Need-places-in-requires Inv-loop μ-loop
-places-in-requires c κs =
-    let F = turn (c .before .before .before .before .before .before .before .args .t .now) (c .before .before .before .before .before .before .before .pre .0) (c .before .before .before .before .loop .at) (c .before .before .before .before .loop .left) (c .before .before .before .before .before .before .before .pre .1) (c .before .before .before .before .loop .inv .0) (omega arith) in
+closed-of-requires : tie.Need-closed-of-requires Inv-loop μ-loop
+closed-of-requires c κs =
+    let F = turn (c .before .before .before .before .before .before .args .t .now) (c .before .before .before .before .before .before .pre .0) (c .before .before .before .loop .at) (c .before .before .before .loop .left) (c .before .before .before .before .before .before .pre .1) (c .before .before .before .loop .inv .0) (omega arith) in
     let p = F .past in
     let i = F .inside in
-    let w = few-bodies (c .before .before .before .before .before .before .before .args .t .now) (c .before .before .before .before .before .before .before .pre .0) in
-    let k = count-more (c .before .before .before .before .before .before .before .args .t .now) (c .before .before .before .before .loop .at) (c .before .before .before .before .loop .left) (omega arith) (c .before .before .place-of .ensures .0) (c .before .slots-of .ensures .0) in
-    (omega (arith, c .before .before .place-of .ensures .0, c .before .slots-of .ensures .0), omega (arith, c .before .slots-of .ensures .0, F .few), omega (arith, c .before .before .before .before .loop .inv .1, c .before .before .before .before .loop .inv .2))
+    let w = few-bodies (c .before .before .before .before .before .before .args .t .now) (c .before .before .before .before .before .before .pre .0) in
+    omega arith
+
+places-in-requires : tie.Need-places-in-requires Inv-loop μ-loop
+places-in-requires c κs =
+    let F = turn (c .before .before .before .before .before .before .before .before .args .t .now) (c .before .before .before .before .before .before .before .before .pre .0) (c .before .before .before .before .before .loop .at) (c .before .before .before .before .before .loop .left) (c .before .before .before .before .before .before .before .before .pre .1) (c .before .before .before .before .before .loop .inv .0) (omega arith) in
+    let p = F .past in
+    let i = F .inside in
+    let w = few-bodies (c .before .before .before .before .before .before .before .before .args .t .now) (c .before .before .before .before .before .before .before .before .pre .0) in
+    let k = count-more (c .before .before .before .before .before .before .before .before .args .t .now) (c .before .before .before .before .before .loop .at) (c .before .before .before .before .before .loop .left) (omega arith) (c .before .before .before .place-of .ensures .0) (c .before .before .slots-of .ensures .0) (c .before .closed-of .ensures .0) in
+    (omega (arith, c .before .before .before .place-of .ensures .0, c .before .before .slots-of .ensures .0), omega (arith, c .before .before .slots-of .ensures .0, F .few), omega (arith, c .before .before .before .before .before .loop .inv .1, c .before .before .before .before .before .loop .inv .2))
 
 add-at : tie.Need-add-at Inv-loop μ-loop
 add-at c =
-    let F = turn (c .before .before .before .before .before .before .before .before .before .before .args .t .now) (c .before .before .before .before .before .before .before .before .before .before .pre .0) (c .before .before .before .before .before .before .before .loop .at) (c .before .before .before .before .before .before .before .loop .left) (c .before .before .before .before .before .before .before .before .before .before .pre .1) (c .before .before .before .before .before .before .before .loop .inv .0) (omega arith) in
+    let F = turn (c .before .before .before .before .before .before .before .before .before .before .before .args .t .now) (c .before .before .before .before .before .before .before .before .before .before .before .pre .0) (c .before .before .before .before .before .before .before .before .loop .at) (c .before .before .before .before .before .before .before .before .loop .left) (c .before .before .before .before .before .before .before .before .before .before .before .pre .1) (c .before .before .before .before .before .before .before .before .loop .inv .0) (omega arith) in
     let p = F .past in
     let i = F .inside in
-    let w = few-bodies (c .before .before .before .before .before .before .before .before .before .before .args .t .now) (c .before .before .before .before .before .before .before .before .before .before .pre .0) in
-    omega (arith, c .before .before .before .before .before .before .before .before .before .before .pre .1)
+    let w = few-bodies (c .before .before .before .before .before .before .before .before .before .before .before .args .t .now) (c .before .before .before .before .before .before .before .before .before .before .before .pre .0) in
+    omega (arith, c .before .before .before .before .before .before .before .before .before .before .before .pre .1)
 
 sub-left : tie.Need-sub-left Inv-loop μ-loop
 sub-left c = search needs
@@ -81,15 +90,15 @@ loop-less c = search needs
 
 loop-again : tie.Need-loop-again Inv-loop μ-loop
 loop-again c =
-    let l = c .before .before .before .before .before .before .before .loop in
-    let t = c .before .before .before .before .before .before .before .before .before .before .args .t .now in
-    let k = count-more (c .before .before .before .before .before .before .before .before .before .before .args .t .now) (l .at) (l .left) (omega arith) (c .before .before .before .before .before .place-of .ensures .0) (c .before .before .before .before .slots-of .ensures .0) in
-    let xs = blankedFrom (c .before .before .before .before .before .before .before .before .before .before .args .t .now) (c .before .before .before .before .before .place-of .result) (keepsAt (c .before .before .before .before .before .before .before .before .before .before .args .t .now) (c .before .before .before .before .before .place-of .result) (c .before .before .before .before .slots-of .result)) in
+    let l = c .before .before .before .before .before .before .before .before .loop in
+    let t = c .before .before .before .before .before .before .before .before .before .before .before .args .t .now in
+    let k = count-more (c .before .before .before .before .before .before .before .before .before .before .before .args .t .now) (l .at) (l .left) (omega arith) (c .before .before .before .before .before .before .place-of .ensures .0) (c .before .before .before .before .before .slots-of .ensures .0) (c .before .before .before .before .closed-of .ensures .0) in
+    let xs = blankedFrom (c .before .before .before .before .before .before .before .before .before .before .before .args .t .now) (c .before .before .before .before .before .before .place-of .result) (keepsAt (c .before .before .before .before .closed-of .result) (c .before .before .before .before .before .before .before .before .before .before .before .args .t .now) (c .before .before .before .before .before .before .place-of .result) (c .before .before .before .before .before .slots-of .result)) in
     let m = each-four xs in (
       omega arith,
       l .inv .1 ∙ omega (arith, c .before .before .places-in .ensures .0),
       ap length (c .before .before .places-in .ensures .1) ∙ length-put (l .r) (l .to) (each bytes4 xs) (omega (arith, l .inv .1)) ∙ l .inv .2,
-      l .inv .3 ∙ places-more (l .r) _ (l .to) _ (blankedIn (c .before .before .before .before .before .before .before .before .before .before .args .t .now) (l .at) (l .left)) xs (blankedIn (c .before .before .before .before .before .before .before .before .before .before .args .t .now) (l .at + entrySize) (l .left - 1)) (blanked-more (c .before .before .before .before .before .before .before .before .before .before .args .t .now) (l .at) (l .left) (omega arith) (c .before .before .before .before .before .place-of .ensures .0) (c .before .before .before .before .slots-of .ensures .0)) (omega (arith, l .inv .1)) (c .before .before .places-in .ensures .0) (c .before .before .places-in .ensures .1),
+      l .inv .3 ∙ places-more (l .r) _ (l .to) _ (blankedIn (c .before .before .before .before .before .before .before .before .before .before .before .args .t .now) (l .at) (l .left)) xs (blankedIn (c .before .before .before .before .before .before .before .before .before .before .before .args .t .now) (l .at + entrySize) (l .left - 1)) (blanked-more (c .before .before .before .before .before .before .before .before .before .before .before .args .t .now) (l .at) (l .left) (omega arith) (c .before .before .before .before .before .before .place-of .ensures .0) (c .before .before .before .before .before .slots-of .ensures .0) (c .before .before .before .before .closed-of .ensures .0)) (omega (arith, l .inv .1)) (c .before .before .places-in .ensures .0) (c .before .before .places-in .ensures .1),
     )
 
 same-length : tie.Need-same-length Inv-loop μ-loop
@@ -110,6 +119,7 @@ put-blanked-spec =
     loop-holds
     place-of-requires
     slots-of-requires
+    closed-of-requires
     places-in-requires
     add-at
     sub-left

@@ -16,6 +16,7 @@ use Rattle.salvage.proofs.put_moved.Statement.{statement}
 use Rattle.salvage.proofs.put_moved.Tie as tie
 use Rattle.salvage.proofs.put_moved.Reads as reads
 use Rattle.salvage.proofs.put_moved.Lts as lts
+use Rattle.entries.proofs.closed_of.Reads as closed-of-reads
 use Rattle.entries.proofs.place_of.Reads as place-of-reads
 use Rattle.entries.proofs.slots_of.Reads as slots-of-reads
 use Rattle.mending.proofs.moved_in.Reads as moved-in-reads
@@ -50,32 +51,40 @@ slots-of-requires c κs =
     let w = few-bodies (c .before .before .before .before .before .args .t .now) (c .before .before .before .before .before .pre .0) in
     omega arith
 
-moved-in-requires : tie.Need-moved-in-requires Inv-loop μ-loop
-moved-in-requires c κs =
-    let F = turn (c .before .before .before .before .before .before .before .args .t .now) (c .before .before .before .before .before .before .before .pre .0) (c .before .before .before .before .loop .at) (c .before .before .before .before .loop .left) (c .before .before .before .before .before .before .before .pre .1) (c .before .before .before .before .loop .inv .0) (omega arith) in
+closed-of-requires : tie.Need-closed-of-requires Inv-loop μ-loop
+closed-of-requires c κs =
+    let F = turn (c .before .before .before .before .before .before .args .t .now) (c .before .before .before .before .before .before .pre .0) (c .before .before .before .loop .at) (c .before .before .before .loop .left) (c .before .before .before .before .before .before .pre .1) (c .before .before .before .loop .inv .0) (omega arith) in
     let p = F .past in
     let i = F .inside in
-    let w = few-bodies (c .before .before .before .before .before .before .before .args .t .now) (c .before .before .before .before .before .before .before .pre .0) in
-    (omega (arith, c .before .before .place-of .ensures .0, c .before .slots-of .ensures .0), omega (arith, c .before .slots-of .ensures .0, F .few))
+    let w = few-bodies (c .before .before .before .before .before .before .args .t .now) (c .before .before .before .before .before .before .pre .0) in
+    omega arith
+
+moved-in-requires : tie.Need-moved-in-requires Inv-loop μ-loop
+moved-in-requires c κs =
+    let F = turn (c .before .before .before .before .before .before .before .before .args .t .now) (c .before .before .before .before .before .before .before .before .pre .0) (c .before .before .before .before .before .loop .at) (c .before .before .before .before .before .loop .left) (c .before .before .before .before .before .before .before .before .pre .1) (c .before .before .before .before .before .loop .inv .0) (omega arith) in
+    let p = F .past in
+    let i = F .inside in
+    let w = few-bodies (c .before .before .before .before .before .before .before .before .args .t .now) (c .before .before .before .before .before .before .before .before .pre .0) in
+    (omega (arith, c .before .before .before .place-of .ensures .0, c .before .before .slots-of .ensures .0), omega (arith, c .before .before .slots-of .ensures .0, F .few))
 
 write2-requires : tie.Need-write2-requires Inv-loop μ-loop
-write2-requires c κs = omega (arith, c .before .before .before .before .before .loop .inv .1, c .before .before .before .before .before .loop .inv .2)
+write2-requires c κs = omega (arith, c .before .before .before .before .before .before .loop .inv .1, c .before .before .before .before .before .before .loop .inv .2)
 
 add-to : tie.Need-add-to Inv-loop μ-loop
 add-to c =
-    let F = turn (c .before .before .before .before .before .before .before .before .before .before .before .args .t .now) (c .before .before .before .before .before .before .before .before .before .before .before .pre .0) (c .before .before .before .before .before .before .before .before .loop .at) (c .before .before .before .before .before .before .before .before .loop .left) (c .before .before .before .before .before .before .before .before .before .before .before .pre .1) (c .before .before .before .before .before .before .before .before .loop .inv .0) (omega arith) in
+    let F = turn (c .before .before .before .before .before .before .before .before .before .before .before .before .args .t .now) (c .before .before .before .before .before .before .before .before .before .before .before .before .pre .0) (c .before .before .before .before .before .before .before .before .before .loop .at) (c .before .before .before .before .before .before .before .before .before .loop .left) (c .before .before .before .before .before .before .before .before .before .before .before .before .pre .1) (c .before .before .before .before .before .before .before .before .before .loop .inv .0) (omega arith) in
     let p = F .past in
     let i = F .inside in
-    let w = few-bodies (c .before .before .before .before .before .before .before .before .before .before .before .args .t .now) (c .before .before .before .before .before .before .before .before .before .before .before .pre .0) in
-    omega (arith, c .before .before .before .before .before .before .before .before .loop .inv .1, c .before .before .before .before .before .before .before .before .before .before .before .pre .1)
+    let w = few-bodies (c .before .before .before .before .before .before .before .before .before .before .before .before .args .t .now) (c .before .before .before .before .before .before .before .before .before .before .before .before .pre .0) in
+    omega (arith, c .before .before .before .before .before .before .before .before .before .loop .inv .1, c .before .before .before .before .before .before .before .before .before .before .before .before .pre .1)
 
 add-at : tie.Need-add-at Inv-loop μ-loop
 add-at c =
-    let F = turn (c .before .before .before .before .before .before .before .before .before .before .before .args .t .now) (c .before .before .before .before .before .before .before .before .before .before .before .pre .0) (c .before .before .before .before .before .before .before .before .loop .at) (c .before .before .before .before .before .before .before .before .loop .left) (c .before .before .before .before .before .before .before .before .before .before .before .pre .1) (c .before .before .before .before .before .before .before .before .loop .inv .0) (omega arith) in
+    let F = turn (c .before .before .before .before .before .before .before .before .before .before .before .before .args .t .now) (c .before .before .before .before .before .before .before .before .before .before .before .before .pre .0) (c .before .before .before .before .before .before .before .before .before .loop .at) (c .before .before .before .before .before .before .before .before .before .loop .left) (c .before .before .before .before .before .before .before .before .before .before .before .before .pre .1) (c .before .before .before .before .before .before .before .before .before .loop .inv .0) (omega arith) in
     let p = F .past in
     let i = F .inside in
-    let w = few-bodies (c .before .before .before .before .before .before .before .before .before .before .before .args .t .now) (c .before .before .before .before .before .before .before .before .before .before .before .pre .0) in
-    omega (arith, c .before .before .before .before .before .before .before .before .before .before .before .pre .1)
+    let w = few-bodies (c .before .before .before .before .before .before .before .before .before .before .before .before .args .t .now) (c .before .before .before .before .before .before .before .before .before .before .before .before .pre .0) in
+    omega (arith, c .before .before .before .before .before .before .before .before .before .before .before .before .pre .1)
 
 sub-left : tie.Need-sub-left Inv-loop μ-loop
 sub-left c = search needs
@@ -85,9 +94,9 @@ loop-less c = search needs
 
 loop-again : tie.Need-loop-again Inv-loop μ-loop
 loop-again c =
-    let l = c .before .before .before .before .before .before .before .before .loop in
-    let k = moved-more (c .before .before .before .before .before .before .before .before .before .before .before .args .t .now) (l .at) (l .left) (omega arith) (c .before .before .before .before .before .before .place-of .ensures .0) (c .before .before .before .before .before .slots-of .ensures .0) in
-    let z = movedIn (c .before .before .before .before .before .before .before .before .before .before .before .args .t .now) (l .at + entrySize) (l .left - 1) in (
+    let l = c .before .before .before .before .before .before .before .before .before .loop in
+    let k = moved-more (c .before .before .before .before .before .before .before .before .before .before .before .before .args .t .now) (l .at) (l .left) (omega arith) (c .before .before .before .before .before .before .before .place-of .ensures .0) (c .before .before .before .before .before .before .slots-of .ensures .0) (c .before .before .before .before .before .closed-of .ensures .0) in
+    let z = movedIn (c .before .before .before .before .before .before .before .before .before .before .before .before .args .t .now) (l .at + entrySize) (l .left - 1) in (
       omega arith,
       omega arith,
       ap length (c .before .before .write2 .ensures) ∙ length-put (l .r) (l .to) _ (omega (arith, l .inv .1)) ∙ l .inv .2,
@@ -112,6 +121,7 @@ put-moved-spec =
     loop-holds
     place-of-requires
     slots-of-requires
+    closed-of-requires
     moved-in-requires
     write2-requires
     add-to

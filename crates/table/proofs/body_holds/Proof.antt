@@ -1,7 +1,8 @@
 use mathlib.Core.Path.{sym, _∙_}
 use native.Mathlib.Omega.{arith}
 use borrow.Author.Tests.{not-true, not-false}
-use Rattle.table.proofs.Laws.{holds-not, holds-lines, holds-kept, holds-bare}
+use Rattle.table.proofs.Laws.{holds-not, holds-lines, holds-years, holds-kept, holds-bare}
+use Rattle.body.proofs.Laws.{summed-right}
 use borrow.Author.Needs.{needs}
 use Rattle.table.proofs.body_holds.Statement.{statement}
 use Rattle.table.proofs.body_holds.Tie as tie
@@ -37,16 +38,24 @@ lines-hold-requires c κs = search needs
 returns-2 : tie.Need-returns-2
 returns-2 c = sym (holds-lines (c .before .before .before .before .before .before .before .before .before .args .l) (c .before .before .before .before .before .before .before .before .before .args .t .now) (c .before .before .before .before .before .before .before .before .before .args .at) (c .before .before .before .before .before .before .before .place-of .ensures .0) (c .before .before .before .before .before .before .slots-of .ensures .0) (sym (c .before .before .before .before .before .judge .ensures) ∙ c .before .before .before .paid .given .1) (c .before .lines-hold .ensures) (not-true _ (c .if1 .taken)))
 
-kept-are-requires : tie.Need-kept-are-requires
-kept-are-requires c κs =
-    let r = c .before .before .before .before .before .before .before .before .before .before .pre .0 .room (c .if2 .taken) in
-    omega arith
+years-hold-requires : tie.Need-years-hold-requires
+years-hold-requires c κs =
+    let e = sym (c .before .before .before .before .before .judge .ensures) ∙ c .before .before .before .paid .given .1 in
+    (c .before .before .before .before .before .before .before .before .before .pre .0, omega arith, omega arith, summed-right _ _ _ _ e .0)
 
 returns-3 : tie.Need-returns-3
-returns-3 c = c .kept-are .ensures ∙ sym (holds-kept (c .before .before .before .before .before .before .before .before .before .before .before .args .l) (c .before .before .before .before .before .before .before .before .before .before .before .args .t .now) (c .before .before .before .before .before .before .before .before .before .before .before .args .at) (c .before .before .before .before .before .before .before .before .before .place-of .ensures .0) (c .before .before .before .before .before .before .before .before .slots-of .ensures .0) (sym (c .before .before .before .before .before .before .before .judge .ensures) ∙ c .before .before .before .before .before .paid .given .1) (c .before .before .before .lines-hold .ensures) (not-false _ (c .before .before .if1 .left)) (c .before .if2 .taken))
+returns-3 c = sym (holds-years (c .before .before .before .before .before .before .before .before .before .before .before .args .l) (c .before .before .before .before .before .before .before .before .before .before .before .args .t .now) (c .before .before .before .before .before .before .before .before .before .before .before .args .at) (c .before .before .before .before .before .before .before .before .before .place-of .ensures .0) (c .before .before .before .before .before .before .before .before .slots-of .ensures .0) (sym (c .before .before .before .before .before .before .before .judge .ensures) ∙ c .before .before .before .before .before .paid .given .1) (c .before .before .before .lines-hold .ensures) (not-false _ (c .before .before .if1 .left)) (c .before .years-hold .ensures) (not-true _ (c .if2 .taken)))
+
+kept-are-requires : tie.Need-kept-are-requires
+kept-are-requires c κs =
+    let r = c .before .before .before .before .before .before .before .before .before .before .before .before .pre .0 .room (c .if3 .taken) in
+    omega arith
 
 returns-4 : tie.Need-returns-4
-returns-4 c = sym (holds-bare (c .before .before .before .before .before .before .before .before .before .before .args .l) (c .before .before .before .before .before .before .before .before .before .before .args .t .now) (c .before .before .before .before .before .before .before .before .before .before .args .at) (c .before .before .before .before .before .before .before .before .place-of .ensures .0) (c .before .before .before .before .before .before .before .slots-of .ensures .0) (sym (c .before .before .before .before .before .before .judge .ensures) ∙ c .before .before .before .before .paid .given .1) (c .before .before .lines-hold .ensures) (not-false _ (c .before .if1 .left)) (c .if2 .left))
+returns-4 c = c .kept-are .ensures ∙ sym (holds-kept (c .before .before .before .before .before .before .before .before .before .before .before .before .before .args .l) (c .before .before .before .before .before .before .before .before .before .before .before .before .before .args .t .now) (c .before .before .before .before .before .before .before .before .before .before .before .before .before .args .at) (c .before .before .before .before .before .before .before .before .before .before .before .place-of .ensures .0) (c .before .before .before .before .before .before .before .before .before .before .slots-of .ensures .0) (sym (c .before .before .before .before .before .before .before .before .before .judge .ensures) ∙ c .before .before .before .before .before .before .before .paid .given .1) (c .before .before .before .before .before .lines-hold .ensures) (not-false _ (c .before .before .before .before .if1 .left)) (c .before .before .before .years-hold .ensures) (not-false _ (c .before .before .if2 .left)) (c .before .if3 .taken))
+
+returns-5 : tie.Need-returns-5
+returns-5 c = sym (holds-bare (c .before .before .before .before .before .before .before .before .before .before .before .before .args .l) (c .before .before .before .before .before .before .before .before .before .before .before .before .args .t .now) (c .before .before .before .before .before .before .before .before .before .before .before .before .args .at) (c .before .before .before .before .before .before .before .before .before .before .place-of .ensures .0) (c .before .before .before .before .before .before .before .before .before .slots-of .ensures .0) (sym (c .before .before .before .before .before .before .before .before .judge .ensures) ∙ c .before .before .before .before .before .before .paid .given .1) (c .before .before .before .before .lines-hold .ensures) (not-false _ (c .before .before .before .if1 .left)) (c .before .before .years-hold .ensures) (not-false _ (c .before .if2 .left)) (c .if3 .left))
 
 pub body-holds-spec : {M : Type 1} → statement M
 body-holds-spec =
@@ -60,6 +69,8 @@ body-holds-spec =
     returns
     lines-hold-requires
     returns-2
-    kept-are-requires
+    years-hold-requires
     returns-3
-    returns-4)
+    kept-are-requires
+    returns-4
+    returns-5)

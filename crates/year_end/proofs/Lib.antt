@@ -1,0 +1,3 @@
+pub mod Laws
+pub mod Closed
+pub mod Own

@@ -1,0 +1,2 @@
+pub mod YearEnd
+pub mod Inner
