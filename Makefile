@@ -19,6 +19,8 @@ endif
 NAME := hondivole-$(VERSION)-x86_64
 TREE := target/dist/$(NAME)
 DEB := target/dist/deb
+# What the tool is linked with, as Debian names it.
+NEEDS := libc6, libgcc-s1
 # The time that packed files get; that of the last commit where there is git, so that a tree packs the same twice.
 SOURCE_DATE_EPOCH ?= $(shell git log -1 --format=%ct 2>/dev/null || echo 0)
 
@@ -30,7 +32,7 @@ $(ARCHIVE):
 	./library
 
 target/cargo/release/hondivole: $(ARCHIVE) $(wildcard tool/src/*.rs tool/src/commands/*.rs bindings/rust/src/*.rs)
-	cd tool && cargo --offline build --release
+	cd tool && HONDIVOLE_LIB_DIR="$(abspath $(dir $(ARCHIVE)))" CARGO_TARGET_DIR=../target/cargo cargo --offline build --release
 
 # Where the archive will be found once installed is all that is filled in.
 define pc
@@ -46,7 +48,7 @@ $(call pc,$(2)) > "$(1)/lib/pkgconfig/hondivole.pc"
 chmod 644 "$(1)/lib/pkgconfig/hondivole.pc"
 install -m 644 docs/man/hondivole.1 "$(1)/share/man/man1/"
 install -m 644 docs/man/hondivole.3 "$(1)/share/man/man3/"
-install -m 644 LICENSE KIT docs/TOOL.md docs/RULES.md docs/FORMAT.md "$(1)/share/doc/hondivole/"
+install -m 644 LICENSE KIT docs/TOOL.md docs/RULES.md docs/FORMAT.md docs/flow.svg docs/table.svg "$(1)/share/doc/hondivole/"
 $(if $(TOOL),install -d "$(1)/bin" && install -m 755 "$(TOOL)" "$(1)/bin/hondivole")
 endef
 
@@ -75,6 +77,6 @@ deb: $(ARCHIVE) $(TOOL)
 	gzip -9n "$(DEB)/usr/share/man/man1/hondivole.1" "$(DEB)/usr/share/man/man3/hondivole.3"
 	cp LICENSE "$(DEB)/usr/share/doc/hondivole/copyright"
 	{ echo "Package: hondivole"; echo "Version: $(VERSION)"; echo "Architecture: amd64"; echo "Section: libdevel"; echo "Priority: optional"; \
-	  $(if $(TOOL),echo "Depends: libc6";) echo "Maintainer: the order desk <desk@localhost>"; \
+	  $(if $(TOOL),echo "Depends: $(NEEDS)";) echo "Maintainer: the order desk <desk@localhost>"; \
 	  echo "Description: order tables of a treasury house, library and tool"; echo " Proved with $$(cat KIT)."; } > "$(DEB)/DEBIAN/control"
 	dpkg-deb --root-owner-group --build "$(DEB)" "target/dist/hondivole_$(VERSION)_amd64.deb"

@@ -32,7 +32,21 @@ out_has() { grep -qF -- "$1" out; }
 err_has() { grep -qF -- "$1" err; }
 same() { cmp -s "$1" "$2"; }
 absent() { [ ! -e "$1" ]; }
-json() { python3 -c 'import json, sys; [json.loads(line) for line in open("out")]'; }
+# json: out has an object a line; the names of their members, command by command, are added to the file names.
+json() {
+  python3 -c '
+import json
+def names(value):
+    if isinstance(value, dict):
+        for name, member in value.items():
+            yield name
+            yield from names(member)
+    if isinstance(value, list):
+        for member in value:
+            yield from names(member)
+found = [name for line in open("out") for name in names(json.loads(line))]
+open("names", "a").write("".join(name + "\n" for name in found))'
+}
 
 run=$root/examples/run.xml
 is 0 "$tool" open t --abi 01234 000471:4 471:4
@@ -467,6 +481,19 @@ if "${as_user[@]}" "$tool" totals fresh > /dev/null 2>&1; then
 else
   echo "tests/tool/files.sh: nobody else can run the program here, so permissions were not tried"
 fi
+
+# Every member of what is told for programs is in docs/TOOL.md.
+is 0 "$tool" open j1 --abi 01234 471:4 --json
+holds json
+is 0 "$tool" journal fresh 471 /dev/null --json
+holds json
+is 0 "$tool" replay t.log t-json --json
+holds json
+sed -n '/^## For programs/,/^## /p' "$root/docs/TOOL.md" > told
+holds test "$(sort -u names | wc -l)" -ge 34
+for name in $(sort -u names); do
+  holds grep -qF "\`$name\`" told
+done
 
 [ "$wrong" -eq 0 ] && echo "$right right"
 [ "$wrong" -eq 0 ]

@@ -15,7 +15,15 @@ said make -s install PREFIX="$work/prefix" ARCHIVE="$archive" TOOL="$tool"
 for file in bin/hondivole include/hondivole.h lib/libhondivole.a lib/pkgconfig/hondivole.pc share/man/man1/hondivole.1 share/man/man3/hondivole.3; do
   [ -f "$work/prefix/$file" ] || { echo "make install left no $file"; exit 1; }
 done
-"$work/prefix/bin/hondivole" open "$work/table" --abi 01234 471:4 > /dev/null
+# works PROGRAM: a tool that was installed or packed takes a flow, and closes a year.
+works() {
+  rm -f "$work/table" "$work/table.log" "$work/table.lock"
+  said "$1" open "$work/table" --abi 01234 000471:4 471:4
+  said "$1" flow "$work/table" "$root/examples/run.xml"
+  said "$1" close "$work/table" 471 2021
+  said "$1" check "$work/table"
+}
+works "$work/prefix/bin/hondivole"
 
 # uses FOLDER: the C example and the Rust crate, by what pkg-config says in FOLDER.
 uses() {
@@ -43,11 +51,19 @@ dist=$(echo "$work"/hondivole-*-x86_64)
 cmp "$dist/KIT" KIT
 cmp "$dist/lib/libhondivole.a" "$archive"
 uses "$dist/lib/pkgconfig"
+# The tool is packed for x86-64 alone.
+if [ "$(uname -m)" = x86_64 ]; then
+  works "$dist/bin/hondivole"
+fi
 first=$(sha256sum < "target/dist/${dist##*/}.tar.gz")
 said make -s dist ARCHIVE="$archive"
 [ "$first" = "$(sha256sum < "target/dist/${dist##*/}.tar.gz")" ] || { echo "make dist packs another file the second time"; exit 1; }
 if command -v dpkg-deb > /dev/null 2>&1; then
   said make -s deb ARCHIVE="$archive"
   dpkg-deb --contents target/dist/hondivole_*_amd64.deb | grep usr/lib/libhondivole.a > "$work/said"
+  if [ "$(uname -m)" = x86_64 ]; then
+    dpkg-deb --extract target/dist/hondivole_*_amd64.deb "$work/deb"
+    works "$work/deb/usr/bin/hondivole"
+  fi
 fi
 echo "installed, packed, linked by pkg-config from C and Rust"

@@ -154,13 +154,14 @@ pub fn step(random: &mut Random, folder: &Path, table: &Path, before: &[u8]) -> 
     let kind = [Kind::Mandato, Kind::Reversale][random.below(2) as usize];
     let path = table.to_str().unwrap().to_string();
     let mut after = Table::over(before.to_vec());
-    if random.below(6) == 0 {
-        // It is taken as soon as the last of the year's lines is executed; then the next year begins.
+    let next = waiting(before, at, first);
+    if random.below(if next.is_none() { 3 } else { 12 }) == 0 {
+        // It is taken where none of the year's lines waits; then the next year begins.
         let _ = after.close(body, first);
         return Step { words: ["close", &path, body, &first.to_string()].map(String::from).into(), after: after.into_bytes() };
     }
-    if random.below(2) == 0 {
-        let first = 1 + random.below(3);
+    if random.below(5) == 0 {
+        let first = 1 + random.below(4);
         let orders: Vec<_> = (0..1 + random.below(3)).map(|i| (kind, first + i)).collect();
         let text = flow_of(body, year, &orders);
         let file = folder.join("flow.xml");
@@ -169,10 +170,10 @@ pub fn step(random: &mut Random, folder: &Path, table: &Path, before: &[u8]) -> 
         return Step { words: vec!["flow".into(), path, file.to_str().unwrap().into()], after: after.into_bytes() };
     }
     let any = (kind, year, 1 + random.below(6) as u32, 1 + random.below(2) as u8);
-    let (kind, year, order, line) = waiting(before, at, first).filter(|_| random.below(3) < 2).unwrap_or(any);
+    let (kind, year, order, line) = next.filter(|_| random.below(4) < 3).unwrap_or(any);
     let day = Date { year: 2021, month: 3, day: 3 };
     let notice = Notice { body, kind, esercizio: year, number: order, line, day };
-    let name = if random.below(6) < 5 { "execute" } else { "reverse" };
+    let name = if random.below(8) < 7 { "execute" } else { "reverse" };
     let _ = if name == "execute" { after.execute(&notice) } else { after.reverse(&notice) };
     let kind = if kind == Kind::Mandato { "mandato" } else { "reversale" };
     let words = [name, &path, body, kind, &year.to_string(), &order.to_string(), &line.to_string(), "2021-03-03"].map(String::from);
