@@ -13,7 +13,7 @@ use Rattle.ranges.specs.Ranges.{zeros}
 use Rattle.bounds.specs.Bounds.{maxCents}
 use Rattle.valid.specs.declared.Judged.the-variants.{Broken, Right}
 use Rattle.valid.specs.Valid.{recordOk, executed}
-use Rattle.valid.specs.Inner.{told}
+use Rattle.valid.specs.Inner.{judgedBy}
 use Rattle.valid.proofs.Laws.{and-stop, and-go, executed-sum, told-right, told-broken}
 use Rattle.valid.proofs.Valid.{ok-bounds, ok-sum}
 use Rattle.slots.specs.Slots.{usedAt, slotsAt, recordsAt, distinct}
@@ -90,11 +90,11 @@ cents-most t at n k e = omega (arith, slots-most t at (usedAt t at n) k (ok-slot
 
 -- WHAT IS TOLD, of a slot, of slots and of a body
 
-pub slot-broken : (t : List ℕ) (at c : ℕ) → restZero t at ≡ false → Broken ≡ told (slotOk t at) c
-slot-broken t at c f = sym (ap (λ (b : Bool). told b c) (and-stop (restZero t at) _ (slot-rest t at) f))
+pub slot-broken : (t : List ℕ) (at c : ℕ) → restZero t at ≡ false → Broken ≡ judgedBy (slotOk t at) c
+slot-broken t at c f = sym (ap (λ (b : Bool). judgedBy b c) (and-stop (restZero t at) _ (slot-rest t at) f))
 
-pub slot-told : (t : List ℕ) (at c : ℕ) → restZero t at ≡ true → told (recordOk (recordAt t at)) c ≡ told (slotOk t at) c
-slot-told t at c f = sym (ap (λ (b : Bool). told b c) (and-go (restZero t at) _ (slot-rest t at) f))
+pub slot-told : (t : List ℕ) (at c : ℕ) → restZero t at ≡ true → judgedBy (recordOk (recordAt t at)) c ≡ judgedBy (slotOk t at) c
+slot-told t at c f = sym (ap (λ (b : Bool). judgedBy b c) (and-go (restZero t at) _ (slot-rest t at) f))
 
 -- the slots so far are right: `paid` and `collected` of them, and k = m + 1 from `at` on
 pub record Sofar (t : List ℕ) (base n at left paid collected : ℕ) : Type 0 where
@@ -106,13 +106,13 @@ pub record Sofar (t : List ℕ) (base n at left paid collected : ℕ) : Type 0 w
   pub collected-most : collected + maxCents * left ≤ maxCents * n
 
 module _ {t : List ℕ} {base n at left paid collected : ℕ} (s : Sofar t base n at left paid collected) where
-  pub sofar-broken : (c : ℕ) → 0 < left → told (slotOk t at) c ≡ Broken → Sums.Broken ≡ summed (slotsOk t base n) (slotsAt t base n)
+  pub sofar-broken : (c : ℕ) → 0 < left → judgedBy (slotOk t at) c ≡ Broken → Sums.Broken ≡ summed (slotsOk t base n) (slotsAt t base n)
   sofar-broken c h e =
       let f = told-broken (slotOk t at) c e in
       let w = s .right ∙ and-stop (slotOk t at) _ (slots-ok-more t at left (left - 1) (omega arith)) f in
       sym (ap (λ (b : Bool). summed b (slotsAt t base n)) w)
 
-  module _ (h : 0 < left) {c : ℕ} (e : told (slotOk t at) (executed (recordAt t at)) ≡ Right c) where
+  module _ (h : 0 < left) {c : ℕ} (e : judgedBy (slotOk t at) (executed (recordAt t at)) ≡ Right c) where
     its-ok : (slotOk t at ≡ true) × (executed (recordAt t at) ≡ c)
     its-ok = told-right (slotOk t at) (executed (recordAt t at)) c e
 

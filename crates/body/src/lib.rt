@@ -7,7 +7,7 @@ ghost use lib.ListN.{length};
 ghost use Rattle.bounds.specs.Bounds.{maxSlots};
 ghost use Rattle.record.specs.Slot.{slotSize, recordAt};
 ghost use Rattle.valid.specs.Valid.{executed};
-ghost use Rattle.valid.specs.Inner.{told};
+ghost use Rattle.valid.specs.Inner.{judgedBy};
 ghost use Rattle.slots.specs.Slots.{slotsAt, recordsAt};
 ghost use Rattle.body.specs.Body.{slotOk, slotsOk, bodyOk, anyReplaced, noneReplaced, allLater};
 ghost use Rattle.body.specs.Inner.{summed};
@@ -24,7 +24,7 @@ pub enum Sums {
 // Whether the used slot at a place is valid, and the cents of its record's executed lines.
 pub fn judge_slot(t: &[u8], at: usize) -> Judged
     requires { ⌜ at + slotSize ≤ length (now t) ⌝ }
-    ensures { λ j. ⌜ j ≡ told (slotOk (now (t .entry)) at) (executed (recordAt (now (t .entry)) at)) ⌝ }
+    ensures { λ j. ⌜ j ≡ judgedBy (slotOk (now (t .entry)) at) (executed (recordAt (now (t .entry)) at)) ⌝ }
 {
     if !record::rest_zero(t, at) {
         return Judged::Broken;

@@ -37,3 +37,7 @@ maxSlots = 512
 -- document 02, Req 04: "The greatest table length becomes 65,792"
 abbrev pub maxLength : ℕ
 maxLength = 65792
+
+-- a flow has "At most 32,768 bytes"
+abbrev pub maxFlow : ℕ
+maxFlow = 32768

@@ -18,7 +18,7 @@ use Rattle.markup.proofs.Laws.{content-at-past}
 use Rattle.children.specs.declared.Child.{Child}
 use Rattle.children.specs.declared.Step.{Step}
 use Rattle.children.specs.declared.Step.the-variants.{One, End}
-use Rattle.children.specs.Child.{childAt, onward, thenFrom, childrenBy, childrenFrom, spansOf, fieldAt}
+use Rattle.children.specs.Child.{childAt, onward, thenFrom, childrenUpTo, childrenFrom, spansOf, fieldAt}
 
 -- a child that begins at i or later lies in the flow: its <, its name, its content, its end, in this order
 pub record Lies (s : List ℕ) (i : ℕ) (c : Child) : Type 0 where
@@ -139,21 +139,21 @@ field-within s i = go (childAt s i) refl
 
 -- CHILDREN
 -- two limits that are large enough give the same children
-enough : (s : List ℕ) (n m i : ℕ) → length s - i < n → length s - i < m → childrenBy n s i ≡ childrenBy m s i
-unfolding childrenBy
+enough : (s : List ℕ) (n m i : ℕ) → length s - i < n → length s - i < m → childrenUpTo n s i ≡ childrenUpTo m s i
+unfolding childrenUpTo
 enough s zero m i h k = absurd (omega arith)
 enough s (suc n) zero i h k = absurd (omega arith)
 enough s (suc n) (suc m) i h k = go (childAt s i) refl (enough s n m)
   where
-    go : (w : Step) → childAt s i ≡ w → ((j : ℕ) → length s - j < n → length s - j < m → childrenBy n s j ≡ childrenBy m s j) → thenFrom w (childrenBy n s) ≡ thenFrom w (childrenBy m s)
+    go : (w : Step) → childAt s i ≡ w → ((j : ℕ) → length s - j < n → length s - j < m → childrenUpTo n s j ≡ childrenUpTo m s j) → thenFrom w (childrenUpTo n s) ≡ thenFrom w (childrenUpTo m s)
     go (One c) e ih = let l = child-lies s i c e .1 in ap (λ cs. c ∷ cs) (ih (c .after) (omega arith) (omega arith))
     go End e ih = refl
 
 module _ (s : List ℕ) (i : ℕ) where
   pub children-end : childAt s i ≡ End → childrenFrom s i ≡ []
-  unfolding childrenFrom childrenBy
+  unfolding childrenFrom childrenUpTo
   children-end e = rw e
 
   pub children-one : (c : Child) → childAt s i ≡ One c → childrenFrom s i ≡ c ∷ childrenFrom s (c .after)
-  unfolding childrenFrom childrenBy
+  unfolding childrenFrom childrenUpTo
   children-one c e = let l = child-lies s i c e .1 in rw e (ap (λ cs. c ∷ cs) (enough s (length s) (suc (length s)) (c .after) (omega arith) (omega arith)))

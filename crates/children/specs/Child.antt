@@ -41,13 +41,13 @@ thenFrom (One c) rest = c ∷ rest (c .after)
 thenFrom End rest = []
 
 -- one child after the other, at most n
-unfoldable pub childrenBy : ℕ → List ℕ → ℕ → List Child
-childrenBy zero s i = []
-childrenBy (suc n) s i = thenFrom (childAt s i) (childrenBy n s)
+unfoldable pub childrenUpTo : ℕ → List ℕ → ℕ → List Child
+childrenUpTo zero s i = []
+childrenUpTo (suc n) s i = thenFrom (childAt s i) (childrenUpTo n s)
 
 -- the children from i on. (Each is longer than a byte, so no limit is reached)
 unfoldable pub childrenFrom : List ℕ → ℕ → List Child
-childrenFrom s i = childrenBy (suc (length s)) s i
+childrenFrom s i = childrenUpTo (suc (length s)) s i
 
 -- A FIELD'S OWN WORDS: "A field's text is shown as the part of the flow itself, not as a copy"
 

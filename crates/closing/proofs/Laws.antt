@@ -9,6 +9,7 @@ use lib.ListN.{length, getD, take, drop, set, replicate, length-replicate, drop-
 use lib.Seq.{take-suc-set, take-all, drop-cons, length-take-le}
 use lib.Dec.{eqb, ltb}
 use borrow.Author.Tests.{eq-eqb, ne-eqb, lt-ltb, le-ltb}
+use Rattle.packing.specs.Packing.{flag}
 use Rattle.bounds.specs.Bounds.{maxSlots}
 use Rattle.words.specs.Numbers.{be2}
 use Rattle.record.specs.declared.Record.{Record}
@@ -16,7 +17,7 @@ use Rattle.record.specs.Slot.{slotSize, statesOffset, eightAt, recordAt}
 use Rattle.record.proofs.Back.{eight-at}
 use Rattle.slots.specs.Slots.{slotsAt}
 use Rattle.slots.proofs.Index.{slots-snoc}
-use Rattle.closing.specs.Closing.{any, earlier, otherYear, anyWaiting, waits, stays, flag, flagsBy, openAt}
+use Rattle.closing.specs.Closing.{any, ofEarlier, otherYear, anyWaiting, waits, stays, flagsBy, staysAt}
 
 -- A WALK over a body's records for one that passes a test
 
@@ -36,11 +37,11 @@ any-nil p e = rw e
 -- ONE SLOT: its year
 
 module _ (t : List ℕ) (at year : ℕ) {y : ℕ} (q : y ≡ be2 t (at + 4)) where
-  pub year-earlier : y < year → earlier year (recordAt t at) ≡ true
+  pub year-earlier : y < year → ofEarlier year (recordAt t at) ≡ true
   unfolding recordAt
   year-earlier h = rw q at (lt-ltb y year h)
 
-  pub year-later : (y < year → ⊥) → earlier year (recordAt t at) ≡ false
+  pub year-later : (y < year → ⊥) → ofEarlier year (recordAt t at) ≡ false
   unfolding recordAt
   year-later h = rw q at (le-ltb y year (omega arith))
 
@@ -101,24 +102,24 @@ flags-one : (p : Record → Bool) (x : Record) → flagsBy p (x ∷ []) ≡ flag
 unfolding flagsBy
 flags-one p x = refl
 
-pub flags-none : (t : List ℕ) (base year : ℕ) (fs : List ℕ) → take 0 fs ≡ openAt t base 0 year
+pub flags-none : (t : List ℕ) (base year : ℕ) (fs : List ℕ) → take 0 fs ≡ staysAt t base 0 year
 unfolding flagsBy slotsAt
 flags-none t base year fs = refl
 
-pub flags-more : (t : List ℕ) (base year : ℕ) (fs : List ℕ) (i f : ℕ) → i < length fs → take i fs ≡ openAt t base i year → f ≡ flag (stays year (recordAt t (base + slotSize * i)))
-    → take (i + 1) (set fs i f) ≡ openAt t base (i + 1) year
+pub flags-more : (t : List ℕ) (base year : ℕ) (fs : List ℕ) (i f : ℕ) → i < length fs → take i fs ≡ staysAt t base i year → f ≡ flag (stays year (recordAt t (base + slotSize * i)))
+    → take (i + 1) (set fs i f) ≡ staysAt t base (i + 1) year
 flags-more t base year fs i f low e g =
     let r : Record = recordAt t (base + slotSize * i) in
     ap (λ (k : ℕ). take k (set fs i f)) (add-one i) ∙ take-suc-set fs i f low
     ∙ (λ j. e j ++ g j ∷ [])
-    ∙ ap (λ (l : List ℕ). openAt t base i year ++ l) (sym (flags-one (stays year) r))
+    ∙ ap (λ (l : List ℕ). staysAt t base i year ++ l) (sym (flags-one (stays year) r))
     ∙ sym (flags-append (stays year) (slotsAt t base i) (r ∷ []))
     ∙ ap (flagsBy (stays year)) (sym (slots-snoc t base i) ∙ ap (slotsAt t base) (sym (add-one i)))
 
-pub flags-all : (t : List ℕ) (base year : ℕ) (fs : List ℕ) (i n : ℕ) → n ≡ length fs → i ≤ n → n ≤ i → take i fs ≡ openAt t base i year → fs ≡ openAt t base n year
+pub flags-all : (t : List ℕ) (base year : ℕ) (fs : List ℕ) (i n : ℕ) → n ≡ length fs → i ≤ n → n ≤ i → take i fs ≡ staysAt t base i year → fs ≡ staysAt t base n year
 flags-all t base year fs i n q a b e =
     let z : i ≡ n = omega arith in
-    sym (take-all i fs (omega arith)) ∙ e ∙ ap (λ (m : ℕ). openAt t base m year) z
+    sym (take-all i fs (omega arith)) ∙ e ∙ ap (λ (m : ℕ). staysAt t base m year) z
 
 -- the room for a body's flags
 pub room : (n : ℕ) → n ≤ maxSlots → length (take (n - 0) (drop 0 (replicate {A = ℕ} 512 0))) ≡ n

@@ -16,9 +16,9 @@ use Rattle.slots.proofs.Laws.{used-le}
 use Rattle.slots.proofs.Index.{length-slots, get-slot, used-kind, length-records}
 use Rattle.body.specs.Body.{slotOk, bodyOk, allLater}
 use Rattle.body.proofs.Slots.{slots-each, parts}
-use Rattle.packing.specs.Packing.{kept, chosen, packed}
+use Rattle.packing.specs.Packing.{chosenCount, chosen, packed, flag}
 use Rattle.packing.proofs.Packed.{clash, packed-records, packed-ok, chosen-distinct}
-use Rattle.closing.specs.Closing.{any, keep, ofYear, otherYear, earlier, earlierRemains, staying, removed, stays, flag, flagsBy, openAt, yearRemoved}
+use Rattle.closing.specs.Closing.{any, keep, ofYear, otherYear, ofEarlier, earlierRemains, staying, removed, stays, flagsBy, staysAt, yearRemoved}
 
 -- OF RECORDS
 
@@ -37,10 +37,10 @@ removed-rest year (r ∷ rs) = go (ofYear year r) (removed-rest year rs)
 pub staying-later : (year : ℕ) (rs : List Record) → earlierRemains year rs ≡ false → allLater year (staying year rs) ≡ true
 unfolding any keep allLater
 staying-later year [] e = refl
-staying-later year (r ∷ rs) e = go (earlier year r) refl (eqb (r .esercizio) year) refl e (staying-later year rs)
+staying-later year (r ∷ rs) e = go (ofEarlier year r) refl (eqb (r .esercizio) year) refl e (staying-later year rs)
   where
-    go : (a : Bool) → ltb (r .esercizio) year ≡ a → (b : Bool) → eqb (r .esercizio) year ≡ b → (a || any (earlier year) rs) ≡ false
-        → (any (earlier year) rs ≡ false → allLater year (staying year rs) ≡ true) → allLater year (cond (not b) (r ∷ staying year rs) (staying year rs)) ≡ true
+    go : (a : Bool) → ltb (r .esercizio) year ≡ a → (b : Bool) → eqb (r .esercizio) year ≡ b → (a || any (ofEarlier year) rs) ≡ false
+        → (any (ofEarlier year) rs ≡ false → allLater year (staying year rs) ≡ true) → allLater year (cond (not b) (r ∷ staying year rs) (staying year rs)) ≡ true
     go true p b q f rest = clash (sym f)
     go false p true q f rest = rest f
     go false p false q f rest =
@@ -77,13 +77,13 @@ chosen-keep p (r ∷ rs) = go (p r) (chosen-keep p rs)
     go true e = ap (λ (l : List Record). r ∷ l) e
     go false e = e
 
-kept-keep : (p : Record → Bool) (rs : List Record) → kept (flagsBy p rs) ≡ length (keep p rs)
-unfolding kept flagsBy keep
+kept-keep : (p : Record → Bool) (rs : List Record) → chosenCount (flagsBy p rs) ≡ length (keep p rs)
+unfolding chosenCount flagsBy keep
 kept-keep p [] = refl
 kept-keep p (r ∷ rs) = go (p r) (kept-keep p rs)
   where
-    go : (b : Bool) → kept (flagsBy p rs) ≡ length (keep p rs)
-        → cond (eqb (flag b) 1) (suc (kept (flagsBy p rs))) (kept (flagsBy p rs)) ≡ length (cond b (r ∷ keep p rs) (keep p rs))
+    go : (b : Bool) → chosenCount (flagsBy p rs) ≡ length (keep p rs)
+        → cond (eqb (flag b) 1) (suc (chosenCount (flagsBy p rs))) (chosenCount (flagsBy p rs)) ≡ length (cond b (r ∷ keep p rs) (keep p rs))
     go true e = ap suc e
     go false e = e
 
@@ -148,7 +148,7 @@ module _ (t : List ℕ) (base n year : ℕ) (fits : base + slotSize * n ≤ leng
   u = usedAt t base n
 
   abbrev fs : List ℕ
-  fs = openAt t base n year
+  fs = staysAt t base n year
 
   long : length fs ≡ n
   long = length-flags (stays year) (slotsAt t base n) ∙ length-slots t base n
@@ -167,10 +167,10 @@ module _ (t : List ℕ) (base n year : ℕ) (fits : base + slotSize * n ≤ leng
   open-records = chosen-keep (stays year) (slotsAt t base n) ∙ keep-records
 
   -- how many stay, and how many are removed
-  open-kept : kept (openAt t base n year) ≡ length (staying year (recordsAt t base n))
+  open-kept : chosenCount (staysAt t base n year) ≡ length (staying year (recordsAt t base n))
   open-kept = kept-keep (stays year) (slotsAt t base n) ∙ ap (λ (rs : List Record). length rs) keep-records
 
-  pub removed-used : removed year (recordsAt t base n) + kept (openAt t base n year) ≡ usedAt t base n
+  pub removed-used : removed year (recordsAt t base n) + chosenCount (staysAt t base n year) ≡ usedAt t base n
   removed-used = omega (arith, open-kept, removed-rest year (recordsAt t base n), length-records t base n)
 
   flag-used : (i : ℕ) → i < length fs → getD fs i 0 ≡ 1 → getD t (base + slotSize * i) 0 ≡ 0 → ⊥
@@ -204,5 +204,5 @@ module _ (t : List ℕ) (base n year : ℕ) (fits : base + slotSize * n ≤ leng
       ∙ chosen-distinct (recordsAt t base n) (flagsBy (otherYear year) (recordsAt t base n)) (parts t base n ok .keys))
 
 -- the flags are as many as the slots
-pub length-open : (t : List ℕ) (base n year : ℕ) → length (openAt t base n year) ≡ n
+pub length-open : (t : List ℕ) (base n year : ℕ) → length (staysAt t base n year) ≡ n
 length-open t base n year = length-flags (stays year) (slotsAt t base n) ∙ length-slots t base n

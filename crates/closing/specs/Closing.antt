@@ -7,7 +7,7 @@ use lib.Dec.{eqb, ltb}
 use Rattle.record.specs.declared.Record.{Record}
 use Rattle.record.specs.Slot.{acquiredState, waitingLine}
 use Rattle.slots.specs.Slots.{slotsAt}
-use Rattle.packing.specs.Packing.{packed}
+use Rattle.packing.specs.Packing.{packed, flag}
 
 -- one of the records passes a test, and those that pass it in their own order
 unfoldable pub any : (Record → Bool) → List Record → Bool
@@ -25,12 +25,12 @@ ofYear year r = eqb (r .esercizio) year
 abbrev pub otherYear : ℕ → Record → Bool
 otherYear year r = not (ofYear year r)
 
-abbrev pub earlier : ℕ → Record → Bool
-earlier year r = ltb (r .esercizio) year
+abbrev pub ofEarlier : ℕ → Record → Bool
+ofEarlier year r = ltb (r .esercizio) year
 
 -- WHAT STANDS AGAINST IT: "38 a record of an earlier year remains"
 abbrev pub earlierRemains : ℕ → List Record → Bool
-earlierRemains year rs = any (earlier year) rs
+earlierRemains year rs = any (ofEarlier year) rs
 
 -- "39 an acquired order of that year has a waiting line"
 unfoldable pub anyWaiting : List ℕ → Bool
@@ -54,16 +54,13 @@ removed year rs = length (keep (ofYear year) rs)
 unfoldable pub stays : ℕ → Record → Bool
 stays year r = not (eqb (r .kind) 0) && otherYear year r
 
-abbrev pub flag : Bool → ℕ
-flag b = cond b 1 0
-
 unfoldable pub flagsBy : (Record → Bool) → List Record → List ℕ
 flagsBy p [] = []
 flagsBy p (r ∷ rs) = flag (p r) ∷ flagsBy p rs
 
 -- the flags of the slots, and the table with those that stay moved up and the others empty
-abbrev pub openAt : List ℕ → ℕ → ℕ → ℕ → List ℕ
-openAt t base n year = flagsBy (stays year) (slotsAt t base n)
+abbrev pub staysAt : List ℕ → ℕ → ℕ → ℕ → List ℕ
+staysAt t base n year = flagsBy (stays year) (slotsAt t base n)
 
 abbrev pub yearRemoved : List ℕ → ℕ → ℕ → ℕ → List ℕ
-yearRemoved t base n year = packed t base (openAt t base n year)
+yearRemoved t base n year = packed t base (staysAt t base n year)

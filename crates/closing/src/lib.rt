@@ -3,11 +3,12 @@ ghost use mathlib.Core.Path.{_≡_};
 ghost use mathlib.Core.Bool.{true};
 ghost use Prim.Native.Nat.{_+_, _*_, _≤_};
 ghost use lib.ListN.{length};
+ghost use Rattle.packing.specs.Packing.{flag};
 ghost use Rattle.bounds.specs.Bounds.{maxSlots};
 ghost use Rattle.record.specs.Slot.{slotSize, eightAt, recordAt};
 ghost use Rattle.slots.specs.Slots.{recordsAt};
 ghost use Rattle.body.specs.Body.{bodyOk};
-ghost use Rattle.closing.specs.Closing.{earlierRemains, anyWaiting, waits, lineWaits, removed, stays, flag, openAt, yearRemoved};
+ghost use Rattle.closing.specs.Closing.{earlierRemains, anyWaiting, waits, lineWaits, removed, stays, staysAt, yearRemoved};
 
 // Where a slot has its record's state, and its esercizio.
 const STATE: usize = 1;
@@ -100,7 +101,7 @@ fn flag_of(t: &[u8], at: usize, year: u64) -> u8
 // The flags of a body's slots, as many as there is room for flags.
 fn flags_of(t: &[u8], base: usize, year: u64, flags: &mut [u8])
     requires { ⌜ base + slotSize * length (now flags) ≤ length (now t) ⌝ }
-    ensures { λ _. ⌜ now (flags .exit) ≡ openAt (now (t .entry)) base (length (now (flags .entry))) year ⌝ }
+    ensures { λ _. ⌜ now (flags .exit) ≡ staysAt (now (t .entry)) base (length (now (flags .entry))) year ⌝ }
 {
     let mut i = 0;
     while i < flags.len() {

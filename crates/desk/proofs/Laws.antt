@@ -6,6 +6,7 @@ use Prim.Native.Nat.{ℕ, _*_, _-_, _≤_, _<_}
 use native.Mathlib.Omega.{arith}
 use lib.ListN.{length}
 use borrow.Author.Tests.{le-leb, lt-leb}
+use Rattle.bounds.specs.Bounds.{maxFlow}
 use Rattle.scan.specs.Bytes.{isWhite, textIs}
 use Rattle.scan.proofs.Laws.{run-within}
 use Rattle.tokens.specs.Tokens.{whiteAt}
@@ -34,7 +35,7 @@ use Rattle.flow.proofs.Laws.{flow-stood}
 use Rattle.service.specs.Service.{allLeave, allOutcomes, allAccepted, allSteps}
 use Rattle.desk.specs.declared.FlowAnswer.{FlowAnswer}
 use Rattle.desk.specs.declared.FlowAnswer.the-variants.{InvalidTable, UnknownEdition, TooLong, OtherBank, ClosedYear, NoRoom, Taken}
-use Rattle.desk.specs.Desk.{maxFlow, withRoom, forBody, forBank, forFlow, flowReads, Gives, FlowPromise}
+use Rattle.desk.specs.Desk.{withRoom, forBody, forBank, forFlow, flowReads, Gives, FlowPromise}
 use Rattle.serving.specs.Served.{ordersFrom, Rooted}
 use Rattle.desk.specs.Steps.{bodyFor}
 

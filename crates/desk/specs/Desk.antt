@@ -5,6 +5,7 @@ use mathlib.Core.Bool.{Bool, true, false, cond}
 use mathlib.Core.List.{List, [], _∷_, _++_}
 use lib.ListN.{length}
 use lib.Dec.{eqb, leb}
+use Rattle.bounds.specs.Bounds.{maxFlow}
 use Rattle.scan.specs.Bytes.{textIs}
 use Rattle.words.specs.Numbers.{put}
 use Rattle.entries.specs.Entry.{closedOf}
@@ -54,9 +55,6 @@ forFlow e t f room (MarkupBreaks p) = refused BrokenMarkup
 forFlow e t f room StructureBreaks = refused BrokenStructure
 forFlow e t f room (FieldBreaks p c) = refused (BrokenField p c)
 forFlow e t f room (Stands at) = forBank t room (headerOf e f at) (flowOrders e f at)
-
-abbrev pub maxFlow : ℕ
-maxFlow = 32768
 
 -- "2 the flow is longer than 32,768 bytes"; document 02, Req 05: "Refusals: 23, no such edition, after 1 and before 2"
 abbrev pub byEdition : List ℕ → List ℕ → ℕ → Edited → Reading

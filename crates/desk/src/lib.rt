@@ -12,13 +12,13 @@ ghost use mathlib.Core.Bool.{true};
 ghost use Prim.Native.Nat.{ℕ, _+_, _*_, _≤_, _<_};
 ghost use lib.ListN.{length};
 ghost use Rattle.markup.specs.Noted.{Noted};
-ghost use Rattle.bounds.specs.Bounds.{maxSlots};
+ghost use Rattle.bounds.specs.Bounds.{maxSlots, maxFlow};
 ghost use Rattle.record.specs.Slot.{slotSize};
 ghost use Rattle.table.specs.Table.{tableOk};
 ghost use Rattle.flow.specs.declared.Verdict.the-variants.{Stands};
 ghost use Rattle.header.specs.Heading.{headerBy, Within};
 ghost use Rattle.flow.specs.Flow.{verdictOf, headerOf, flowOrders};
-ghost use Rattle.desk.specs.Desk.{withRoom, forBank, forFlow, maxFlow, Gives, FlowPromise, SameReply, flowReply};
+ghost use Rattle.desk.specs.Desk.{withRoom, forBank, forFlow, Gives, FlowPromise, SameReply, flowReply};
 ghost use Rattle.serving.specs.Served.{ordersFrom, Rooted};
 ghost use Rattle.desk.specs.Steps.{bodyFor};
 
@@ -82,7 +82,8 @@ fn for_body(
 ) -> FlowAnswer
     requires { ⌜ (tableOk (now t) ≡ true) × Within (now f) h × Rooted root (now f) (now past) (h .orders) × (length (now f) ≤ maxFlow) ⌝ }
     ensures { λ r. ⌜ Gives (now (t .entry)) (now (out .entry))
-        (bodyFor (now (t .entry)) (length (now (out .entry))) (headerBy (now (f .entry)) h) (ordersFrom root (now (f .entry)) (h .orders))) r (now (t .exit)) (now (out .exit)) ⌝ }
+        (bodyFor (now (t .entry)) (length (now (out .entry))) (headerBy (now (f .entry)) h) (ordersFrom root (now (f .entry)) (h .orders))) r
+        (now (t .exit)) (now (out .exit)) ⌝ }
 {
     let w = h.ente;
     let ente = header::part_at(f, w);
@@ -110,7 +111,8 @@ fn for_bank(
 ) -> FlowAnswer
     requires { ⌜ (tableOk (now t) ≡ true) × (verdictOf e (now f) ≡ Stands at) × Noted (now f) (now past) × (length (now f) ≤ maxFlow) ⌝ }
     ensures { λ r. ⌜ Gives (now (t .entry)) (now (out .entry))
-        (forBank (now (t .entry)) (length (now (out .entry))) (headerOf e (now (f .entry)) at) (flowOrders e (now (f .entry)) at)) r (now (t .exit)) (now (out .exit)) ⌝ }
+        (forBank (now (t .entry)) (length (now (out .entry))) (headerOf e (now (f .entry)) at) (flowOrders e (now (f .entry)) at)) r (now (t .exit))
+        (now (out .exit)) ⌝ }
 {
     let from = scan::white_end(f, at);
     let h = header::header_from(f, e, from, past);

@@ -9,7 +9,7 @@ use Rattle.calendar.specs.Calendar.{isDate}
 use Rattle.codes.specs.Codes.{codiceAbi, identificativo, codiceEnte, tipoOperazione, isAsked, testo, descrizione, elemento, esitoOperazione, isWord}
 use Rattle.digits.specs.Digits.{isValue, valueIs, esercizioWritten, numeroWritten, importo, progressivo, isRefusal, codiceErroreWritten}
 use Rattle.dates.specs.Dates.{dataWritten, isOn, dayIs, dataOraWritten, dataOraWithin, dataOraZonaWritten, dataOraZonaWithin}
-use Rattle.names.specs.Names.{replaced, characters, anagrafica}
+use Rattle.names.specs.Names.{referencesReplaced, characters, anagrafica}
 use Rattle.fields.specs.declared.Form.{Form}
 use Rattle.fields.specs.declared.Form.the-variants.{CodiceAbi, Identificativo, DataOra, CodiceEnte, Esercizio, TipoOperazione, Numero, Data, Importo, Progressivo, Anagrafica, DataOraZona, Testo, EsitoOperazione, CodiceErrore, Descrizione, Elemento}
 use Rattle.fields.specs.declared.Longest.{Longest}
@@ -45,7 +45,7 @@ longest Elemento = Bytes 24
 
 abbrev pub longer : Longest → List ℕ → Bool
 longer (Bytes n) t = ltb n (length t)
-longer (Characters n) t = ltb n (characters (replaced t))
+longer (Characters n) t = ltb n (characters (referencesReplaced t))
 
 -- THE RIGHT FORM, whatever value it writes: four digits, 1 to 7 digits, YYYY-MM-DD, YYYY-MM-DDThh:mm:ss; where document 01 gives no range, the form whole
 unfoldable pub formed : Form → List ℕ → Bool

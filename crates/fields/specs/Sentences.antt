@@ -12,7 +12,7 @@ use Rattle.digits.specs.declared.Number.the-variants.{Value}
 use Rattle.digits.specs.Digits.{numeroWritten}
 use Rattle.dates.specs.declared.Day.the-variants.{On}
 use Rattle.dates.specs.Dates.{dataWritten}
-use Rattle.names.specs.Names.{replaced, characters}
+use Rattle.names.specs.Names.{referencesReplaced, characters}
 use Rattle.fields.specs.declared.Form.{Form}
 use Rattle.fields.specs.declared.Form.the-variants.{TipoOperazione, Numero, Data}
 use Rattle.fields.specs.declared.Longest.{Longest}
@@ -27,7 +27,7 @@ use Rattle.fields.specs.Told.{Told}
 -- a text as long as the longest allowed
 abbrev pub Whole : Longest → List ℕ → Type 0
 Whole (Bytes n) t = length t ≡ n
-Whole (Characters n) t = characters (replaced t) ≡ n
+Whole (Characters n) t = characters (referencesReplaced t) ≡ n
 
 -- the longest allowed text is allowed: one of that length stands
 pub record Reached (f : Form) : Type 0 where

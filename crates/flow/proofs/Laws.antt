@@ -24,7 +24,7 @@ use Rattle.standing.specs.Shown.{Shown}
 use Rattle.standing.proofs.Shown.{bad-shown}
 use Rattle.flow.specs.declared.Verdict.{Verdict}
 use Rattle.flow.specs.declared.Verdict.the-variants.{MarkupBreaks, StructureBreaks, FieldBreaks, Stands}
-use Rattle.flow.specs.Flow.{byFields, byRoot, byMarkup, verdictBy, idAllowed, verdictOf}
+use Rattle.flow.specs.Flow.{verdictByFields, byRoot, byMarkup, verdictBy, idAllowed, verdictOf}
 
 -- the root's places lie in the document
 pub record Lies (s : List ℕ) (lt e at : ℕ) : Type 0 where
@@ -41,7 +41,7 @@ byStanding at standing.StructureBreaks = StructureBreaks
 byStanding at (standing.FieldBreaks p c) = FieldBreaks p c
 byStanding at standing.Stands = Stands at
 
-by-fields : (at : ℕ) (f : Bool) (b : Bad) → cond f (byFields at b) StructureBreaks ≡ byStanding at (standingBy f b)
+by-fields : (at : ℕ) (f : Bool) (b : Bad) → cond f (verdictByFields at b) StructureBreaks ≡ byStanding at (standingBy f b)
 by-fields at true (Place p c) = refl
 by-fields at true Nowhere = refl
 by-fields at false b = refl
@@ -79,11 +79,11 @@ module _ (x : List ℕ) (p : Parent) (ids : Bool) (s : List ℕ) where
   unfolding verdictBy
   document-stood at h = walk (markupOf ids s) refl h
     where
-      fields : (c : ℕ) (b : Bad) → bad c ≡ b → c ≤ length s → fitsAt 4 p s c ≡ true → byFields c b ≡ Stands at → Stood p s at
+      fields : (c : ℕ) (b : Bad) → bad c ≡ b → c ≤ length s → fitsAt 4 p s c ≡ true → verdictByFields c b ≡ Stands at → Stood p s at
       fields c (Place q y) h l f e = let z : _≡_ {A = ℕ} 0 1 = cc in absurd (omega arith)
       fields c Nowhere h l f e = let z : c ≡ at = cc in rw (← z) (record { within = l; fits = f; fields = h })
 
-      cut : (c : ℕ) (n f : Bool) → fitsAt 4 p s c ≡ f → c ≤ length s → cond (n && f) (byFields c (bad c)) StructureBreaks ≡ Stands at → Stood p s at
+      cut : (c : ℕ) (n f : Bool) → fitsAt 4 p s c ≡ f → c ≤ length s → cond (n && f) (verdictByFields c (bad c)) StructureBreaks ≡ Stands at → Stood p s at
       cut c true true f l e = fields c (bad c) refl l f e
       cut c true false f l e = let z : _≡_ {A = ℕ} 0 1 = cc in absurd (omega arith)
       cut c false f g l e = let z : _≡_ {A = ℕ} 0 1 = cc in absurd (omega arith)
@@ -97,11 +97,11 @@ module _ (x : List ℕ) (p : Parent) (ids : Bool) (s : List ℕ) where
   unfolding verdictBy
   document-shown q y h = walk (markupOf ids s) h
     where
-      fields : (c : ℕ) (b : Bad) → bad c ≡ b → byFields c b ≡ FieldBreaks q y → Shown s q y
+      fields : (c : ℕ) (b : Bad) → bad c ≡ b → verdictByFields c b ≡ FieldBreaks q y → Shown s q y
       fields c (Place r w) h e = let z : Place r w ≡ Place q y = cc in bad-shown 4 p s c q y (h ∙ z)
       fields c Nowhere h e = let z : _≡_ {A = ℕ} 0 1 = cc in absurd (omega arith)
 
-      cut : (c : ℕ) (n : Bool) → cond n (byFields c (bad c)) StructureBreaks ≡ FieldBreaks q y → Shown s q y
+      cut : (c : ℕ) (n : Bool) → cond n (verdictByFields c (bad c)) StructureBreaks ≡ FieldBreaks q y → Shown s q y
       cut c true e = fields c (bad c) refl e
       cut c false e = let z : _≡_ {A = ℕ} 0 1 = cc in absurd (omega arith)
 

@@ -23,13 +23,13 @@ use Rattle.flow.specs.declared.Verdict.{Verdict}
 use Rattle.flow.specs.declared.Verdict.the-variants.{MarkupBreaks, StructureBreaks, FieldBreaks, Stands}
 
 -- "a field breaks; place is the byte of < of the first such element", with the cause of that field; where none does, the root's content begins at `at`
-abbrev pub byFields : ℕ → Bad → Verdict
-byFields at (Place p c) = FieldBreaks p c
-byFields at Nowhere = Stands at
+abbrev pub verdictByFields : ℕ → Bad → Verdict
+verdictByFields at (Place p c) = FieldBreaks p c
+verdictByFields at Nowhere = Stands at
 
 -- the root has the name x, which stands from the byte after its < up to e, and its content at `at` the structure of the parent's table
 abbrev pub byRoot : List ℕ → Parent → List ℕ → ℕ → ℕ → ℕ → Verdict
-byRoot x p s lt e at = cond (nameIs x s (lt + 1) e && fitsAt levels p s at) (byFields at (firstBad (fieldsAt levels p s at))) StructureBreaks
+byRoot x p s lt e at = cond (nameIs x s (lt + 1) e && fitsAt levels p s at) (verdictByFields at (firstBad (fieldsAt levels p s at))) StructureBreaks
 
 abbrev pub byMarkup : List ℕ → Parent → List ℕ → Markup → Verdict
 byMarkup x p s (Root lt e at) = byRoot x p s lt e at
@@ -62,13 +62,13 @@ verdictOf e = documentVerdict (flowKind e)
 -- OF A FLOW THAT STANDS, its root's content beginning at `at`
 
 -- the root's named children
-abbrev pub namedIn : Edition → List ℕ → ℕ → List Kept
-namedIn e s at = keptFrom (rootOf e) s (whiteAt s at)
+abbrev pub rootNamed : Edition → List ℕ → ℕ → List Kept
+rootNamed e s at = keptFrom (rootOf e) s (whiteAt s at)
 
 -- codice_ABI_BT, codice_ente_BT and esercizio
 abbrev pub headerOf : Edition → List ℕ → ℕ → Header
-headerOf e s at = headerIn e s (namedIn e s at)
+headerOf e s at = headerIn e s (rootNamed e s at)
 
 -- the orders as written
 abbrev pub flowOrders : Edition → List ℕ → ℕ → List Ordinativo
-flowOrders e s at = map ordinativo (ordersIn s (namedIn e s at))
+flowOrders e s at = map ordinativo (ordersIn s (rootNamed e s at))

@@ -205,7 +205,8 @@ pub extern "C" fn hondivole_first_target_day(
     first_month: &mut u64,
     first_day: &mut u64,
 ) -> u64
-    ensures { λ r. ⌜ FirstPromise (dateBy year month day) (firstTold r (dateBy (now («first_year» .exit)) (now («first_month» .exit)) (now («first_day» .exit)))) ⌝ }
+    ensures { λ r. ⌜ FirstPromise (dateBy year month day) (firstTold r (dateBy (now («first_year» .exit)) (now («first_month» .exit))
+        (now («first_day» .exit)))) ⌝ }
 {
     let a = target_days::first_target_day(year, month, day);
     let d = a.date;

@@ -74,7 +74,8 @@ pub extern "C" fn hondivole_message_rewrite(
     again: &mut [u8],
     length: &mut u64,
 ) -> u64
-    ensures { λ r. ⌜ RewritePromise edition (now (message .entry)) (now (again .entry)) (record { code = r; length = now (length .exit) }) (now (again .exit)) ⌝ }
+    ensures { λ r. ⌜ RewritePromise edition (now (message .entry)) (now (again .entry)) (record { code = r; length = now (length .exit) })
+        (now (again .exit)) ⌝ }
 {
     let a = message_rewrite::rewrite_message(edition, message, again);
     *length = a.length;

@@ -23,7 +23,7 @@ use Rattle.slots.proofs.Laws.{find-first, find-later}
 use Rattle.slots.proofs.Search.{key-is, nothing-is, found-below, found-key}
 use Rattle.journal.specs.declared.Movement.{Movement}
 use Rattle.journal.specs.Journal.{movementOf, executedFrom, executedOf, executedLines, sameLine, sameMovement, anyOf, movementCode, codeThen}
-use Rattle.journal.specs.Inner.{namedKey, lineExecuted, codeBy}
+use Rattle.journal.specs.Inner.{movementKey, lineExecuted, codeBy}
 use Rattle.journal.proofs.Laws.{clash, any-append, any-same, line-is, is-line, not-line}
 
 -- KEYS
@@ -104,12 +104,12 @@ line-at r f n p = go (leb (suc n) 8) refl
 
 module _ (m : Movement) (f : ℕ → Bool) where
   -- another order's line
-  other-order : (r : Record) (l a : ℕ) → keyIs r (namedKey m) ≡ false → sameLine m (movementOf r l a) ≡ false
+  other-order : (r : Record) (l a : ℕ) → keyIs r (movementKey m) ≡ false → sameLine m (movementOf r l a) ≡ false
   unfolding keyIs
   other-order r l a n =
       not-line m (movementOf r l a) (λ o. clash (sym n ∙ rw (eq-eqb _ _ (sym (o .kind)), eq-eqb _ _ (sym (o .esercizio)), eq-eqb _ _ (sym (o .number)))))
 
-  none-from : (r : Record) → keyIs r (namedKey m) ≡ false → (l : ℕ) (states amounts : List ℕ) → anyOf (asked m f) (executedFrom r l states amounts) ≡ false
+  none-from : (r : Record) → keyIs r (movementKey m) ≡ false → (l : ℕ) (states amounts : List ℕ) → anyOf (asked m f) (executedFrom r l states amounts) ≡ false
   unfolding executedFrom anyOf
   none-from r n l [] amounts = refl
   none-from r n l (s ∷ states) [] = refl
@@ -121,7 +121,7 @@ module _ (m : Movement) (f : ℕ → Bool) where
       go false e = e
 
   -- the order's own lines, numbered from l on
-  module _ (r : Record) (k : keyOf r ≡ namedKey m) where
+  module _ (r : Record) (k : keyOf r ≡ movementKey m) where
     own-line : (l a : ℕ) → m .line ≡ l → sameLine m (movementOf r l a) ≡ true
     own-line l a e =
         is-line m (movementOf r l a)
@@ -161,34 +161,34 @@ module _ (m : Movement) (f : ℕ → Bool) where
         go false e = e
 
   -- all orders' lines
-  pub none-lines : (rs : List Record) (j : ℕ) → findIn rs j (namedKey m) ≡ Nothing → anyOf (asked m f) (executedLines rs) ≡ false
+  pub none-lines : (rs : List Record) (j : ℕ) → findIn rs j (movementKey m) ≡ Nothing → anyOf (asked m f) (executedLines rs) ≡ false
   unfolding executedLines anyOf
   none-lines [] j e = refl
-  none-lines (r ∷ rs) j e = go (keyIs r (namedKey m)) refl (none-lines rs (j + 1))
+  none-lines (r ∷ rs) j e = go (keyIs r (movementKey m)) refl (none-lines rs (j + 1))
     where
-      go : (b : Bool) → keyIs r (namedKey m) ≡ b → (findIn rs (j + 1) (namedKey m) ≡ Nothing → anyOf (asked m f) (executedLines rs) ≡ false)
+      go : (b : Bool) → keyIs r (movementKey m) ≡ b → (findIn rs (j + 1) (movementKey m) ≡ Nothing → anyOf (asked m f) (executedLines rs) ≡ false)
           → anyOf (asked m f) (executedOf r ++ executedLines rs) ≡ false
-      go true g later = let z = sym (find-first refl j (namedKey m) g) ∙ e in let y : _≡_ {A = ℕ} 0 1 = cc in absurd (omega arith)
+      go true g later = let z = sym (find-first refl j (movementKey m) g) ∙ e in let y : _≡_ {A = ℕ} 0 1 = cc in absurd (omega arith)
       go false g later =
           any-append (asked m f) (executedOf r) (executedLines rs)
           ∙ ap (λ (b : Bool). b || anyOf (asked m f) (executedLines rs)) (none-from r g 1 (r .states) (r .amounts))
-          ∙ later (sym (find-later refl j (namedKey m) g) ∙ e)
+          ∙ later (sym (find-later refl j (movementKey m) g) ∙ e)
 
-  its-lines : (rs : List Record) (i : ℕ) (d : Record) → distinct rs ≡ true → i < length rs → keyIs (getD rs i d) (namedKey m) ≡ true
+  its-lines : (rs : List Record) (i : ℕ) (d : Record) → distinct rs ≡ true → i < length rs → keyIs (getD rs i d) (movementKey m) ≡ true
       → anyOf (asked m f) (executedLines rs) ≡ anyOf (asked m f) (executedOf (getD rs i d))
   unfolding executedLines
   its-lines [] i d e h g = absurd (not-suc-le-zero h)
   its-lines (r ∷ rs) zero d e h g =
       any-append (asked m f) (executedOf r) (executedLines rs)
-      ∙ ap (λ (b : Bool). anyOf (asked m f) (executedOf r) || b) (none-lines rs 0 (ap (findIn rs 0) (sym (key-is r (namedKey m) g)) ∙ apart r rs e .0))
+      ∙ ap (λ (b : Bool). anyOf (asked m f) (executedOf r) || b) (none-lines rs 0 (ap (findIn rs 0) (sym (key-is r (movementKey m) g)) ∙ apart r rs e .0))
       ∙ or-false _
   its-lines (r ∷ rs) (suc i) d e h g =
       any-append (asked m f) (executedOf r) (executedLines rs)
-      ∙ ap (λ (b : Bool). b || anyOf (asked m f) (executedLines rs)) (none-from r (first-other r rs i d (namedKey m) e (omega arith) g) 1 (r .states) (r .amounts))
+      ∙ ap (λ (b : Bool). b || anyOf (asked m f) (executedLines rs)) (none-from r (first-other r rs i d (movementKey m) e (omega arith) g) 1 (r .states) (r .amounts))
       ∙ its-lines rs i d (apart r rs e .1) (omega arith) g
 
   -- a record of eight lines
-  record-lines : (r : Record) → length (r .states) ≡ 8 → length (r .amounts) ≡ 8 → keyOf r ≡ namedKey m → anyOf (asked m f) (executedOf r) ≡ executedWith r f (m .line)
+  record-lines : (r : Record) → length (r .states) ≡ 8 → length (r .amounts) ≡ 8 → keyOf r ≡ movementKey m → anyOf (asked m f) (executedOf r) ≡ executedWith r f (m .line)
   record-lines r p q k = go (m .line) refl
     where
       go : (n : ℕ) → m .line ≡ n → anyOf (asked m f) (executedOf r) ≡ executedWith r f (m .line)
@@ -196,7 +196,7 @@ module _ (m : Movement) (f : ℕ → Bool) where
       go (suc n) e = any-from r k 1 (r .states) (r .amounts) n (omega arith) (omega arith) ∙ sym (ap (executedWith r f) e ∙ line-at r f n p)
 
 -- A MOVEMENT'S CODE, by the record r of its key
-pub code-none : (rs : List Record) (m : Movement) → findIn rs 0 (namedKey m) ≡ Nothing → (before : List Movement) → movementCode (executedLines rs) before m ≡ 30
+pub code-none : (rs : List Record) (m : Movement) → findIn rs 0 (movementKey m) ≡ Nothing → (before : List Movement) → movementCode (executedLines rs) before m ≡ 30
 unfolding movementCode
 code-none rs m e before = rw (any-same (sameLine m) (asked m (λ c. true)) (λ x. sym (and-true (sameLine m x))) (executedLines rs) ∙ none-lines m (λ c. true) rs 0 e)
 
@@ -205,12 +205,12 @@ codes true true w = refl
 codes true false w = refl
 codes false y w = refl
 
-pub code-is : (rs : List Record) (m : Movement) (i : ℕ) (r : Record) → distinct rs ≡ true → i < length rs → getD rs i r ≡ r → keyOf r ≡ namedKey m
+pub code-is : (rs : List Record) (m : Movement) (i : ℕ) (r : Record) → distinct rs ≡ true → i < length rs → getD rs i r ≡ r → keyOf r ≡ movementKey m
     → length (r .states) ≡ 8 → length (r .amounts) ≡ 8
     → (before : List Movement) → movementCode (executedLines rs) before m ≡ codeThen (codeBy r m) (cond (anyOf (sameLine m) before) 32 0)
 unfolding movementCode codeBy
 code-is rs m i r e h g k p q before =
-    let hit = ap (λ (x : Record). keyIs x (namedKey m)) g ∙ key-test r (namedKey m) k in
+    let hit = ap (λ (x : Record). keyIs x (movementKey m)) g ∙ key-test r (movementKey m) k in
     let among : (f : ℕ → Bool) → anyOf (asked m f) (executedLines rs) ≡ executedWith r f (m .line) =
     λ f. its-lines m f rs i r e h hit ∙ ap (λ (x : Record). anyOf (asked m f) (executedOf x)) g ∙ record-lines m f r p q k in
     let a = any-same (sameLine m) (asked m (λ c. true)) (λ x. sym (and-true (sameLine m x))) (executedLines rs) ∙ among (λ c. true) ∙ and-true (lineExecuted r (m .line)) in

@@ -20,7 +20,7 @@ use Rattle.slots.proofs.Laws.{used-le, slots-more}
 use Rattle.slots.proofs.Index.{length-records, get-record}
 use Rattle.journal.specs.declared.Movement.{Movement}
 use Rattle.journal.specs.Journal.{movementOf, executedFrom, executedOf, executedLines, sameLine, anyOf, allOf}
-use Rattle.journal.specs.Inner.{namedKey, statesMarked, allMarked, Walked}
+use Rattle.journal.specs.Inner.{movementKey, statesMarked, allMarked, Walked}
 use Rattle.journal.specs.Told.{OneLine}
 use Rattle.journal.proofs.Laws.{any-nil, any-add, all-append, is-line, not-line}
 use Rattle.journal.proofs.Lines.{key-test, hit-found, record-states, record-amounts}
@@ -63,7 +63,7 @@ marks-none t base used few = record {
 
 -- a movement m of an executed line of slot i₀, whose mark is at p
 module _ {t : List ℕ} {base n used : ℕ} (W : Walked t base n used) (m : Movement) (i₀ p : ℕ) (below : i₀ < used)
-    (key : keyOf (recordAt t (base + slotSize * i₀)) ≡ namedKey m) (low : 1 ≤ m .line) (high : m .line ≤ 8) (place : p ≡ 8 * i₀ + (m .line - 1))
+    (key : keyOf (recordAt t (base + slotSize * i₀)) ≡ movementKey m) (low : 1 ≤ m .line) (high : m .line ≤ 8) (place : p ≡ 8 * i₀ + (m .line - 1))
   where
     pub mark-told : {marks : List ℕ} {before : List Movement} → Marks t base used marks before → not (eqb (getD marks p 0) 0) ≡ anyOf (sameLine m) before
     mark-told {marks} {before} M =
@@ -76,15 +76,15 @@ module _ {t : List ℕ} {base n used : ℕ} (W : Walked t base n used) (m : Move
     other-mark : (i l a : ℕ) → i < used → l < 8 → (8 * i + l ≡ p → ⊥) → sameLine (movementOf (recordAt t (base + slotSize * i)) (suc l) a) m ≡ false
     other-mark i l a h g n =
         not-line (movementOf (recordAt t (base + slotSize * i)) (suc l) a) m (λ (o : OneLine (movementOf (recordAt t (base + slotSize * i)) (suc l) a) m).
-        let k : keyOf (recordAt t (base + slotSize * i)) ≡ namedKey m = (λ j. record { kind = o .kind j; esercizio = o .esercizio j; number = o .number j }) in
-        let e = one-slot W i i₀ (namedKey m) h below k key in
+        let k : keyOf (recordAt t (base + slotSize * i)) ≡ movementKey m = (λ j. record { kind = o .kind j; esercizio = o .esercizio j; number = o .number j }) in
+        let e = one-slot W i i₀ (movementKey m) h below k key in
         let f : suc l ≡ m .line = o .line in
         n (omega arith))
 
     own-mark : (i l a : ℕ) → l < 8 → 8 * i + l ≡ p → sameLine (movementOf (recordAt t (base + slotSize * i)) (suc l) a) m ≡ true
     own-mark i l a g e =
         let q : i ≡ i₀ = omega arith in
-        let k : keyOf (recordAt t (base + slotSize * i)) ≡ namedKey m = ap (λ (x : ℕ). keyOf (recordAt t (base + slotSize * x))) q ∙ key in
+        let k : keyOf (recordAt t (base + slotSize * i)) ≡ movementKey m = ap (λ (x : ℕ). keyOf (recordAt t (base + slotSize * x))) q ∙ key in
         is-line (movementOf (recordAt t (base + slotSize * i)) (suc l) a) m
         (record { kind = ap (λ (x : Key). x .kind) k; line = omega arith; esercizio = ap (λ (x : Key). x .esercizio) k; number = ap (λ (x : Key). x .number) k })
 

@@ -14,8 +14,8 @@ use Rattle.record.specs.declared.Key.{Key}
 use Rattle.slots.specs.Slots.{findIn, distinct}
 use Rattle.journal.specs.declared.Movement.{Movement}
 use Rattle.journal.specs.Journal.{movementOf, executedFrom, executedOf, executedLines, sameLine, sameMovement, anyOf, allOf, movementCode, missingCode, codeThen, journalCode}
-use Rattle.journal.specs.Inner.{namedKey}
-use Rattle.journal.specs.Told.{Permutation, none, one, OneLine, NoneOf, SomeOf, Right, start, next, First, Told, JournalTold}
+use Rattle.journal.specs.Inner.{movementKey}
+use Rattle.journal.specs.Told.{Permutation, none, one, OneLine, NoneOf, SomeOf, Right, start, next, FirstWrong, Told, JournalTold}
 use Rattle.journal.proofs.Laws.{clash, line-is, is-line, not-line, any-same, code-more, code-stops, code-goes, code-ends}
 use Rattle.journal.proofs.Lines.{apart, none-lines, past-from}
 
@@ -355,15 +355,15 @@ from-apart r l (s ∷ states) (a ∷ amounts) = go (eqb s executedLine) (from-ap
     go true A = more first A
     go false A = A
 
-from-key : (r : Record) (l : ℕ) (states amounts : List ℕ) (m : Movement) → List·Memᴰ m (executedFrom r l states amounts) → keyOf r ≡ namedKey m
+from-key : (r : Record) (l : ℕ) (states amounts : List ℕ) (m : Movement) → List·Memᴰ m (executedFrom r l states amounts) → keyOf r ≡ movementKey m
 unfolding executedFrom
 from-key r l [] amounts m i = absurd (List·Memᴰ·not-nil i)
 from-key r l (s ∷ states) [] m i = absurd (List·Memᴰ·not-nil i)
 from-key r l (s ∷ states) (a ∷ amounts) m i = go (eqb s executedLine) i (from-key r (l + 1) states amounts m)
   where
     go : (b : Bool) → List·Memᴰ m (cond b (movementOf r l a ∷ executedFrom r (l + 1) states amounts) (executedFrom r (l + 1) states amounts))
-        → (List·Memᴰ m (executedFrom r (l + 1) states amounts) → keyOf r ≡ namedKey m) → keyOf r ≡ namedKey m
-    go true j later = either (List·Memᴰ·cases-cons j) (λ (q : m ≡ movementOf r l a). ap namedKey (sym q)) later
+        → (List·Memᴰ m (executedFrom r (l + 1) states amounts) → keyOf r ≡ movementKey m) → keyOf r ≡ movementKey m
+    go true j later = either (List·Memᴰ·cases-cons j) (λ (q : m ≡ movementOf r l a). ap movementKey (sym q)) later
     go false j later = later j
 
 lines-apart : (rs : List Record) → distinct rs ≡ true → Apart (executedLines rs)
@@ -399,7 +399,7 @@ module _ (rs : List Record) (d : distinct rs ≡ true) (ms : List Movement) wher
       ends-with ms R
       ∙ ap (λ (b : Bool). cond b 0 33) (is-all (λ e. anyOf (sameLine e) ms) E (λ e i. some-to e ms (member-some e ms (perm-all p e i))))
 
-  first-30 : {c : ℕ} → Whole E [] ms c → c ≡ 30 → First E ms (λ before m. NoneOf m E)
+  first-30 : {c : ℕ} → Whole E [] ms c → c ≡ 30 → FirstWrong E ms (λ before m. NoneOf m E)
   first-30 (stops mid m after q R h (right f i n)) e = absurd (h f)
   first-30 (stops mid m after q R h (absent f n)) e = record { before = mid; m = m; after = after; here = q; right = R; wrong = n }
   first-30 (stops mid m after q R h (cents f w n)) e = absurd (omega arith)
@@ -407,7 +407,7 @@ module _ (rs : List Record) (d : distinct rs ≡ true) (ms : List Movement) wher
   first-30 (accepts f R h) e = absurd (omega arith)
   first-30 (misses f R x i h) e = absurd (omega arith)
 
-  first-31 : {c : ℕ} → Whole E [] ms c → c ≡ 31 → First E ms (λ before m. SomeOf m E × (List·Memᴰ m E → ⊥))
+  first-31 : {c : ℕ} → Whole E [] ms c → c ≡ 31 → FirstWrong E ms (λ before m. SomeOf m E × (List·Memᴰ m E → ⊥))
   first-31 (stops mid m after q R h (right f i n)) e = absurd (h f)
   first-31 (stops mid m after q R h (absent f n)) e = absurd (omega arith)
   first-31 (stops mid m after q R h (cents f w n)) e = record { before = mid; m = m; after = after; here = q; right = R; wrong = (w, n) }
@@ -415,7 +415,7 @@ module _ (rs : List Record) (d : distinct rs ≡ true) (ms : List Movement) wher
   first-31 (accepts f R h) e = absurd (omega arith)
   first-31 (misses f R x i h) e = absurd (omega arith)
 
-  first-32 : {c : ℕ} → Whole E [] ms c → c ≡ 32 → First E ms (λ before m. List·Memᴰ m E × SomeOf m before)
+  first-32 : {c : ℕ} → Whole E [] ms c → c ≡ 32 → FirstWrong E ms (λ before m. List·Memᴰ m E × SomeOf m before)
   first-32 (stops mid m after q R h (right f i n)) e = absurd (h f)
   first-32 (stops mid m after q R h (absent f n)) e = absurd (omega arith)
   first-32 (stops mid m after q R h (cents f w n)) e = absurd (omega arith)

@@ -16,7 +16,7 @@ use Rattle.slots.proofs.Index.{length-records, get-record}
 use Rattle.slots.proofs.Search.{found-below, found-key}
 use Rattle.journal.specs.declared.Movement.{Movement}
 use Rattle.journal.specs.Journal.{movementSize, movementAt, movementsAt, executedLines, sameLine, anyOf, movementCode, missingCode, codeThen, journalCode}
-use Rattle.journal.specs.Inner.{namedKey, codeBy, allMarked, Walked}
+use Rattle.journal.specs.Inner.{movementKey, codeBy, allMarked, Walked}
 use Rattle.journal.proofs.Laws.{movements-more, movements-none, movements-add, code-stops, code-goes, code-ends, missing-by}
 use Rattle.journal.proofs.Lines.{code-none, code-is, by-line, record-states, record-amounts}
 use Rattle.journal.proofs.Marks.{Marks, marks-none, slot-length, slot-record, used-few, mark-told, mark-set, all-listed}
@@ -51,17 +51,17 @@ module _ {t : List ℕ} {base n used : ℕ} (W : Walked t base n used) (s : List
         let p : 0 + movementSize * j ≡ movementSize * j = omega arith in
         movements-add s 0 j ∙ ap (λ (x : Movement). movementsAt s 0 j ++ x ∷ []) (ap (movementAt s) p ∙ sym q)
 
-    pub no-order : findIn (recordsAt t base n) 0 (namedKey m) ≡ Nothing → codeFrom t base n s count j ≡ 30
+    pub no-order : findIn (recordsAt t base n) 0 (movementKey m) ≡ Nothing → codeFrom t base n s count j ≡ 30
     no-order f =
         code-stops (executedLines (recordsAt t base n)) (movementsAt s 0 j) rest-is 30 (λ z. omega arith)
         (code-none (recordsAt t base n) m f (movementsAt s 0 j))
 
-    module _ (i : ℕ) (f : findIn (recordsAt t base n) 0 (namedKey m) ≡ At i) where
+    module _ (i : ℕ) (f : findIn (recordsAt t base n) 0 (movementKey m) ≡ At i) where
       pub below : i < used
-      below = omega (arith, found-below (recordsAt t base n) (namedKey m) i (recordAt t 0) f, length-records t base n, W .known)
+      below = omega (arith, found-below (recordsAt t base n) (movementKey m) i (recordAt t 0) f, length-records t base n, W .known)
 
-      its-key : keyOf (recordAt t (base + slotSize * i)) ≡ namedKey m
-      its-key = ap keyOf (sym (slot-record W i below)) ∙ found-key (recordsAt t base n) (namedKey m) i (recordAt t (base + slotSize * i)) f
+      its-key : keyOf (recordAt t (base + slotSize * i)) ≡ movementKey m
+      its-key = ap keyOf (sym (slot-record W i below)) ∙ found-key (recordsAt t base n) (movementKey m) i (recordAt t (base + slotSize * i)) f
 
       its-code : movementCode (executedLines (recordsAt t base n)) (movementsAt s 0 j) m
           ≡ codeThen (codeBy (recordAt t (base + slotSize * i)) m) (cond (anyOf (sameLine m) (movementsAt s 0 j)) 32 0)

@@ -14,8 +14,8 @@ use Rattle.slots.specs.Slots.{usedAt, recordsAt, distinct}
 use Rattle.journal.specs.declared.Movement.{Movement}
 
 -- the key of the order that a movement names
-abbrev pub namedKey : Movement → Key
-namedKey m = record { kind = m .kind; esercizio = m .esercizio; number = m .number }
+abbrev pub movementKey : Movement → Key
+movementKey m = record { kind = m .kind; esercizio = m .esercizio; number = m .number }
 
 -- the line with this number is an executed one of a record
 abbrev pub lineExecuted : Record → ℕ → Bool

@@ -33,7 +33,7 @@ pub data Right (E : List Movement) : List Movement → Type 0 where
   next : (before : List Movement) (m : Movement) → Right E before → List·Memᴰ m E → NoneOf m before → Right E (before ++ m ∷ [])
 
 -- a first movement that isn't right: those before it are, and of it and them this holds
-pub record First (E ms : List Movement) (bad : List Movement → Movement → Type 0) : Type 0 where
+pub record FirstWrong (E ms : List Movement) (bad : List Movement → Movement → Type 0) : Type 0 where
   pub before : List Movement
   pub m : Movement
   pub after : List Movement
@@ -53,11 +53,11 @@ module _ (rs : List Record) (ms : List Movement) where
     -- "accept exactly when every executed line of that body is listed once, with its cents, and nothing else is listed"
     pub accepted : Exactly (journalCode E [] ms ≡ 0) (Permutation ms E)
     -- "30 no such executed line"
-    pub no-such-line : Exactly (journalCode E [] ms ≡ 30) (First E ms (λ before m. NoneOf m E))
+    pub no-such-line : Exactly (journalCode E [] ms ≡ 30) (FirstWrong E ms (λ before m. NoneOf m E))
     -- "31 other cents"
-    pub other-cents : Exactly (journalCode E [] ms ≡ 31) (First E ms (λ before m. SomeOf m E × (List·Memᴰ m E → ⊥)))
+    pub other-cents : Exactly (journalCode E [] ms ≡ 31) (FirstWrong E ms (λ before m. SomeOf m E × (List·Memᴰ m E → ⊥)))
     -- "32 listed before"
-    pub listed-before : Exactly (journalCode E [] ms ≡ 32) (First E ms (λ before m. List·Memᴰ m E × SomeOf m before))
+    pub listed-before : Exactly (journalCode E [] ms ≡ 32) (FirstWrong E ms (λ before m. List·Memᴰ m E × SomeOf m before))
     -- "33 an executed line is missing"
     pub missing : Exactly (journalCode E [] ms ≡ 33) (Right E ms × ((e : Movement) × List·Memᴰ e E × NoneOf e ms))
 

@@ -13,7 +13,7 @@ ghost use Rattle.bounds.specs.Bounds.{maxSlots};
 ghost use Rattle.record.specs.Slot.{slotSize, recordAt, eightAt, statesOffset, executedLine, keyIs};
 ghost use Rattle.slots.specs.Slots.{slotsAt, recordsAt, findIn, distinct};
 ghost use Rattle.journal.specs.Journal.{movementSize, maxMovements, movementAt, movementsAt, executedLines, journalCode, checked, JournalPromise};
-ghost use Rattle.journal.specs.Inner.{namedKey, codeBy, statesMarked, allMarked, Walked};
+ghost use Rattle.journal.specs.Inner.{movementKey, codeBy, statesMarked, allMarked, Walked};
 
 // The bytes of a movement, and the most movements of a journal.
 const MOVEMENT: usize = 16;
@@ -46,7 +46,7 @@ fn movement_at(s: &[u8], at: usize) -> Movement
 }
 
 fn key_of(m: Movement) -> Key
-    ensures { λ k. ⌜ k ≡ namedKey m ⌝ }
+    ensures { λ k. ⌜ k ≡ movementKey m ⌝ }
 {
     Key {
         kind: m.kind,
@@ -132,7 +132,7 @@ fn locate(
 // The place among a body's records of the order that a movement names.
 fn order_of(t: &[u8], base: usize, n: usize, used: usize, index: &[u16; 8192], m: Movement) -> Found
     requires { ⌜ Walked (now t) base n used ⌝ }
-    ensures { λ r. ⌜ r ≡ findIn (recordsAt (now (t .entry)) base n) 0 (namedKey m) ⌝ }
+    ensures { λ r. ⌜ r ≡ findIn (recordsAt (now (t .entry)) base n) 0 (movementKey m) ⌝ }
 {
     let key = key_of(m);
     let first = first_place(key);

@@ -16,7 +16,7 @@ use Rattle.record.specs.declared.Key.{Key}
 use Rattle.record.specs.Slot.{slotSize, recordAt, keyIs, keyOf}
 use Rattle.ranges.specs.Ranges.{zeros, isNothing}
 use Rattle.ranges.specs.declared.Found.the-variants.{At, Nothing}
-use Rattle.valid.specs.Inner.{told}
+use Rattle.valid.specs.Inner.{judgedBy}
 use Rattle.valid.specs.declared.Judged.the-variants.{Right, Broken}
 use Rattle.slots.specs.Slots.{slotsAt, findIn}
 use Rattle.slots.proofs.Laws.{slots-more, find-first, find-later}
@@ -25,16 +25,16 @@ use Rattle.slots.proofs.Index.{length-slots, slots-snoc}
 use Rattle.slots.proofs.Search.{cons-none}
 use Rattle.slots.proofs.Filter.{Marked, marked-none, marked-by, other-key}
 use Rattle.body.specs.Body.{slotOk}
-use Rattle.packing.specs.Packing.{chosen}
+use Rattle.packing.specs.Packing.{chosen, flag}
 use Rattle.packing.proofs.Packed.{none-any, none-cons}
-use Rattle.keeping.specs.Keeping.{keeps, flag, keepsFrom, keepsAt, blanks, blankedFrom, movedFrom, each}
+use Rattle.keeping.specs.Keeping.{keeps, keepsFrom, keepsAt, blanks, blankedFrom, movedFrom, eachBytes}
 
 -- A VALID SLOT, as its judge tells it
-pub slot-is : (b : Bool) (cents : ℕ) {c : ℕ} → told b cents ≡ Right c → true ≡ b
+pub slot-is : (b : Bool) (cents : ℕ) {c : ℕ} → judgedBy b cents ≡ Right c → true ≡ b
 slot-is true cents e = refl
 slot-is false cents e = let z : _≡_ {A = ℕ} 0 1 = cc in absurd (omega arith)
 
-pub slot-not : (b : Bool) (cents : ℕ) → told b cents ≡ Broken → false ≡ b
+pub slot-not : (b : Bool) (cents : ℕ) → judgedBy b cents ≡ Broken → false ≡ b
 slot-not false cents e = refl
 slot-not true cents e = let z : _≡_ {A = ℕ} 0 1 = cc in absurd (omega arith)
 
@@ -248,13 +248,13 @@ rest-end t at fs i h = ap (blankedFrom t at) (drop-of-length-le fs {i = i} h)
 
 -- numbers written one after the other, w bytes each: one more, and none
 module _ (bytes : ℕ → List ℕ) (r : List ℕ) (to : ℕ) where
-  pub put-more : (r′ : List ℕ) (w v : ℕ) (vs : List ℕ) → length (bytes v) ≡ w → to ≤ length r → r′ ≡ put r to (bytes v) → put r to (each bytes (v ∷ vs)) ≡ put r′ (to + w) (each bytes vs)
-  unfolding each
+  pub put-more : (r′ : List ℕ) (w v : ℕ) (vs : List ℕ) → length (bytes v) ≡ w → to ≤ length r → r′ ≡ put r to (bytes v) → put r to (eachBytes bytes (v ∷ vs)) ≡ put r′ (to + w) (eachBytes bytes vs)
+  unfolding eachBytes
   put-more r′ w v vs l h e =
-      sym (ap (λ (x : List ℕ). put x (to + w) (each bytes vs)) e ∙ put-put r to (bytes v) (each bytes vs) (to + w) h (ap (λ (x : ℕ). to + x) l))
+      sym (ap (λ (x : List ℕ). put x (to + w) (eachBytes bytes vs)) e ∙ put-put r to (bytes v) (eachBytes bytes vs) (to + w) h (ap (λ (x : ℕ). to + x) l))
 
-  pub put-none : put r to (each bytes []) ≡ r
-  unfolding each
+  pub put-none : put r to (eachBytes bytes []) ≡ r
+  unfolding eachBytes
   put-none = put-nil r to
 
 -- MOVED RECORDS: those from slot i on, of which the next kept one comes to slot `to`

@@ -27,9 +27,9 @@ use Rattle.body.proofs.Slots.{parts}
 use Rattle.body.proofs.Later.{later-nil, later-add}
 use Rattle.body.proofs.Same.{fewer, slot-ok-agree, slots-agree}
 use Rattle.record.proofs.Back.{same-record}
-use Rattle.packing.specs.Packing.{kept, chosen, packed}
+use Rattle.packing.specs.Packing.{chosenCount, chosen, packed, flag}
 use Rattle.packing.proofs.Packed.{clash, none-cons, packed-records, packed-ok, packed-same, firstKept}
-use Rattle.keeping.specs.Keeping.{keeps, flag, keepsFrom, keepsAt, keptAt, blanks, blankedFrom, movedFrom, moved}
+use Rattle.keeping.specs.Keeping.{keeps, keepsFrom, keepsAt, keptAt, blanks, blankedFrom, movedFrom, moved}
 use Rattle.keeping.proofs.Laws.{keeps-more}
 
 -- as many flags as slots

@@ -10,16 +10,13 @@ use Rattle.record.specs.Slot.{slotSize, recordAt, keyOf}
 use Rattle.ranges.specs.Ranges.{zeros, isNothing}
 use Rattle.slots.specs.Slots.{slotsAt, findIn}
 use Rattle.body.specs.Body.{slotOk}
-use Rattle.packing.specs.Packing.{chosen}
+use Rattle.packing.specs.Packing.{chosen, flag}
 
 -- WHAT IS KEPT
 
 -- the slot is kept, after the records `seen` were
 unfoldable pub keeps : ℕ → List ℕ → ℕ → List Record → Bool
 keeps closed t at seen = slotOk t at && (ltb closed (recordAt t at .esercizio) && isNothing (findIn seen 0 (keyOf (recordAt t at))))
-
-abbrev pub flag : Bool → ℕ
-flag b = cond b 1 0
 
 -- the flags of the n slots from `at` on, 1 for a kept one, after the records `seen` were kept
 unfoldable pub keepsFrom : ℕ → List ℕ → ℕ → ℕ → List Record → List ℕ
@@ -55,6 +52,6 @@ abbrev pub moved : List ℕ → ℕ
 moved fs = movedFrom 0 0 fs
 
 -- numbers written one after the other, each by its bytes
-unfoldable pub each : (ℕ → List ℕ) → List ℕ → List ℕ
-each bytes [] = []
-each bytes (v ∷ vs) = bytes v ++ each bytes vs
+unfoldable pub eachBytes : (ℕ → List ℕ) → List ℕ → List ℕ
+eachBytes bytes [] = []
+eachBytes bytes (v ∷ vs) = bytes v ++ eachBytes bytes vs

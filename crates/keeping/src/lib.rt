@@ -10,8 +10,8 @@ ghost use Rattle.record.specs.Slot.{slotSize, recordAt, keyOf};
 ghost use Rattle.ranges.specs.Ranges.{isNothing};
 ghost use Rattle.slots.specs.Slots.{slotsAt, findIn};
 ghost use Rattle.body.specs.Body.{slotOk};
-ghost use Rattle.packing.specs.Packing.{chosen};
-ghost use Rattle.keeping.specs.Keeping.{keeps, flag, keepsAt, blanks, blankedFrom, moved, each};
+ghost use Rattle.packing.specs.Packing.{chosen, flag};
+ghost use Rattle.keeping.specs.Keeping.{keeps, keepsAt, blanks, blankedFrom, moved, eachBytes};
 
 // A slot whose record is valid by itself.
 fn slot_valid(t: &[u8], at: usize) -> bool
@@ -124,7 +124,7 @@ pub fn put_places(r: &mut [u8], to: usize, t: &[u8], base: usize, flags: &[u8]) 
     requires { ⌜ (base + slotSize * length (now flags) ≤ length (now t))
         × (to + 4 * length (blankedFrom (now t) base (now flags)) ≤ length (now r)) ⌝ }
     ensures { λ e. ⌜ (e ≡ to + 4 * length (blankedFrom (now (t .entry)) base (now (flags .entry))))
-        × (now (r .exit) ≡ put (now (r .entry)) to (each bytes4 (blankedFrom (now (t .entry)) base (now (flags .entry))))) ⌝ }
+        × (now (r .exit) ≡ put (now (r .entry)) to (eachBytes bytes4 (blankedFrom (now (t .entry)) base (now (flags .entry))))) ⌝ }
 {
     let mut at = base;
     let mut i = 0;

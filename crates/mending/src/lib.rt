@@ -6,12 +6,13 @@ ghost use Rattle.bounds.specs.Bounds.{maxSlots};
 ghost use Rattle.words.specs.Numbers.{put, bytes4};
 ghost use Rattle.record.specs.Slot.{slotSize};
 ghost use Rattle.packing.specs.Packing.{packed};
-ghost use Rattle.keeping.specs.Keeping.{keepsAt, blankedFrom, moved, each};
+ghost use Rattle.keeping.specs.Keeping.{keepsAt, blankedFrom, moved, eachBytes};
 
 // Each job has a pair of functions: the first is lent as many flags as the body has slots, the second makes room for them.
 fn blanked_by(t: &[u8], base: usize, flags: &mut [u8], closed: u64) -> usize
     requires { ⌜ base + slotSize * length (now flags) ≤ length (now t) ⌝ }
-    ensures { λ r. ⌜ (r ≡ length (blankedFrom (now (t .entry)) base (keepsAt closed (now (t .entry)) base (length (now (flags .entry)))))) × (r ≤ length (now (flags .entry))) ⌝ }
+    ensures { λ r. ⌜ (r ≡ length (blankedFrom (now (t .entry)) base (keepsAt closed (now (t .entry)) base (length (now (flags .entry))))))
+        × (r ≤ length (now (flags .entry))) ⌝ }
 {
     keeping::flags_of(t, base, flags, closed);
     keeping::count_blanked(t, base, flags)
@@ -47,7 +48,8 @@ fn places_by(r: &mut [u8], to: usize, t: &[u8], base: usize, flags: &mut [u8], c
     requires { ⌜ (base + slotSize * length (now flags) ≤ length (now t))
         × (to + 4 * length (blankedFrom (now t) base (keepsAt closed (now t) base (length (now flags)))) ≤ length (now r)) ⌝ }
     ensures { λ e. ⌜ (e ≡ to + 4 * length (blankedFrom (now (t .entry)) base (keepsAt closed (now (t .entry)) base (length (now (flags .entry))))))
-        × (now (r .exit) ≡ put (now (r .entry)) to (each bytes4 (blankedFrom (now (t .entry)) base (keepsAt closed (now (t .entry)) base (length (now (flags .entry))))))) ⌝ }
+        × (now (r .exit) ≡ put (now (r .entry)) to (eachBytes bytes4 (blankedFrom (now (t .entry)) base (keepsAt closed (now (t .entry)) base (length
+        (now (flags .entry))))))) ⌝ }
 {
     keeping::flags_of(t, base, flags, closed);
     keeping::put_places(r, to, t, base, flags)
@@ -58,7 +60,7 @@ pub fn places_in(r: &mut [u8], to: usize, t: &[u8], base: usize, n: usize, close
     requires { ⌜ (base + slotSize * n ≤ length (now t)) × (n ≤ maxSlots)
         × (to + 4 * length (blankedFrom (now t) base (keepsAt closed (now t) base n)) ≤ length (now r)) ⌝ }
     ensures { λ e. ⌜ (e ≡ to + 4 * length (blankedFrom (now (t .entry)) base (keepsAt closed (now (t .entry)) base n)))
-        × (now (r .exit) ≡ put (now (r .entry)) to (each bytes4 (blankedFrom (now (t .entry)) base (keepsAt closed (now (t .entry)) base n)))) ⌝ }
+        × (now (r .exit) ≡ put (now (r .entry)) to (eachBytes bytes4 (blankedFrom (now (t .entry)) base (keepsAt closed (now (t .entry)) base n)))) ⌝ }
 {
     let mut flags = [0u8; 512];
     places_by(r, to, t, base, &mut flags[0..n], closed)

@@ -16,7 +16,7 @@ use Rattle.order.specs.Ordinativo.{Ordinativo}
 use Rattle.orders.specs.Orders.{textIn}
 use Rattle.editions.specs.declared.Edition.{Edition}
 use Rattle.header.specs.Header.{Header, testataOf}
-use Rattle.flow.specs.Flow.{namedIn, headerOf, flowOrders}
+use Rattle.flow.specs.Flow.{rootNamed, headerOf, flowOrders}
 use Rattle.message.specs.Message.{Entry, Message, TextOk, isOutcome}
 
 -- WHAT THE CALLER GIVES: the message's time and the time of outcome, and seven texts
@@ -94,7 +94,7 @@ messageFrom h flow qs o c = record {
 
 -- of a flow of an edition that stands, its root's content beginning at `at`: identificativo_flusso is row 1 of the table that has codice_ABI_BT
 abbrev pub identificativoOf : Edition → List ℕ → ℕ → List ℕ
-identificativoOf e s at = textIn 1 s (testataOf e s (namedIn e s at))
+identificativoOf e s at = textIn 1 s (testataOf e s (rootNamed e s at))
 
 abbrev pub flowMessage : Edition → List ℕ → ℕ → List ℕ → Caller → Message
 flowMessage e s at o c = messageFrom (headerOf e s at) (identificativoOf e s at) (flowOrders e s at) o c

@@ -172,7 +172,8 @@ fn read_content(s: &[u8], at: usize, values: &mut [u8], past: &[u32]) -> Reply
 // A message whose markup stands: its root's name goes from the byte after lt up to e, and its content begins at a place.
 fn read_root(s: &[u8], lt: usize, e: usize, at: usize, values: &mut [u8], past: &[u32]) -> Reply
     requires { ⌜ (lt + 1 ≤ e) × (e ≤ length (now s)) × (at ≤ length (now s)) × (length (now s) ≤ maxMessage) × Noted (now s) (now past) ⌝ }
-    ensures { λ r. ⌜ ReadGives (now (s .entry)) (now (values .entry)) (whiteAt (now (s .entry)) at) (judgedOf (now (s .entry)) lt e at) r (now (values .exit)) ⌝ }
+    ensures { λ r. ⌜ ReadGives (now (s .entry)) (now (values .entry)) (whiteAt (now (s .entry)) at) (judgedOf (now (s .entry)) lt e at) r
+        (now (values .exit)) ⌝ }
 {
     if !rows::is(s, lt + 1, e, b"messaggi_esito_applicativo") {
         return refusal(4, 0, 0);

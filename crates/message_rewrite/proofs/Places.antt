@@ -13,7 +13,7 @@ use Rattle.grammar.proofs.Parts.{part-length, part-none}
 use Rattle.children.specs.declared.Child.{Child}
 use Rattle.children.specs.declared.Step.{Step}
 use Rattle.children.specs.declared.Step.the-variants.{One, End}
-use Rattle.children.specs.Child.{childAt, thenFrom, childrenBy, childrenFrom}
+use Rattle.children.specs.Child.{childAt, thenFrom, childrenUpTo, childrenFrom}
 use Rattle.children.proofs.Laws.{Lies, child-lies}
 use Rattle.tree.specs.Tree.{Tree, tree, Held, says, holds, Trees, none, more, ltOf, nameOf, heldOf, kidsIn, ReadsAs}
 use Rattle.tree.specs.Orders.{childrenNamed, heldText}
@@ -69,12 +69,12 @@ module _ (m : ℕ) (s : List ℕ) (c : Child) (i : ℕ) (l : Lies s i c) where
 
 -- of all children from a place on
 module _ (P : Tree → Type 0) (m : ℕ) (s : List ℕ) (each : (c : Child) (i : ℕ) → Lies s i c → P (treeAt m s c)) where
-  all-by : (n i : ℕ) → AllIn P (treesBy (treeAt m s) (childrenBy n s i))
-  unfolding childrenBy
+  all-by : (n i : ℕ) → AllIn P (treesBy (treeAt m s) (childrenUpTo n s i))
+  unfolding childrenUpTo
   all-by zero i = all-none
   all-by (suc n) i = go (childAt s i) refl (all-by n)
     where
-      go : (w : Step) → childAt s i ≡ w → ((j : ℕ) → AllIn P (treesBy (treeAt m s) (childrenBy n s j))) → AllIn P (treesBy (treeAt m s) (thenFrom w (childrenBy n s)))
+      go : (w : Step) → childAt s i ≡ w → ((j : ℕ) → AllIn P (treesBy (treeAt m s) (childrenUpTo n s j))) → AllIn P (treesBy (treeAt m s) (thenFrom w (childrenUpTo n s)))
       go (One c) e ih = all-more (each c i (child-lies s i c e .1)) (ih (c .after))
       go End e ih = all-none
 

@@ -9,6 +9,7 @@ use lib.ListN.{length, drop, length-drop}
 use lib.Seq.{drop-drop}
 use lib.Dec.{eqb, leb}
 use borrow.Author.Tests.{eq-eqb, ne-eqb, eqb-true, le-leb, lt-leb, leb-true}
+use Rattle.bounds.specs.Bounds.{maxFlow}
 use Rattle.scan.specs.Bytes.{byteAt, part, isWhite}
 use Rattle.scan.proofs.Laws.{both, run-within}
 use Rattle.tokens.specs.Tokens.{whiteAt}
@@ -51,7 +52,7 @@ use Rattle.message_fit.specs.Walk.{ordersFrom, Rooted}
 use Rattle.message_fit.proofs.Laws.{drop-byte, drop-first, caller-told}
 use Rattle.message_write.specs.declared.WriteAnswer.{WriteAnswer}
 use Rattle.message_write.specs.declared.WriteAnswer.the-variants.{UnknownEdition, TooLong, Unfit, NoRoom, Written}
-use Rattle.message_write.specs.Write.{writes, maxFlow, writingOf, writeIn, writeBy, Leaves, WritePromise}
+use Rattle.message_write.specs.Write.{writes, writingOf, writeIn, writeBy, Leaves, WritePromise}
 use Rattle.message_write.specs.Parts.{entryIf, kindOut, entryHere, kindFrom, allEntries, beginningOut, headerWith, flowName, messageAt, messageBy}
 
 -- ENTRIES OF A KIND: the first order's, if it has one, and the others'

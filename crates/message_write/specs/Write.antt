@@ -5,6 +5,7 @@ use mathlib.Core.Bool.{cond, _&&_}
 use Prim.Native.Nat.{ℕ}
 use lib.ListN.{length}
 use lib.Dec.{leb}
+use Rattle.bounds.specs.Bounds.{maxFlow}
 use Rattle.words.specs.Numbers.{put}
 use Rattle.flow.specs.declared.Verdict.{Verdict}
 use Rattle.flow.specs.declared.Verdict.the-variants.{MarkupBreaks, StructureBreaks, FieldBreaks, Stands}
@@ -33,10 +34,6 @@ writingOf e f o c (MarkupBreaks p) = refused BrokenMarkup
 writingOf e f o c StructureBreaks = refused BrokenStructure
 writingOf e f o c (FieldBreaks p w) = refused BrokenField
 writingOf e f o c (Stands at) = cond (outcomesFit (flowOrders e f at) o && callerOk c) (writes (flowMessage e f at o c)) (refused Unfit)
-
--- document 01: a flow has "At most 32,768 bytes"
-abbrev pub maxFlow : ℕ
-maxFlow = 32768
 
 unfoldable pub writeIn : Edition → List ℕ → List ℕ → Caller → Writing
 writeIn e f o c = cond (leb (length f) maxFlow) (writingOf e f o c (verdictOf e f)) (refused TooLong)

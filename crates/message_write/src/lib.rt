@@ -13,6 +13,7 @@ ghost use mathlib.Core.Path.{_≡_};
 ghost use mathlib.Core.Bool.{true};
 ghost use Prim.Native.Nat.{_+_, _≤_};
 ghost use lib.ListN.{length};
+ghost use Rattle.bounds.specs.Bounds.{maxFlow};
 ghost use Rattle.scan.specs.Bytes.{byteAt, part};
 ghost use Rattle.markup.specs.Noted.{Noted};
 ghost use Rattle.rows.specs.Kept.{keptFrom};
@@ -29,7 +30,7 @@ ghost use Rattle.message.specs.From.{outcomesFit, messageFrom};
 ghost use Rattle.message_pen.specs.Parts.{RoomFor, WroteAll, RoomOf, WroteTree};
 ghost use Rattle.message_fit.specs.Fit.{callerBy};
 ghost use Rattle.message_fit.specs.Walk.{ordersFrom, Rooted};
-ghost use Rattle.message_write.specs.Write.{Writing, maxFlow, writingOf, writeIn, Leaves, WritePromise, writeReply};
+ghost use Rattle.message_write.specs.Write.{Writing, writingOf, writeIn, Leaves, WritePromise, writeReply};
 ghost use Rattle.message_write.specs.Parts.{entryHere, kindFrom, allEntries, beginningOut, headerWith, flowName, messageBy, Written as Made};
 
 // What the call answers.
@@ -158,7 +159,8 @@ fn beginning(
     body: &[u8],
     flow: &[u8],
 ) -> usize
-    requires { ⌜ RoomFor at (beginningOut (now abi) (now created) (now ente) (now described) (now istat) (now fiscal) (now tramite) (now bank) (now body) (now flow)) ⌝ }
+    requires { ⌜ RoomFor at (beginningOut (now abi) (now created) (now ente) (now described) (now istat) (now fiscal) (now tramite) (now bank) (now body)
+        (now flow)) ⌝ }
     ensures { λ r. ⌜ WroteAll (now (m .entry)) (now (m .exit)) at
         (beginningOut (now (abi .entry)) (now (created .entry)) (now (ente .entry)) (now (described .entry)) (now (istat .entry))
         (now (fiscal .entry)) (now (tramite .entry)) (now (bank .entry)) (now (body .entry)) (now (flow .entry))) r ⌝ }
@@ -205,7 +207,8 @@ fn framed(
         × RoomOf 0 (messageTree (messageFrom (headerWith (now abi) (now body) year) (now name) (ordersFrom root (now f) from) (now out)
         (callerBy (now created) (now outcome) (now ente) (now described) (now istat) (now fiscal) (now tramite) (now bank) (now flow)))) ⌝ }
     ensures { λ r. ⌜ WroteTree (now (m .entry)) (now (m .exit)) 0
-        (messageTree (messageFrom (headerWith (now (abi .entry)) (now (body .entry)) year) (now (name .entry)) (ordersFrom root (now (f .entry)) from) (now (out .entry))
+        (messageTree (messageFrom (headerWith (now (abi .entry)) (now (body .entry)) year) (now (name .entry)) (ordersFrom root (now (f .entry)) from)
+        (now (out .entry))
         (callerBy (now (created .entry)) (now (outcome .entry)) (now (ente .entry)) (now (described .entry))
         (now (istat .entry)) (now (fiscal .entry)) (now (tramite .entry)) (now (bank .entry)) (now (flow .entry))))) r ⌝ }
 {
@@ -231,7 +234,8 @@ fn framed(
 // Where the second of the four fields stands that both editions have one after the other: identificativo_flusso.
 fn second_from(f: &[u8], from: usize, parent: Parent, past: &[u32]) -> Span
     requires { ⌜ FourFirst parent (now f) from × Noted (now f) (now past) ⌝ }
-    ensures { λ r. ⌜ (part (now (f .entry)) (r .from) (r .to) ≡ textIn 1 (now (f .entry)) (keptFrom parent (now (f .entry)) from)) × (r .from ≤ r .to) × (r .to ≤ length (now (f .entry))) ⌝ }
+    ensures { λ r. ⌜ (part (now (f .entry)) (r .from) (r .to) ≡ textIn 1 (now (f .entry)) (keptFrom parent (now (f .entry)) from)) × (r .from ≤ r .to)
+        × (r .to ≤ length (now (f .entry))) ⌝ }
 {
     let a = orders::first_named(f, from, parent, past).child;
     let b = orders::first_named(f, a.after, parent, past).child;
@@ -282,9 +286,11 @@ fn whole(
     bank: &[u8],
     flow: &[u8],
 ) -> usize
-    requires { ⌜ Made (now f) (now past) from root h w (now out) (callerBy (now created) (now outcome) (now ente) (now described) (now istat) (now fiscal) (now tramite) (now bank) (now flow)) ⌝ }
+    requires { ⌜ Made (now f) (now past) from root h w (now out) (callerBy (now created) (now outcome) (now ente) (now described) (now istat) (now fiscal)
+        (now tramite) (now bank) (now flow)) ⌝ }
     ensures { λ r. ⌜ WroteTree (now (m .entry)) (now (m .exit)) 0
-        (messageTree (messageBy (now (f .entry)) from root h w (now (out .entry)) (callerBy (now (created .entry)) (now (outcome .entry)) (now (ente .entry)) (now (described .entry))
+        (messageTree (messageBy (now (f .entry)) from root h w (now (out .entry)) (callerBy (now (created .entry)) (now (outcome .entry))
+        (now (ente .entry)) (now (described .entry))
         (now (istat .entry)) (now (fiscal .entry)) (now (tramite .entry)) (now (bank .entry)) (now (flow .entry))))) r ⌝ }
 {
     let x = h.abi;
@@ -335,8 +341,10 @@ fn counted(
     bank: &[u8],
     flow: &[u8],
 ) -> WriteAnswer
-    requires { ⌜ Made (now f) (now past) from root h w (now out) (callerBy (now created) (now outcome) (now ente) (now described) (now istat) (now fiscal) (now tramite) (now bank) (now flow)) ⌝ }
-    ensures { λ r. ⌜ Leaves (now (m .entry)) (Writing.writes (messageBy (now (f .entry)) from root h w (now (out .entry)) (callerBy (now (created .entry)) (now (outcome .entry)) (now (ente .entry)) (now (described .entry))
+    requires { ⌜ Made (now f) (now past) from root h w (now out) (callerBy (now created) (now outcome) (now ente) (now described) (now istat) (now fiscal)
+        (now tramite) (now bank) (now flow)) ⌝ }
+    ensures { λ r. ⌜ Leaves (now (m .entry)) (Writing.writes (messageBy (now (f .entry)) from root h w (now (out .entry)) (callerBy (now (created .entry))
+        (now (outcome .entry)) (now (ente .entry)) (now (described .entry))
         (now (istat .entry)) (now (fiscal .entry)) (now (tramite .entry)) (now (bank .entry)) (now (flow .entry))))) r (now (m .exit)) ⌝ }
 {
     let mut none = [0u8; 1];
@@ -402,7 +410,8 @@ fn standing(
     flow: &[u8],
 ) -> WriteAnswer
     requires { ⌜ (verdictOf e (now f) ≡ Stands at) × Noted (now f) (now past) ⌝ }
-    ensures { λ r. ⌜ Leaves (now (m .entry)) (writingOf e (now (f .entry)) (now (out .entry)) (callerBy (now (created .entry)) (now (outcome .entry)) (now (ente .entry)) (now (described .entry))
+    ensures { λ r. ⌜ Leaves (now (m .entry)) (writingOf e (now (f .entry)) (now (out .entry)) (callerBy (now (created .entry)) (now (outcome .entry))
+        (now (ente .entry)) (now (described .entry))
         (now (istat .entry)) (now (fiscal .entry)) (now (tramite .entry)) (now (bank .entry)) (now (flow .entry))) (Stands at)) r (now (m .exit)) ⌝ }
 {
     let root = header::root_of(e);
@@ -464,7 +473,8 @@ fn write_noted(
     flow: &[u8],
 ) -> WriteAnswer
     requires { ⌜ (length (now f) ≤ maxFlow) × Noted (now f) (now past) ⌝ }
-    ensures { λ r. ⌜ Leaves (now (m .entry)) (writeIn e (now (f .entry)) (now (out .entry)) (callerBy (now (created .entry)) (now (outcome .entry)) (now (ente .entry)) (now (described .entry))
+    ensures { λ r. ⌜ Leaves (now (m .entry)) (writeIn e (now (f .entry)) (now (out .entry)) (callerBy (now (created .entry)) (now (outcome .entry))
+        (now (ente .entry)) (now (described .entry))
         (now (istat .entry)) (now (fiscal .entry)) (now (tramite .entry)) (now (bank .entry)) (now (flow .entry)))) r (now (m .exit)) ⌝ }
 {
     match flow::verdict_of(f, e, past) {
@@ -507,7 +517,8 @@ fn write_in(
     flow: &[u8],
     m: &mut [u8],
 ) -> WriteAnswer
-    ensures { λ r. ⌜ Leaves (now (m .entry)) (writeIn e (now (f .entry)) (now (out .entry)) (callerBy (now (created .entry)) (now (outcome .entry)) (now (ente .entry)) (now (described .entry))
+    ensures { λ r. ⌜ Leaves (now (m .entry)) (writeIn e (now (f .entry)) (now (out .entry)) (callerBy (now (created .entry)) (now (outcome .entry))
+        (now (ente .entry)) (now (described .entry))
         (now (istat .entry)) (now (fiscal .entry)) (now (tramite .entry)) (now (bank .entry)) (now (flow .entry)))) r (now (m .exit)) ⌝ }
 {
     if 32768 < f.len() {
@@ -567,7 +578,8 @@ pub fn write_message(
     flow: &[u8],
     m: &mut [u8],
 ) -> WriteAnswer
-    ensures { λ r. ⌜ WritePromise edition (now (f .entry)) (now (out .entry)) (callerBy (now (created .entry)) (now (outcome .entry)) (now (ente .entry)) (now (described .entry))
+    ensures { λ r. ⌜ WritePromise edition (now (f .entry)) (now (out .entry)) (callerBy (now (created .entry)) (now (outcome .entry)) (now (ente .entry))
+        (now (described .entry))
         (now (istat .entry)) (now (fiscal .entry)) (now (tramite .entry)) (now (bank .entry)) (now (flow .entry))) (now (m .entry)) r (now (m .exit)) ⌝ }
 {
     let Edited::By(e) = editions::edition_of(edition) else {

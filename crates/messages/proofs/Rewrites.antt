@@ -16,7 +16,7 @@ use Rattle.message.proofs.Theorem.{reading-one, same-meaning}
 use Rattle.message_rewrite.specs.declared.RewriteReply.{RewriteReply}
 use Rattle.message_rewrite.specs.Promise.{RewriteIn, not-read, too-small, rewritten, RewritePromise, no-edition, by-edition}
 use Rattle.message_rewrite.proofs.Call.{no-code}
-use Rattle.messages.specs.Rewrites.{WrittenAgain, AgainSaid, Same, RewrittenSame, AgainSame, AgainKept, NoSecondAgain}
+use Rattle.messages.specs.Rewrites.{WrittenAgain, AgainSaid, SameAgain, RewrittenSame, AgainSame, AgainKept, NoSecondAgain}
 use Rattle.messages.proofs.Writes.{read-xml, front, behind, written}
 
 -- a message is read as one, and not refused
@@ -57,7 +57,7 @@ written-again ed s b u r (by-edition i (too-small x l)) e = absurd (omega arith)
 written-again ed s b u r (by-edition {e = y} i (rewritten {m = m} x l)) e = made ed y s b m i x l
 
 -- BYTE FOR BYTE
-same : (t : List ℕ) (m : Message) → ((y : Edition) → MessageOf y t (read m)) → t ≡ messageBytes m → Same t (length (messageBytes m))
+same : (t : List ℕ) (m : Message) → ((y : Edition) → MessageOf y t (read m)) → t ≡ messageBytes m → SameAgain t (length (messageBytes m))
 same t m x e ed k d w r i l (no-edition j) = unlike (sym j ∙ i)
 same t m x e ed k d w r i l (by-edition {e = y} j (not-read z)) = other z (x y)
 same t m x e ed k d w r i l (by-edition {e = y} j (too-small {m = n} z h)) = let q = ap (λ (v : Message). length (messageBytes v)) (one z (x y)) in absurd (omega arith)
@@ -67,10 +67,10 @@ same t m x e ed k d w r i l (by-edition {e = y} j (rewritten {m = n} z h)) =
     (refl, g, ap (λ (v : ℕ). take v (put d 0 (messageBytes n))) (sym g) ∙ front d (messageBytes n) ∙ ap messageBytes q ∙ sym e)
 
 pub rewritten-same : RewrittenSame
-rewritten-same ed f o c b u n p = let k = written ed f o c b u n p in subst (Same (take n u)) (sym (k .size)) (same (take n u) _ (k .reads) (k .message))
+rewritten-same ed f o c b u n p = let k = written ed f o c b u n p in subst (SameAgain (take n u)) (sym (k .size)) (same (take n u) _ (k .reads) (k .message))
 
 pub again-same : AgainSame
-again-same ed s b u r p e = let k = written-again ed s b u r p e in subst (Same (take (r .length) u)) (sym (k .size)) (same (take (r .length) u) (k .message) (k .means) (k .bytes))
+again-same ed s b u r p e = let k = written-again ed s b u r p e in subst (SameAgain (take (r .length) u)) (sym (k .size)) (same (take (r .length) u) (k .message) (k .means) (k .bytes))
 
 -- A REFUSAL
 pub again-kept : AgainKept

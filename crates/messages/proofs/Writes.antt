@@ -9,6 +9,7 @@ use lib.ListN.{length, take, drop}
 use lib.Seq.{take-at, drop-at}
 use lib.Dec.{leb}
 use borrow.Author.Tests.{leb-true}
+use Rattle.bounds.specs.Bounds.{maxFlow}
 use Rattle.scan.proofs.Laws.{both}
 use Rattle.words.specs.Numbers.{put}
 use Rattle.grammar.specs.XML.{WellFormedXML}
@@ -31,7 +32,7 @@ use Rattle.message_fit.proofs.Laws.{caller-told}
 use Rattle.message_write.specs.declared.WriteAnswer.{WriteAnswer}
 use Rattle.message_write.specs.declared.WriteAnswer.the-variants as answer
 use Rattle.message_write.specs.declared.WriteReply.{WriteReply}
-use Rattle.message_write.specs.Write.{Writing, maxFlow, writingOf, writeIn, writeBy, writeReads, writeAnswer, writeBuffer, writeReply}
+use Rattle.message_write.specs.Write.{Writing, writingOf, writeIn, writeBy, writeReads, writeAnswer, writeBuffer, writeReply}
 use Rattle.message_write.specs.Write as write
 use Rattle.messages.specs.Writes.{WrittenOut, WrittenSaid, RefusedKept, NoSecondWriting}
 

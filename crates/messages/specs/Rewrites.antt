@@ -36,16 +36,16 @@ abbrev pub AgainSaid : Type 0
 AgainSaid = (ed : ℕ) (s b u : List ℕ) (r : RewriteReply) → RewritePromise ed s b r u → r .code ≡ 0 → WrittenAgain ed s b u (r .length)
 
 -- IT IS REWRITTEN BYTE FOR BYTE, in any edition and into any buffer that has room: the same answer, and the same bytes at its front
-abbrev pub Same : List ℕ → ℕ → Type 0
-Same t n = (ed : ℕ) (e : Edition) (d w : List ℕ) (r : RewriteReply) → editionOf ed ≡ By e → n ≤ length d → RewritePromise ed t d r w → (r .code ≡ 0) × (r .length ≡ n) × (take n w ≡ t)
+abbrev pub SameAgain : List ℕ → ℕ → Type 0
+SameAgain t n = (ed : ℕ) (e : Edition) (d w : List ℕ) (r : RewriteReply) → editionOf ed ≡ By e → n ≤ length d → RewritePromise ed t d r w → (r .code ≡ 0) × (r .length ≡ n) × (take n w ≡ t)
 
 -- what the call that writes wrote
 abbrev pub RewrittenSame : Type 0
-RewrittenSame = (ed : ℕ) (f o : List ℕ) (c : Caller) (b u : List ℕ) (n : ℕ) → WritePromise ed f o c b (Written n) u → Same (take n u) n
+RewrittenSame = (ed : ℕ) (f o : List ℕ) (c : Caller) (b u : List ℕ) (n : ℕ) → WritePromise ed f o c b (Written n) u → SameAgain (take n u) n
 
 -- and what this call wrote
 abbrev pub AgainSame : Type 0
-AgainSame = (ed : ℕ) (s b u : List ℕ) (r : RewriteReply) → RewritePromise ed s b r u → r .code ≡ 0 → Same (take (r .length) u) (r .length)
+AgainSame = (ed : ℕ) (s b u : List ℕ) (r : RewriteReply) → RewritePromise ed s b r u → r .code ≡ 0 → SameAgain (take (r .length) u) (r .length)
 
 -- "a refusal gives length 0 and leaves the buffer"
 abbrev pub AgainKept : Type 0

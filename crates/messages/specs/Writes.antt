@@ -4,6 +4,7 @@ use mathlib.Core.List.{List}
 use mathlib.Core.Bool.{true}
 use Prim.Native.Nat.{ℕ, _≤_}
 use lib.ListN.{length, take, drop}
+use Rattle.bounds.specs.Bounds.{maxFlow}
 use Rattle.grammar.specs.XML.{WellFormedXML}
 use Rattle.editions.specs.declared.Edition.{Edition}
 use Rattle.editions.specs.declared.Edited.the-variants.{By}
@@ -17,7 +18,7 @@ use Rattle.message.specs.From.{Caller, CallerOk, outcomesFit, flowMessage}
 use Rattle.message_write.specs.declared.WriteAnswer.{WriteAnswer}
 use Rattle.message_write.specs.declared.WriteAnswer.the-variants.{Written}
 use Rattle.message_write.specs.declared.WriteReply.{WriteReply}
-use Rattle.message_write.specs.Write.{maxFlow, WritePromise, WriteReplies}
+use Rattle.message_write.specs.Write.{WritePromise, WriteReplies}
 
 -- WRITTEN, n bytes into the buffer b, which is u afterwards
 pub record WrittenOut (ed : ℕ) (f o : List ℕ) (c : Caller) (b u : List ℕ) (n : ℕ) : Type 0 where

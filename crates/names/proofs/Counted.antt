@@ -13,12 +13,12 @@ use Rattle.scan.specs.Bytes.{byteAt, between, all}
 use Rattle.scan.specs.Characters.{charSizeAt, charAt}
 use Rattle.scan.specs.References.{Reference, refAt}
 use Rattle.scan.proofs.Laws.{both, not-is, in-range, char-sized, ref-is}
-use Rattle.names.specs.Names.{replaced, characters, anagrafica}
+use Rattle.names.specs.Names.{referencesReplaced, characters, anagrafica}
 use Rattle.names.specs.Inner.{OnePast}
 use Rattle.names.proofs.Laws.{ref-plain, one-char, ascii-size, after-most, one-at-least, none-left, char-most, past-char, past-none, past-amp, past-ref}
 
 -- a text of ASCII bytes without & has as many characters as bytes
-pub plain-count : (t : List ℕ) → all (λ b. leb b 127 && not (eqb b 38)) t ≡ true → characters (replaced t) ≡ length t
+pub plain-count : (t : List ℕ) → all (λ b. leb b 127 && not (eqb b 38)) t ≡ true → characters (referencesReplaced t) ≡ length t
 unfolding all
 plain-count [] e = none-left 0
 plain-count (b ∷ t) e =
@@ -29,11 +29,11 @@ plain-count (b ∷ t) e =
     one-char b t (ref-plain b t n) ∙ rw (z, plain-count t (h .1))
 
 -- "1 to 140 bytes, counted after the five references are replaced": each name that stood so stands
-pub still-stands : (t : List ℕ) → between 1 140 (length (replaced t)) ≡ true → anagrafica t ≡ true
+pub still-stands : (t : List ℕ) → between 1 140 (length (referencesReplaced t)) ≡ true → anagrafica t ≡ true
 unfolding anagrafica
 still-stands t e =
-    let r = in-range 1 140 (length (replaced t)) e in
-    rw (le-leb 1 (characters (replaced t)) (one-at-least (replaced t) (r .0)), le-leb (characters (replaced t)) 140 (omega (arith, after-most 0 (replaced t))))
+    let r = in-range 1 140 (length (referencesReplaced t)) e in
+    rw (le-leb 1 (characters (referencesReplaced t)) (one-at-least (referencesReplaced t) (r .0)), le-leb (characters (referencesReplaced t)) 140 (omega (arith, after-most 0 (referencesReplaced t))))
 
 -- AT MOST SIX BYTES
 -- what counts as one at a position
@@ -55,11 +55,11 @@ module _ (t : List ℕ) where
           record { end = q; one = past-char t i h (eqb-false (byteAt t i) 38 e) q g; six = omega (arith, char-sized t i q g, char-most t i h) }
       go false e r f (Broken q) g = record { end = i + 1; one = past-none t i h (eqb-false (byteAt t i) 38 e) q g; six = omega arith }
 
-  six-each : (n i : ℕ) → length t - i ≤ n → length t ≤ i + 6 * characters (replaced (drop i t))
+  six-each : (n i : ℕ) → length t - i ≤ n → length t ≤ i + 6 * characters (referencesReplaced (drop i t))
   six-each zero i h = omega arith
   six-each (suc n) i h = go (leb (suc i) (length t)) refl (six-each n)
     where
-      go : (k : Bool) → leb (suc i) (length t) ≡ k → ((j : ℕ) → length t - j ≤ n → length t ≤ j + 6 * characters (replaced (drop j t))) → length t ≤ i + 6 * characters (replaced (drop i t))
+      go : (k : Bool) → leb (suc i) (length t) ≡ k → ((j : ℕ) → length t - j ≤ n → length t ≤ j + 6 * characters (referencesReplaced (drop j t))) → length t ≤ i + 6 * characters (referencesReplaced (drop i t))
       go true e ih =
           let x = next i (leb-true (suc i) (length t) e) in
           let o = x .one in
@@ -70,4 +70,4 @@ module _ (t : List ℕ) where
 -- 140 references of six bytes are the longest name
 pub longest : (t : List ℕ) → anagrafica t ≡ true → length t ≤ 840
 unfolding anagrafica
-longest t e = let r = in-range 1 140 (characters (replaced t)) e in let m = six-each t (length t) 0 (omega arith) in omega arith
+longest t e = let r = in-range 1 140 (characters (referencesReplaced t)) e in let m = six-each t (length t) 0 (omega arith) in omega arith

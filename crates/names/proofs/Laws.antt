@@ -16,7 +16,7 @@ use Rattle.scan.specs.Bytes.{byteAt, between, startsWith, hasAt}
 use Rattle.scan.specs.Characters.{isChar, sized, isTail, charSize, charSizeAt, charAt}
 use Rattle.scan.specs.References.{Reference, references, whichAt, refAt}
 use Rattle.scan.proofs.Laws.{choose, both, in-range, has-within, sized-is, size-one, tail-low, char-past, char-sized, char-unsized, Each, ref-is, ref-is-none, ref-past}
-use Rattle.names.specs.Names.{meant, follow, replacedAfter, replaced, charactersAfter, characters, anagrafica}
+use Rattle.names.specs.Names.{meant, follow, replacedAfter, referencesReplaced, charactersAfter, characters, anagrafica}
 use Rattle.names.specs.Inner.{OnePast}
 
 -- REFERENCES
@@ -26,7 +26,7 @@ unfolding whichAt hasAt startsWith
 ref-plain b t n = rw (ne-eqb b 38 n)
 
 -- a tail stays as it is, and nothing else becomes one
-tail-kept : (b : ℕ) (t : List ℕ) → isTail b ≡ true → replaced (b ∷ t) ≡ b ∷ replaced t
+tail-kept : (b : ℕ) (t : List ℕ) → isTail b ≡ true → referencesReplaced (b ∷ t) ≡ b ∷ referencesReplaced t
 unfolding replacedAfter
 tail-kept b t e = let l = tail-low b e in rw (ref-plain b t (λ z. omega arith))
 
@@ -39,7 +39,7 @@ meant-plain (r ∷ rs) s b h e = go (hasAt (r .written) s 0) (meant-plain rs s b
     go true m = h .0
     go false m = m
 
-none-made : (t : List ℕ) → isTail (byteAt t 0) ≡ false → isTail (byteAt (replaced t) 0) ≡ false
+none-made : (t : List ℕ) → isTail (byteAt t 0) ≡ false → isTail (byteAt (referencesReplaced t) 0) ≡ false
 unfolding replacedAfter isTail
 none-made [] e = refl
 none-made (b ∷ t) e = meant-plain references (b ∷ t) b (refl, (refl, (refl, (refl, (refl, tt))))) e
@@ -64,12 +64,12 @@ data Alike : List ℕ → List ℕ → Type 0 where
   stop : {u v : List ℕ} → isTail (byteAt u 0) ≡ false → isTail (byteAt v 0) ≡ false → Alike u v
   same : {b : ℕ} {u v : List ℕ} → Alike u v → Alike (b ∷ u) (b ∷ v)
 
-replaced-alike : (t : List ℕ) → Alike (replaced t) t
+replaced-alike : (t : List ℕ) → Alike (referencesReplaced t) t
 unfolding isTail
 replaced-alike [] = stop (none-made [] refl) refl
 replaced-alike (b ∷ t) = go (isTail b) refl (replaced-alike t)
   where
-    go : (k : Bool) → isTail b ≡ k → Alike (replaced t) t → Alike (replaced (b ∷ t)) (b ∷ t)
+    go : (k : Bool) → isTail b ≡ k → Alike (referencesReplaced t) t → Alike (referencesReplaced (b ∷ t)) (b ∷ t)
     go true e l = rw (tail-kept b t e) (same l)
     go false e l = stop (none-made (b ∷ t) e) e
 
@@ -122,11 +122,11 @@ module _ (a : ℕ) (t : List ℕ) (k : ℕ) where
       (choose _ (four-bytes (between 240 247 a) ((a - 240) * 262144 + (byteAt t 0 - 128) * 4096 + (byteAt t 1 - 128) * 64 + (byteAt t 2 - 128))) (λ e. absurd (omega arith))))) f
 
 -- the rest of a character is passed over as it stands in the text
-pub none-left : (k : ℕ) → charactersAfter k (replaced []) ≡ 0
+pub none-left : (k : ℕ) → charactersAfter k (referencesReplaced []) ≡ 0
 unfolding replacedAfter charactersAfter
 none-left k = refl
 
-tails-past : (k : ℕ) (t : List ℕ) → Tails k t → charactersAfter k (replaced t) ≡ characters (replaced (drop k t))
+tails-past : (k : ℕ) (t : List ℕ) → Tails k t → charactersAfter k (referencesReplaced t) ≡ characters (referencesReplaced (drop k t))
 unfolding charactersAfter
 tails-past zero t h = refl
 tails-past (suc k) [] h = none-left (suc k) ∙ sym (none-left 0)
@@ -140,7 +140,7 @@ rest-tails b t = go (charSizeAt (b ∷ t) 0) refl
     go (suc k) e = rw sub-one (size-tails b t k e .1)
 
 -- where no reference stands, one character is counted
-pub one-char : (b : ℕ) (t : List ℕ) → whichAt references (b ∷ t) 0 ≡ none → characters (replaced (b ∷ t)) ≡ suc (characters (replaced (drop (charSizeAt (b ∷ t) 0 - 1) t)))
+pub one-char : (b : ℕ) (t : List ℕ) → whichAt references (b ∷ t) 0 ≡ none → characters (referencesReplaced (b ∷ t)) ≡ suc (characters (referencesReplaced (drop (charSizeAt (b ∷ t) 0 - 1) t)))
 unfolding replacedAfter charactersAfter
 one-char b t e = rw (e, alike-size b (replaced-alike t)) (ap suc (tails-past (charSizeAt (b ∷ t) 0 - 1) t (rest-tails b t)))
 
@@ -192,7 +192,7 @@ module _ (t : List ℕ) (i : ℕ) (h : i < length t) where
       go (suc k) e = omega (arith, size-tails (byteAt t i) (drop (suc i) t) k (size-here ∙ e) .0)
 
   -- a character
-  char-counted : whichAt references t i ≡ none → characters (replaced (drop i t)) ≡ suc (characters (replaced (drop (suc i + (charSizeAt t i - 1)) t)))
+  char-counted : whichAt references t i ≡ none → characters (referencesReplaced (drop i t)) ≡ suc (characters (referencesReplaced (drop (suc i + (charSizeAt t i - 1)) t)))
   char-counted e = rw (drop-cons t i 0 h) (one-char (byteAt t i) (drop (suc i) t) (which-here ∙ e) ∙ rw (size-here, drop-drop))
 
   ascii-past : whichAt references t i ≡ none → byteAt t i ≤ 127 → OnePast t i (i + 1)
@@ -225,7 +225,7 @@ module _ (t : List ℕ) (i : ℕ) (h : i < length t) where
   pub past-amp : (q : ℕ) → byteAt t i ≡ 38 → refAt t i ≡ Broken q → OnePast t i (i + 1)
   past-amp q b e = ascii-past (ref-is-none t i q e) (omega arith)
 
-  ref-counted : (r : Reference) (n : ℕ) → length (r .written) ≡ suc n → r .means ≤ 127 → i + length (r .written) ≤ length t → whichAt references t i ≡ some r → characters (replaced (drop i t)) ≡ suc (characters (replaced (drop (i + length (r .written)) t)))
+  ref-counted : (r : Reference) (n : ℕ) → length (r .written) ≡ suc n → r .means ≤ 127 → i + length (r .written) ≤ length t → whichAt references t i ≡ some r → characters (referencesReplaced (drop i t)) ≡ suc (characters (referencesReplaced (drop (i + length (r .written)) t)))
   unfolding replacedAfter charactersAfter
   ref-counted r n l m w e =
       let q : i + suc n ≡ suc i + n = omega arith in
@@ -239,7 +239,7 @@ module _ (t : List ℕ) (i : ℕ) (h : i < length t) where
       let g = ref-past t i q e in
       record { on = g .on; within = g .within; counted = rw (r .past) at c }
 
-pub characters-end : (t : List ℕ) (i : ℕ) → length t ≤ i → characters (replaced (drop i t)) ≡ 0
+pub characters-end : (t : List ℕ) (i : ℕ) → length t ≤ i → characters (referencesReplaced (drop i t)) ≡ 0
 characters-end t i h = rw (drop-of-length-le t h) (none-left 0)
 
 -- BOUNDS: no more characters than bytes, and one where there is a byte
@@ -255,15 +255,15 @@ replaced-most k [] = omega arith
 replaced-most (suc k) (b ∷ t) = omega (arith, replaced-most k t)
 replaced-most zero (b ∷ t) = omega (arith, replaced-most (follow (whichAt references (b ∷ t) 0)) t)
 
-pub never-more : (t : List ℕ) → characters (replaced t) ≤ length t
-never-more t = omega (arith, after-most 0 (replaced t), replaced-most 0 t)
+pub never-more : (t : List ℕ) → characters (referencesReplaced t) ≤ length t
+never-more t = omega (arith, after-most 0 (referencesReplaced t), replaced-most 0 t)
 
 pub one-at-least : (t : List ℕ) → 1 ≤ length t → 1 ≤ characters t
 unfolding charactersAfter
 one-at-least [] h = absurd (omega arith)
 one-at-least (b ∷ t) h = omega arith
 
-replaced-some : (t : List ℕ) → 1 ≤ length t → 1 ≤ length (replaced t)
+replaced-some : (t : List ℕ) → 1 ≤ length t → 1 ≤ length (referencesReplaced t)
 unfolding replacedAfter
 replaced-some [] h = absurd (omega arith)
 replaced-some (b ∷ t) h = omega arith
@@ -272,17 +272,17 @@ replaced-some (b ∷ t) h = omega arith
 module _ (t : List ℕ) where
   pub name-empty : length t < 1 → anagrafica t ≡ false
   unfolding anagrafica
-  name-empty h = let m = never-more t in rw (lt-leb 1 (characters (replaced t)) (omega arith))
+  name-empty h = let m = never-more t in rw (lt-leb 1 (characters (referencesReplaced t)) (omega arith))
 
   module _ (h : 1 ≤ length t) where
-    pub name-counted : anagrafica t ≡ leb (characters (replaced t)) 140
+    pub name-counted : anagrafica t ≡ leb (characters (referencesReplaced t)) 140
     unfolding anagrafica
-    name-counted = rw (le-leb 1 (characters (replaced t)) (one-at-least (replaced t) (replaced-some t h)))
+    name-counted = rw (le-leb 1 (characters (referencesReplaced t)) (one-at-least (referencesReplaced t) (replaced-some t h)))
 
     pub name-short : length t ≤ 140 → anagrafica t ≡ true
-    name-short k = name-counted ∙ le-leb (characters (replaced t)) 140 (omega (arith, never-more t))
+    name-short k = name-counted ∙ le-leb (characters (referencesReplaced t)) 140 (omega (arith, never-more t))
 
 -- how long a name is
-pub anagrafica-length : (t : List ℕ) → anagrafica t ≡ true → (1 ≤ length t) × (characters (replaced t) ≤ 140)
+pub anagrafica-length : (t : List ℕ) → anagrafica t ≡ true → (1 ≤ length t) × (characters (referencesReplaced t) ≤ 140)
 unfolding anagrafica
-anagrafica-length t e = let k = in-range 1 140 (characters (replaced t)) e in let m = never-more t in (omega arith, k .1)
+anagrafica-length t e = let k = in-range 1 140 (characters (referencesReplaced t)) e in let m = never-more t in (omega arith, k .1)

@@ -25,8 +25,8 @@ replacedAfter (suc k) (b ∷ t) = replacedAfter k t
 replacedAfter zero (b ∷ t) =
     meant (whichAt references (b ∷ t) 0) b ∷ replacedAfter (follow (whichAt references (b ∷ t) 0)) t
 
-abbrev pub replaced : List ℕ → List ℕ
-replaced t = replacedAfter 0 t
+abbrev pub referencesReplaced : List ℕ → List ℕ
+referencesReplaced t = replacedAfter 0 t
 
 -- how many characters t has, its first k bytes being the rest of one that was counted before. A byte that begins no character counts as one;
 -- no text of a flow whose markup stands holds such a byte (`flow-counted`, crates/tree/specs/Names.antt).
@@ -40,4 +40,4 @@ characters t = charactersAfter 0 t
 
 -- anagrafica: "1 to 140 characters, each of the five references counting as one"
 unfoldable pub anagrafica : List ℕ → Bool
-anagrafica t = between 1 140 (characters (replaced t))
+anagrafica t = between 1 140 (characters (referencesReplaced t))

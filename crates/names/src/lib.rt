@@ -4,7 +4,7 @@ ghost use mathlib.Core.Path.{_≡_};
 ghost use Prim.Native.Nat.{_<_};
 ghost use lib.ListN.{length};
 ghost use Rattle.scan.specs.Bytes.{byteAt};
-ghost use Rattle.names.specs.Names.{replaced, characters, anagrafica};
+ghost use Rattle.names.specs.Names.{referencesReplaced, characters, anagrafica};
 ghost use Rattle.names.specs.Inner.{OnePast};
 
 // Past the reference at a position, or past its & alone.
@@ -37,7 +37,7 @@ fn past_one(t: &[u8], at: usize) -> usize
 
 // How many characters a text has once the five references are replaced, counted without replacing them.
 pub fn characters_of(t: &[u8]) -> usize
-    ensures { λ r. ⌜ r ≡ characters (replaced (now (t .entry))) ⌝ }
+    ensures { λ r. ⌜ r ≡ characters (referencesReplaced (now (t .entry))) ⌝ }
 {
     let mut i = 0;
     let mut n: usize = 0;

@@ -25,7 +25,7 @@ use Rattle.dates.specs.declared.Day.{Day}
 use Rattle.dates.specs.declared.Day.the-variants.{On, NoDay}
 use Rattle.children.specs.declared.Child.{Child}
 use Rattle.rows.specs.Read.{readAt, fieldRead}
-use Rattle.orders.specs.Said.{numberOf, dayOf, saidOperation}
+use Rattle.orders.specs.Said.{numberOf, dateRead, saidOperation}
 use Rattle.codes.specs.Codes.{tipoOperazione}
 use Rattle.digits.specs.Digits.{esercizio, numero, importo, progressivo}
 use Rattle.dates.specs.Dates.{dataOf}
@@ -440,7 +440,7 @@ number-said : (c : Child) (x : Cause) (n : Number) → numberOf (readAt c (told 
 number-said c x (Value v) = refl
 number-said c x NoNumber = refl
 
-day-said : (c : Child) (x : Cause) (d : Day) → dayOf (readAt c (told x (ofDay d))) ≡ dateOf d
+day-said : (c : Child) (x : Cause) (d : Day) → dateRead (readAt c (told x (ofDay d))) ≡ dateOf d
 day-said c x (On d) = refl
 day-said c x NoDay = refl
 
@@ -465,7 +465,7 @@ module _ (s : List ℕ) (c : Child) (t : List ℕ) (e : t ≡ part s (c .gt + 1)
   unfolding fieldRead
   says-esercizio = rw (← e) (number-said c (causeOf Esercizio t) (esercizio t))
 
-  pub says-data : dayOf (fieldRead s Data c) ≡ dateOf (dataOf t)
+  pub says-data : dateRead (fieldRead s Data c) ≡ dateOf (dataOf t)
   unfolding fieldRead
   says-data = rw (← e) (day-said c (causeOf Data t) (dataOf t))
 

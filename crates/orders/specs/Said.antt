@@ -31,9 +31,9 @@ daySaid (Operation o) = noDate
 daySaid (Accepted o) = noDate
 daySaid (Refused o) = noDate
 
-abbrev pub dayOf : FieldRead → Date
-dayOf (Said v i) = daySaid v
-dayOf (Broken p x) = noDate
+abbrev pub dateRead : FieldRead → Date
+dateRead (Said v i) = daySaid v
+dateRead (Broken p x) = noDate
 
 abbrev pub operationSaid : Value → Operazione
 operationSaid Text = Sostituzione

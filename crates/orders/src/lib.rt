@@ -26,7 +26,7 @@ ghost use Rattle.rows.specs.Table.{table};
 ghost use Rattle.rows.specs.Kept.{keptFrom, nextOf};
 ghost use Rattle.structure.specs.Structure.{ranges};
 ghost use Rattle.orders.specs.Shape.{orderRows, lineRows, namedRows, isReplacing, lineRowsOf, Shaped, Filled};
-ghost use Rattle.orders.specs.Said.{numberSaid, numberOf, daySaid, dayOf, operationSaid, saidOperation};
+ghost use Rattle.orders.specs.Said.{numberSaid, numberOf, daySaid, dateRead, operationSaid, saidOperation};
 ghost use Rattle.orders.specs.Orders.{those, namedBy, namedOf, namedIn, lineBy, lineOf, linesIn, kindOf, orderBy, orderOf, holdsOrder, isOrder, ordersIn};
 
 // The number, the date or the operation that a field says. (The defaults are never used: the field stands.)
@@ -71,7 +71,7 @@ fn day_said(v: Value) -> Date
 }
 
 fn day_of(r: FieldRead) -> Date
-    ensures { λ x. ⌜ x ≡ dayOf r ⌝ }
+    ensures { λ x. ⌜ x ≡ dateRead r ⌝ }
 {
     match r {
         FieldRead::Said(v, _) => day_said(v),
@@ -194,7 +194,8 @@ fn is_replacing(parent: Parent) -> bool
 
 // The line that is named by one whose party begins at a place: the structure stands after it.
 fn named_after(s: &[u8], from: usize, parent: Parent, past: &[u32]) -> NamedLine
-    requires { ⌜ (ranges (table parent) ≡ lineRows true) × Filled (drop 2 (lineRows true)) 1 parent (now s) 2 from × Noted (now s) (now past) × (isReplacing parent ≡ true) ⌝ }
+    requires { ⌜ (ranges (table parent) ≡ lineRows true) × Filled (drop 2 (lineRows true)) 1 parent (now s) 2 from × Noted (now s) (now past)
+        × (isReplacing parent ≡ true) ⌝ }
     ensures { λ r. ⌜ r ≡ namedIn (now (s .entry)) (keptFrom parent (now (s .entry)) from) ⌝ }
 {
     let a = first_named(s, from, parent, past).child;
@@ -204,7 +205,8 @@ fn named_after(s: &[u8], from: usize, parent: Parent, past: &[u32]) -> NamedLine
 
 // The line whose named children begin at a place.
 fn line_from(s: &[u8], from: usize, parent: Parent, past: &[u32]) -> Line
-    requires { ⌜ (ranges (table parent) ≡ lineRows (isReplacing parent)) × Filled (lineRows (isReplacing parent)) 1 parent (now s) 0 from × Noted (now s) (now past) ⌝ }
+    requires { ⌜ (ranges (table parent) ≡ lineRows (isReplacing parent)) × Filled (lineRows (isReplacing parent)) 1 parent (now s) 0 from
+        × Noted (now s) (now past) ⌝ }
     ensures { λ r. ⌜ r ≡ lineBy (now (s .entry)) (keptFrom parent (now (s .entry)) from) ⌝ }
 {
     let a = first_named(s, from, parent, past).child;

@@ -9,9 +9,9 @@ use Rattle.words.specs.Numbers.{put}
 use Rattle.record.specs.Slot.{slotSize}
 
 -- how many the flags keep
-unfoldable pub kept : List ℕ → ℕ
-kept [] = 0
-kept (f ∷ fs) = cond (eqb f 1) (suc (kept fs)) (kept fs)
+unfoldable pub chosenCount : List ℕ → ℕ
+chosenCount [] = 0
+chosenCount (f ∷ fs) = cond (eqb f 1) (suc (chosenCount fs)) (chosenCount fs)
 
 -- the elements that the flags keep, in order
 unfoldable pub chosen : {A : Type 0} → List A → List ℕ → List A
@@ -24,10 +24,14 @@ abbrev pub slotBytes : List ℕ → ℕ → List ℕ
 slotBytes t at = take slotSize (drop at t)
 
 -- the bytes of the slots from `at` on that the flags keep, in order
-unfoldable pub keptBytes : List ℕ → ℕ → List ℕ → List ℕ
-keptBytes t at [] = []
-keptBytes t at (f ∷ fs) = cond (eqb f 1) (slotBytes t at) [] ++ keptBytes t (at + slotSize) fs
+unfoldable pub chosenBytes : List ℕ → ℕ → List ℕ → List ℕ
+chosenBytes t at [] = []
+chosenBytes t at (f ∷ fs) = cond (eqb f 1) (slotBytes t at) [] ++ chosenBytes t (at + slotSize) fs
 
 -- the table with these slots moved up to the body's first place, zeros after them to the body's end, and every other byte as it was
 unfoldable pub packed : List ℕ → ℕ → List ℕ → List ℕ
-packed t base fs = put t base (keptBytes t base fs ++ replicate (slotSize * (length fs - kept fs)) 0)
+packed t base fs = put t base (chosenBytes t base fs ++ replicate (slotSize * (length fs - chosenCount fs)) 0)
+
+-- a slot's flag
+abbrev pub flag : Bool → ℕ
+flag b = cond b 1 0

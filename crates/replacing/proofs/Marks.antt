@@ -21,7 +21,7 @@ use Rattle.slots.specs.Slots.{findIn, distinct, noRecord, nth}
 use Rattle.slots.proofs.Search.{find-set, distinct-set, found-below, found-key}
 use Rattle.replacing.specs.declared.Naming.{Naming}
 use Rattle.replacing.specs.Replacing.{namingsOf, lineNamedIn, namedAt, namedCode, withReplacedAt, withReplaced, firstCode, replaceCode, replacedBy}
-use Rattle.replacing.specs.Inner.{namingAt, sameLine, earlier, codeAgain, readCode, replacedTo}
+use Rattle.replacing.specs.Inner.{namingAt, sameNamed, namedEarlier, codeAgain, readCode, replacedTo}
 
 abbrev clash : Type 0
 clash = _≡_ {A = ℕ} 0 1
@@ -176,15 +176,15 @@ module _ (r : Record) (l line amount : ℕ) (first : 1 ≤ l) (executed : getD (
       ∙ sym (in-there r line amount p)
 
 -- two lines of the same key are the same line where their numbers agree
-same-key : (x m : Naming) → x .key ≡ m .key → sameLine x m ≡ eqb (x .line) (m .line)
-unfolding sameLine
+same-key : (x m : Naming) → x .key ≡ m .key → sameNamed x m ≡ eqb (x .line) (m .line)
+unfolding sameNamed
 same-key x m e =
     let a = eq-eqb _ _ (ap (λ (k : Key). k .number) e) in
     let b = eq-eqb _ _ (ap (λ (k : Key). k .esercizio) e) in
     (λ i. eqb (x .line) (m .line) && (a i && b i)) ∙ and-true (eqb (x .line) (m .line))
 
-key-of-same : (x m : Naming) → x .key .kind ≡ m .key .kind → sameLine x m ≡ true → x .key ≡ m .key
-unfolding sameLine
+key-of-same : (x m : Naming) → x .key .kind ≡ m .key .kind → sameNamed x m ≡ true → x .key ≡ m .key
+unfolding sameNamed
 key-of-same x m k e =
     let a = both (eqb (x .line) (m .line)) _ e in
     let b = both (eqb (x .key .number) (m .key .number)) (eqb (x .key .esercizio) (m .key .esercizio)) (a .1) in
@@ -206,7 +206,7 @@ module _ (rs : List Record) (x m : Naming) (e : namedCode rs x ≡ 0) (k : x .ke
   unfolding withReplaced withReplacedAt
   marked-is = ap (withReplacedAt rs x) (takes rs x e .found)
 
-  other-line : (i : ℕ) → findIn rs 0 (m .key) ≡ At i → (i ≡ j → ⊥) → (b : Bool) → sameLine x m ≡ b → b ≡ false
+  other-line : (i : ℕ) → findIn rs 0 (m .key) ≡ At i → (i ≡ j → ⊥) → (b : Bool) → sameNamed x m ≡ b → b ≡ false
   other-line i f ne true q =
       let p = key-of-same x m k q in
       let g : At i ≡ At j = sym f ∙ ap (findIn rs 0) (sym p) ∙ takes rs x e .found in
@@ -215,7 +215,7 @@ module _ (rs : List Record) (x m : Naming) (e : namedCode rs x ≡ 0) (k : x .ke
   other-line i f ne false q = refl
 
   at-index : (i : ℕ) → findIn rs 0 (m .key) ≡ At i → (b : Bool) → eqb i j ≡ b
-      → lineNamedIn (nth (set rs j r) i) (m .line) (m .amount) ≡ codeAgain (sameLine x m) (lineNamedIn (nth rs i) (m .line) (m .amount))
+      → lineNamedIn (nth (set rs j r) i) (m .line) (m .amount) ≡ codeAgain (sameNamed x m) (lineNamedIn (nth rs i) (m .line) (m .amount))
   unfolding codeAgain
   at-index i f true q =
       let z : i ≡ j = eqb-true i j q in
@@ -229,15 +229,15 @@ module _ (rs : List Record) (x m : Naming) (e : namedCode rs x ≡ 0) (k : x .ke
   at-index i f false q =
       let ne = eqb-false i j q in
       ap (λ (y : Record). lineNamedIn y (m .line) (m .amount)) (getD-set-other rs j i r noRecord ne)
-      ∙ sym (ap (λ (b : Bool). codeAgain b (lineNamedIn (nth rs i) (m .line) (m .amount))) (other-line i f ne (sameLine x m) refl))
+      ∙ sym (ap (λ (b : Bool). codeAgain b (lineNamedIn (nth rs i) (m .line) (m .amount))) (other-line i f ne (sameNamed x m) refl))
 
   -- "already replaced, also earlier in this order": the marked line itself, and no other
-  pub mark-step : namedCode (withReplaced rs x) m ≡ codeAgain (sameLine x m) (namedCode rs m)
+  pub mark-step : namedCode (withReplaced rs x) m ≡ codeAgain (sameNamed x m) (namedCode rs m)
   unfolding namedCode namedAt
   mark-step = ap (namedAt (withReplaced rs x) m) (marked-find rs x 0 (m .key)) ∙ go (findIn rs 0 (m .key)) refl
     where
-      go : (f : Found) → findIn rs 0 (m .key) ≡ f → namedAt (withReplaced rs x) m f ≡ codeAgain (sameLine x m) (namedAt rs m f)
-      go Nothing f = sym (again-absent (sameLine x m))
+      go : (f : Found) → findIn rs 0 (m .key) ≡ f → namedAt (withReplaced rs x) m f ≡ codeAgain (sameNamed x m) (namedAt rs m f)
+      go Nothing f = sym (again-absent (sameNamed x m))
       go (At i) f = ap (λ (l : List Record). lineNamedIn (nth l i) (m .line) (m .amount)) marked-is ∙ at-index i f (eqb i j) refl
 
 -- NO LINE TWICE: once it was taken it is 25, whatever else is marked
@@ -248,7 +248,7 @@ again-taken true = refl
 again-taken false = refl
 
 pub taken-twice : (rs : List Record) (m : Naming) → namedCode rs m ≡ 0 → namedCode (withReplaced rs m) m ≡ 25
-unfolding codeAgain sameLine
+unfolding codeAgain sameNamed
 taken-twice rs m e =
     mark-step rs m m e refl ∙ rw (e, eq-eqb (m .line) (m .line) refl, eq-eqb (m .key .number) (m .key .number) refl, eq-eqb (m .key .esercizio) (m .key .esercizio) refl)
 
@@ -269,13 +269,13 @@ kind-of kind ls j = refl
 
 module _ (rs : List Record) (kind : ℕ) (ls : List Line) where
   seen : (j : ℕ) → ((i : ℕ) → i < j → namedCode (replacedTo kind ls rs i) (namingAt kind ls i) ≡ 0) → (m : Naming) → m .key .kind ≡ kind
-      → namedCode (replacedTo kind ls rs j) m ≡ codeAgain (earlier kind ls j m) (namedCode rs m)
-  unfolding replacedTo earlier codeAgain
+      → namedCode (replacedTo kind ls rs j) m ≡ codeAgain (namedEarlier kind ls j m) (namedCode rs m)
+  unfolding replacedTo namedEarlier codeAgain
   seen zero h m k = refl
   seen (suc j) h m k =
       mark-step (replacedTo kind ls rs j) (namingAt kind ls j) m (h j (omega arith)) (kind-of kind ls j ∙ sym k)
-      ∙ ap (codeAgain (sameLine (namingAt kind ls j) m)) (seen j (λ i l. h i (omega arith)) m k)
-      ∙ again-twice (sameLine (namingAt kind ls j) m) (earlier kind ls j m) (namedCode rs m)
+      ∙ ap (codeAgain (sameNamed (namingAt kind ls j) m)) (seen j (λ i l. h i (omega arith)) m k)
+      ∙ again-twice (sameNamed (namingAt kind ls j) m) (namedEarlier kind ls j m) (namedCode rs m)
 
   abbrev whole : ℕ
   whole = replaceCode rs (namingsOf kind ls)

@@ -10,7 +10,7 @@ use Rattle.order.specs.declared.Line.{Line}
 use Rattle.record.specs.declared.Record.{Record}
 use Rattle.replacing.specs.declared.Naming.{Naming}
 use Rattle.replacing.specs.Replacing.{namingOf, namingsOf, namedCode, withReplaced, replaceCode, replacedBy}
-use Rattle.replacing.specs.Inner.{sameLine, codeAgain}
+use Rattle.replacing.specs.Inner.{sameNamed, codeAgain}
 use Rattle.replacing.proofs.Marks.{mark-step, taken-twice, again-taken, or-zero}
 
 module _ (kind : ℕ) where
@@ -22,8 +22,8 @@ module _ (kind : ℕ) where
   stays rs (x ∷ ls) e l h =
       let z = or-zero (namedCode rs (namingOf kind x)) _ e in
       stays (withReplaced rs (namingOf kind x)) ls (z .1) l
-      (mark-step rs (namingOf kind x) (namingOf kind l) (z .0) refl ∙ ap (codeAgain (sameLine (namingOf kind x) (namingOf kind l))) h
-      ∙ again-taken (sameLine (namingOf kind x) (namingOf kind l)))
+      (mark-step rs (namingOf kind x) (namingOf kind l) (z .0) refl ∙ ap (codeAgain (sameNamed (namingOf kind x) (namingOf kind l))) h
+      ∙ again-taken (sameNamed (namingOf kind x) (namingOf kind l)))
 
   -- to name a line again that an accepted order named is 25
   pub never-twice : (rs : List Record) (ls : List Line) → replaceCode rs (namingsOf kind ls) ≡ 0 → (l : Line) → List·Memᴰ l ls
@@ -62,17 +62,17 @@ module _ (kind : ℕ) where
           → replaceCode (withReplaced rs (namingOf kind x)) (namingsOf kind ls) ≡ 0 → ⊥) → ⊥
       go (inl q) next = h (ap (λ (y : Line). namedCode rs (namingOf kind y)) q ∙ z .0)
       go (inr w) next =
-          next w (λ q. h (again-zero (sameLine (namingOf kind x) (namingOf kind l)) (namedCode rs (namingOf kind l)) (sym (mark-step rs (namingOf kind x) (namingOf kind l) (z .0) refl) ∙ q) .1)) (z .1)
+          next w (λ q. h (again-zero (sameNamed (namingOf kind x) (namingOf kind l)) (namedCode rs (namingOf kind l)) (sym (mark-step rs (namingOf kind x) (namingOf kind l) (z .0) refl) ∙ q) .1)) (z .1)
 
   -- an order two of whose lines name the same line is refused
-  pub twice-refused : (rs : List Record) (l : Line) (ls : List Line) (x : Line) → List·Memᴰ x ls → sameLine (namingOf kind l) (namingOf kind x) ≡ true
+  pub twice-refused : (rs : List Record) (l : Line) (ls : List Line) (x : Line) → List·Memᴰ x ls → sameNamed (namingOf kind l) (namingOf kind x) ≡ true
       → replaceCode rs (namingsOf kind (l ∷ ls)) ≡ 0 → ⊥
   unfolding replaceCode namingsOf
   twice-refused rs l ls x m s e =
       let z = or-zero (namedCode rs (namingOf kind l)) _ e in
       blocked (withReplaced rs (namingOf kind l)) ls x m
       (λ q.
-      let y = again-zero (sameLine (namingOf kind l) (namingOf kind x)) (namedCode rs (namingOf kind x)) (sym (mark-step rs (namingOf kind l) (namingOf kind x) (z .0) refl) ∙ q) .0 in
+      let y = again-zero (sameNamed (namingOf kind l) (namingOf kind x)) (namedCode rs (namingOf kind x)) (sym (mark-step rs (namingOf kind l) (namingOf kind x) (z .0) refl) ∙ q) .0 in
       let w : _≡_ {A = Bool} true false = sym s ∙ y in
       let v : _≡_ {A = ℕ} 0 1 = cc in
       absurd (omega arith)) (z .1)

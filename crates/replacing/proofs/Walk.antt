@@ -13,7 +13,7 @@ use Rattle.order.specs.Ordinativo.{noLine, linesThere}
 use Rattle.record.specs.declared.Record.{Record}
 use Rattle.replacing.specs.declared.Naming.{Naming}
 use Rattle.replacing.specs.Replacing.{namingOf, lineNamedIn, namedCode}
-use Rattle.replacing.specs.Inner.{namingAt, sameLine, earlier, codeAgain, readCode}
+use Rattle.replacing.specs.Inner.{namingAt, sameNamed, namedEarlier, codeAgain, readCode}
 use Rattle.replacing.proofs.Marks.{in-out, in-there}
 
 -- THE RECORD
@@ -45,27 +45,27 @@ module _ (r : Record) (line amount : ℕ) where
 -- THE EARLIER LINES
 
 module _ (kind : ℕ) (ls : List Line) (i : ℕ) (m : Naming) where
-  pub earlier-none : i ≤ 0 → earlier kind ls i m ≡ false
-  unfolding earlier
+  pub earlier-none : i ≤ 0 → namedEarlier kind ls i m ≡ false
+  unfolding namedEarlier
   earlier-none h = let q : i ≡ 0 = omega arith in rw q
 
-  module _ {x : Naming} {b : Bool} (h : 0 < i) (e : x ≡ namingAt kind ls (i - 1)) (s : b ≡ sameLine x m) where
-    more : earlier kind ls i m ≡ (b || earlier kind ls (i - 1) m)
-    unfolding earlier
+  module _ {x : Naming} {b : Bool} (h : 0 < i) (e : x ≡ namingAt kind ls (i - 1)) (s : b ≡ sameNamed x m) where
+    more : namedEarlier kind ls i m ≡ (b || namedEarlier kind ls (i - 1) m)
+    unfolding namedEarlier
     more =
         let q : i ≡ suc (i - 1) = omega arith in
-        ap (λ (n : ℕ). earlier kind ls n m) q ∙ ap (λ (y : Bool). y || earlier kind ls (i - 1) m) (sym (s ∙ ap (λ (y : Naming). sameLine y m) e))
+        ap (λ (n : ℕ). namedEarlier kind ls n m) q ∙ ap (λ (y : Bool). y || namedEarlier kind ls (i - 1) m) (sym (s ∙ ap (λ (y : Naming). sameNamed y m) e))
 
-    pub earlier-hit : b ≡ true → earlier kind ls i m ≡ true
+    pub earlier-hit : b ≡ true → namedEarlier kind ls i m ≡ true
     earlier-hit q = more ∙ rw q
 
-    pub earlier-miss : b ≡ false → earlier kind ls i m ≡ earlier kind ls (i - 1) m
+    pub earlier-miss : b ≡ false → namedEarlier kind ls i m ≡ namedEarlier kind ls (i - 1) m
     earlier-miss q = more ∙ rw q
 
 -- one line, as the code puts it together
-pub line-comes : (rs : List Record) (kind : ℕ) (ls : List Line) (j : ℕ) {m : Naming} {b : Bool} {c x : ℕ} → m ≡ namingAt kind ls j → c ≡ namedCode rs m → b ≡ earlier kind ls j m → x ≡ codeAgain b c
+pub line-comes : (rs : List Record) (kind : ℕ) (ls : List Line) (j : ℕ) {m : Naming} {b : Bool} {c x : ℕ} → m ≡ namingAt kind ls j → c ≡ namedCode rs m → b ≡ namedEarlier kind ls j m → x ≡ codeAgain b c
     → x ≡ readCode kind ls rs j
-line-comes rs kind ls j e p q s = s ∙ (λ i. codeAgain (q i) (p i)) ∙ ap (λ (y : Naming). codeAgain (earlier kind ls j y) (namedCode rs y)) e
+line-comes rs kind ls j e p q s = s ∙ (λ i. codeAgain (q i) (p i)) ∙ ap (λ (y : Naming). codeAgain (namedEarlier kind ls j y) (namedCode rs y)) e
 
 -- what a line names, read at its own place
 pub naming-there : (kind : ℕ) (ls : Lines) (j : ℕ) → j < length (linesThere ls) → namingOf kind (getD (ls .each) j noLine) ≡ namingAt kind (linesThere ls) j

@@ -15,13 +15,13 @@ unfoldable pub namingAt : ℕ → List Line → ℕ → Naming
 namingAt kind ls j = namingOf kind (getD ls j noLine)
 
 -- two lines of an order name the same line
-unfoldable pub sameLine : Naming → Naming → Bool
-sameLine a b = eqb (a .line) (b .line) && (eqb (a .key .number) (b .key .number) && eqb (a .key .esercizio) (b .key .esercizio))
+unfoldable pub sameNamed : Naming → Naming → Bool
+sameNamed a b = eqb (a .line) (b .line) && (eqb (a .key .number) (b .key .number) && eqb (a .key .esercizio) (b .key .esercizio))
 
 -- one of an order's first j lines names this line
-unfoldable pub earlier : ℕ → List Line → ℕ → Naming → Bool
-earlier kind ls zero m = false
-earlier kind ls (suc j) m = sameLine (namingAt kind ls j) m || earlier kind ls j m
+unfoldable pub namedEarlier : ℕ → List Line → ℕ → Naming → Bool
+namedEarlier kind ls zero m = false
+namedEarlier kind ls (suc j) m = sameNamed (namingAt kind ls j) m || namedEarlier kind ls j m
 
 -- the code of a line that was named before: there is no such line, or it is replaced already
 unfoldable pub codeAgain : Bool → ℕ → ℕ
@@ -29,7 +29,7 @@ codeAgain before c = cond before (cond (eqb c 24) 24 25) c
 
 -- what line j comes to, by reading only
 abbrev pub readCode : ℕ → List Line → List Record → ℕ → ℕ
-readCode kind ls rs j = codeAgain (earlier kind ls j (namingAt kind ls j)) (namedCode rs (namingAt kind ls j))
+readCode kind ls rs j = codeAgain (namedEarlier kind ls j (namingAt kind ls j)) (namedCode rs (namingAt kind ls j))
 
 -- the records after an order's first j lines
 unfoldable pub replacedTo : ℕ → List Line → List Record → ℕ → List Record

@@ -11,7 +11,7 @@ ghost use Rattle.order.specs.Ordinativo.{linesThere, ordinativo};
 ghost use Rattle.record.specs.Slot.{slotSize};
 ghost use Rattle.slots.specs.Slots.{recordsAt};
 ghost use Rattle.replacing.specs.Replacing.{namings, lineNamedIn, namedCode, replaceCode, linePut, linesPut};
-ghost use Rattle.replacing.specs.Inner.{namingAt, sameLine, earlier, codeAgain, readCode};
+ghost use Rattle.replacing.specs.Inner.{namingAt, sameNamed, namedEarlier, codeAgain, readCode};
 
 // The line that a line of an order names, and that line's own amount.
 pub struct Naming {
@@ -83,7 +83,7 @@ fn named_code(t: &[u8], base: usize, n: usize, m: Naming) -> u8
 }
 
 fn same_line(a: Naming, b: Naming) -> bool
-    ensures { λ r. ⌜ r ≡ sameLine a b ⌝ }
+    ensures { λ r. ⌜ r ≡ sameNamed a b ⌝ }
 {
     let x = a.key;
     let y = b.key;
@@ -99,7 +99,7 @@ fn same_line(a: Naming, b: Naming) -> bool
 // Whether one of the order's first j lines names this line.
 fn named_before(o: Order, j: usize, m: Naming) -> bool
     requires { ⌜ (j ≤ length (linesThere (o .lines))) × (j ≤ 8) ⌝ }
-    ensures { λ r. ⌜ r ≡ earlier (o .kind) (linesThere (o .lines)) j m ⌝ }
+    ensures { λ r. ⌜ r ≡ namedEarlier (o .kind) (linesThere (o .lines)) j m ⌝ }
 {
     let mut i = j;
     while 0 < i {

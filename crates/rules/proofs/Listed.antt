@@ -25,7 +25,7 @@ use Rattle.slots.proofs.Search.{nothing-is, found-below, found-key}
 use Rattle.lines.specs.Lines.{numberedFrom, sumOf, lineCode}
 use Rattle.replacing.specs.declared.Naming.{Naming}
 use Rattle.replacing.specs.Replacing.{namings, lineNamedIn, namedAt, namedCode, replaceCode}
-use Rattle.replacing.specs.Inner.{namingAt, sameLine, earlier, codeAgain, readCode}
+use Rattle.replacing.specs.Inner.{namingAt, sameNamed, namedEarlier, codeAgain, readCode}
 use Rattle.replacing.proofs.Marks.{Comes, stops, stands, comes}
 use Rattle.rules.specs.declared.Situation.{Situation}
 use Rattle.rules.specs.declared.Situation.the-variants.{Absent, Annulled, Waiting, Executed}
@@ -289,8 +289,8 @@ module _ (o : Ordinativo) where
   abbrev at : ℕ → Naming
   at j = namingAt (o .kind) (o .lines) j
 
-  same-named : (i j : ℕ) → sameLine (at i) (at j) ≡ true → lineAt o i .named ≡ lineAt o j .named
-  unfolding sameLine namingAt
+  same-named : (i j : ℕ) → sameNamed (at i) (at j) ≡ true → lineAt o i .named ≡ lineAt o j .named
+  unfolding sameNamed namingAt
   same-named i j e =
       let a = both (eqb (at i .line) (at j .line)) _ e in
       let b = both (eqb (at i .key .number) (at j .key .number)) (eqb (at i .key .esercizio) (at j .key .esercizio)) (a .1) in
@@ -299,8 +299,8 @@ module _ (o : Ordinativo) where
       let z = eqb-true _ _ (b .1) in
       λ k. record { number = y k; line = x k; esercizio = z k }
 
-  named-same : (i j : ℕ) → lineAt o i .named ≡ lineAt o j .named → sameLine (at i) (at j) ≡ true
-  unfolding sameLine namingAt
+  named-same : (i j : ℕ) → lineAt o i .named ≡ lineAt o j .named → sameNamed (at i) (at j) ≡ true
+  unfolding sameNamed namingAt
   named-same i j e =
       rw (
         eq-eqb (lineAt o i .named .line) (lineAt o j .named .line) (ap (λ (n : NamedLine). n .line) e),
@@ -308,22 +308,22 @@ module _ (o : Ordinativo) where
         eq-eqb (lineAt o i .named .esercizio) (lineAt o j .named .esercizio) (ap (λ (n : NamedLine). n .esercizio) e),
       )
 
-  before : (n j : ℕ) → earlier (o .kind) (o .lines) n (at j) ≡ true → (i : ℕ) × (i < n) × (lineAt o i .named ≡ lineAt o j .named)
-  unfolding earlier
+  before : (n j : ℕ) → namedEarlier (o .kind) (o .lines) n (at j) ≡ true → (i : ℕ) × (i < n) × (lineAt o i .named ≡ lineAt o j .named)
+  unfolding namedEarlier
   before zero j e = false-true e
-  before (suc n) j e = go (sameLine (at n) (at j)) refl e (before n j)
+  before (suc n) j e = go (sameNamed (at n) (at j)) refl e (before n j)
     where
-      go : (b : Bool) → sameLine (at n) (at j) ≡ b → (b || earlier (o .kind) (o .lines) n (at j)) ≡ true
-          → (earlier (o .kind) (o .lines) n (at j) ≡ true → (i : ℕ) × (i < n) × (lineAt o i .named ≡ lineAt o j .named)) → (i : ℕ) × (i < suc n) × (lineAt o i .named ≡ lineAt o j .named)
+      go : (b : Bool) → sameNamed (at n) (at j) ≡ b → (b || namedEarlier (o .kind) (o .lines) n (at j)) ≡ true
+          → (namedEarlier (o .kind) (o .lines) n (at j) ≡ true → (i : ℕ) × (i < n) × (lineAt o i .named ≡ lineAt o j .named)) → (i : ℕ) × (i < suc n) × (lineAt o i .named ≡ lineAt o j .named)
       go true p e next = (n, omega arith, same-named n j p)
       go false p e next = let x = next e in let l = x .1 in (x .0, omega arith, x .2)
 
-  is-before : (n j i : ℕ) → i < n → lineAt o i .named ≡ lineAt o j .named → earlier (o .kind) (o .lines) n (at j) ≡ true
-  unfolding earlier
+  is-before : (n j i : ℕ) → i < n → lineAt o i .named ≡ lineAt o j .named → namedEarlier (o .kind) (o .lines) n (at j) ≡ true
+  unfolding namedEarlier
   is-before zero j i h e = absurd (omega arith)
   is-before (suc n) j i h e = go (eqb i n) refl (λ q. is-before n j i q e)
     where
-      go : (b : Bool) → eqb i n ≡ b → (i < n → earlier (o .kind) (o .lines) n (at j) ≡ true) → (sameLine (at n) (at j) || earlier (o .kind) (o .lines) n (at j)) ≡ true
+      go : (b : Bool) → eqb i n ≡ b → (i < n → namedEarlier (o .kind) (o .lines) n (at j) ≡ true) → (sameNamed (at n) (at j) || namedEarlier (o .kind) (o .lines) n (at j)) ≡ true
       go true p next = let q = eqb-true i n p in rw (named-same n j (ap (λ (x : ℕ). lineAt o x .named) (sym q) ∙ e))
       go false p next = rw (next (omega (arith, eqb-false i n p)), or-true)
 
@@ -383,7 +383,7 @@ module _ (slots year : ℕ) (o : Ordinativo) (rs : List Record) where
   -- a refused line: what applies to it
   named-applies : o .operation ≡ Sostituzione → (j : ℕ) → j < length (o .lines) → (c : ℕ) → code j ≡ suc c → Applies slots year o rs (nameTurn j + (suc c - 24)) (suc c)
   unfolding codeAgain namingAt
-  named-applies p j l c e = go (earlier (o .kind) (o .lines) j (at o j)) refl (tells rs (at o j)) e
+  named-applies p j l c e = go (namedEarlier (o .kind) (o .lines) j (at o j)) refl (tells rs (at o j)) e
     where
       absent-again : (b : Bool) → codeAgain b 24 ≡ 24
       absent-again true = refl
@@ -392,7 +392,7 @@ module _ (slots year : ℕ) (o : Ordinativo) (rs : List Record) where
       kept-as : {t x : ℕ} → Applies slots year o rs t x → x ≡ suc c → t ≡ nameTurn j + (x - 24) → Applies slots year o rs (nameTurn j + (suc c - 24)) (suc c)
       kept-as {t} {x} a q r = subst (λ (y : ℕ). Applies slots year o rs (nameTurn j + (y - 24)) y) q (subst (λ (y : ℕ). Applies slots year o rs y x) r a)
 
-      go : (b : Bool) → earlier (o .kind) (o .lines) j (at o j) ≡ b → {n : ℕ} → Tells rs (at o j) n → codeAgain b n ≡ suc c → Applies slots year o rs (nameTurn j + (suc c - 24)) (suc c)
+      go : (b : Bool) → namedEarlier (o .kind) (o .lines) j (at o j) ≡ b → {n : ℕ} → Tells rs (at o j) n → codeAgain b n ≡ suc c → Applies slots year o rs (nameTurn j + (suc c - 24)) (suc c)
       go b q (none-such h) e = kept-as (no-order p j l h) (sym (absent-again b) ∙ e) (omega arith)
       go b q (not-first h) e = kept-as (line-zero p j l h) (sym (absent-again b) ∙ e) (omega arith)
       go b q (too-far r h k) e = kept-as (line-past p j l r h k) (sym (absent-again b) ∙ e) (omega arith)
@@ -452,7 +452,7 @@ module _ (slots year : ℕ) (o : Ordinativo) (rs : List Record) where
     -- A NAMED LINE, at what is listed: its code lies from 24 to the listed one
     module _ (j : ℕ) where
       code-from : (x : ℕ) → To x (namedCode rs (at o j)) → To x (code j)
-      code-from x t = again-to (earlier (o .kind) (o .lines) j (at o j)) x (namedCode rs (at o j)) t
+      code-from x t = again-to (namedEarlier (o .kind) (o .lines) j (at o j)) x (namedCode rs (at o j)) t
 
       of-record : (r : Record) → Has rs (namedKey o j) r → {x : ℕ} → To x (lineNamedIn r (namedNumber o j) (lineAt o j .amount)) → To x (namedCode rs (at o j))
       unfolding namedCode namedAt namingAt
@@ -602,7 +602,7 @@ module _ (slots year : ℕ) (o : Ordinativo) (rs : List Record) where
           go (stops j n l q h) e = stopped (record { turn = nameTurn j + (suc n - 24); with = suc n; is = e; applies = named-applies p j l n q; first = λ a. by (late numbered summed z a) })
             where
               upper : suc n ≤ 26
-              upper = at-most (earlier (o .kind) (o .lines) j (at o j)) (tells rs (at o j)) q
+              upper = at-most (namedEarlier (o .kind) (o .lines) j (at o j)) (tells rs (at o j)) q
 
               by : {t x : ℕ} → Late t x → nameTurn j + (suc n - 24) ≤ t
               by {t = v} (of-line p i k t u) = split (ltb i j) (ltb j i) refl refl

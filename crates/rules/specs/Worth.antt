@@ -67,11 +67,11 @@ abbrev pub onLine : ℕ → Value
 onLine line n cents = cond (eqb n line) 1 0
 
 -- A REPLACEMENT ORDER, of a flow for the esercizio `year` (document 02, Req 07). Other orders bring in and give up nothing
-abbrev pub replaces : Operation → Bool
-replaces Sostituzione = true
-replaces Inserimento = false
-replaces Variazione = false
-replaces Annullo = false
+abbrev pub isReplacement : Operation → Bool
+isReplacement Sostituzione = true
+isReplacement Inserimento = false
+isReplacement Variazione = false
+isReplacement Annullo = false
 
 -- it brings in its own lines: "the new line is executed at once"
 abbrev pub linesWorth : Value → ℕ → List Line → ℕ
@@ -79,7 +79,7 @@ linesWorth v n [] = 0
 linesWorth v n (l ∷ ls) = v n (l .amount) + linesWorth v (suc n) ls
 
 abbrev pub broughtBy : Which → Value → ℕ → Ordinativo → ℕ
-broughtBy p v year o = cond (replaces (o .operation)) (cond (p (keyFor year o)) (linesWorth v 1 (o .lines)) 0) 0
+broughtBy p v year o = cond (isReplacement (o .operation)) (cond (p (keyFor year o)) (linesWorth v 1 (o .lines)) 0) 0
 
 -- it gives up the lines that they name, each "of equal amount": "it becomes replaced (line state 3)"
 abbrev pub namedWorth : Which → Value → List Naming → ℕ
@@ -87,7 +87,7 @@ namedWorth p v [] = 0
 namedWorth p v (m ∷ ms) = cond (p (m .key)) (v (m .line) (m .amount)) 0 + namedWorth p v ms
 
 abbrev pub givenBy : Which → Value → ℕ → Ordinativo → ℕ
-givenBy p v year o = cond (replaces (o .operation)) (namedWorth p v (namings o)) 0
+givenBy p v year o = cond (isReplacement (o .operation)) (namedWorth p v (namings o)) 0
 
 -- BETWEEN YEARS (document 02, Req 14): the cents of lines that name a line of such a year
 abbrev pub namingYears : Years → List Line → ℕ
@@ -96,8 +96,8 @@ namingYears years (l ∷ ls) = cond (years (l .named .esercizio)) (l .amount) 0 
 
 -- "the cents of each accepted replacement line of an open year whose named line is of a closed one", the years being the open ones
 abbrev pub comeBy : ℕ → Years → ℕ → Ordinativo → ℕ
-comeBy kind years year o = cond (replaces (o .operation)) (cond (ofKindIn kind years (keyFor year o)) (namingYears (λ y. not (years y)) (o .lines)) 0) 0
+comeBy kind years year o = cond (isReplacement (o .operation)) (cond (ofKindIn kind years (keyFor year o)) (namingYears (λ y. not (years y)) (o .lines)) 0) 0
 
 -- "those of a closed year whose named line is of an open one"
 abbrev pub goneBy : ℕ → Years → ℕ → Ordinativo → ℕ
-goneBy kind years year o = cond (replaces (o .operation)) (cond (ofKindIn kind (λ y. not (years y)) (keyFor year o)) (namingYears years (o .lines)) 0) 0
+goneBy kind years year o = cond (isReplacement (o .operation)) (cond (ofKindIn kind (λ y. not (years y)) (keyFor year o)) (namingYears years (o .lines)) 0) 0

@@ -16,7 +16,7 @@ use Rattle.table.proofs.Laws.{head, laid}
 use Rattle.table.proofs.Kept.{number}
 use Rattle.service.specs.Service.{settled}
 use Rattle.packing.specs.Packing.{packed}
-use Rattle.keeping.specs.Keeping.{keepsAt, blankedFrom, moved, each}
+use Rattle.keeping.specs.Keeping.{keepsAt, blankedFrom, moved, eachBytes}
 use Rattle.salvage.specs.declared.Salvaged.{Salvaged}
 use Rattle.salvage.specs.declared.Salvaged.the-variants.{Repaired, InvalidContents, ShortReport}
 use Rattle.salvage.specs.Salvage.{keepsOf, bodyRepaired, repairedFrom, movedIn, blankedIn, blanked, reportOf, salvageOf}
@@ -78,28 +78,28 @@ module _ (t : List ℕ) (at k : ℕ) (h : k ≤ 0) where
   blanked-done = ap (blankedIn t at) none
 
 -- NUMBERS WRITTEN one after the other
-each-append : (bytes : ℕ → List ℕ) (xs ys : List ℕ) → each bytes (xs ++ ys) ≡ each bytes xs ++ each bytes ys
-unfolding each
+each-append : (bytes : ℕ → List ℕ) (xs ys : List ℕ) → eachBytes bytes (xs ++ ys) ≡ eachBytes bytes xs ++ eachBytes bytes ys
+unfolding eachBytes
 each-append bytes [] ys = refl
 each-append bytes (x ∷ xs) ys =
-    ap (λ (r : List ℕ). bytes x ++ r) (each-append bytes xs ys) ∙ sym (append-assoc (bytes x) (each bytes xs) (each bytes ys))
+    ap (λ (r : List ℕ). bytes x ++ r) (each-append bytes xs ys) ∙ sym (append-assoc (bytes x) (eachBytes bytes xs) (eachBytes bytes ys))
 
-pub each-four : (xs : List ℕ) → length (each bytes4 xs) ≡ 4 * length xs
-unfolding each
+pub each-four : (xs : List ℕ) → length (eachBytes bytes4 xs) ≡ 4 * length xs
+unfolding eachBytes
 each-four [] = refl
-each-four (x ∷ xs) = omega (arith, length-append (bytes4 x) (each bytes4 xs), length-append (bytes2 (x / 65536)) (bytes2 x), each-four xs)
+each-four (x ∷ xs) = omega (arith, length-append (bytes4 x) (eachBytes bytes4 xs), length-append (bytes2 (x / 65536)) (bytes2 x), each-four xs)
 
-each-two : (xs : List ℕ) → length (each bytes2 xs) ≡ 2 * length xs
-unfolding each
+each-two : (xs : List ℕ) → length (eachBytes bytes2 xs) ≡ 2 * length xs
+unfolding eachBytes
 each-two [] = refl
-each-two (x ∷ xs) = omega (arith, length-append (bytes2 x) (each bytes2 xs), each-two xs)
+each-two (x ∷ xs) = omega (arith, length-append (bytes2 x) (eachBytes bytes2 xs), each-two xs)
 
 -- the places of one body's blanked slots, and those of the bodies after it
-pub places-more : (r r′ : List ℕ) (to to′ : ℕ) (vs xs ys : List ℕ) → vs ≡ xs ++ ys → to ≤ length r → to′ ≡ to + 4 * length xs → r′ ≡ put r to (each bytes4 xs)
-    → put r to (each bytes4 vs) ≡ put r′ to′ (each bytes4 ys)
+pub places-more : (r r′ : List ℕ) (to to′ : ℕ) (vs xs ys : List ℕ) → vs ≡ xs ++ ys → to ≤ length r → to′ ≡ to + 4 * length xs → r′ ≡ put r to (eachBytes bytes4 xs)
+    → put r to (eachBytes bytes4 vs) ≡ put r′ to′ (eachBytes bytes4 ys)
 places-more r r′ to to′ vs xs ys q h l e =
-    ap (put r to) (ap (each bytes4) q ∙ each-append bytes4 xs ys)
-    ∙ sym ((λ i. put (e i) to′ (each bytes4 ys)) ∙ put-put r to (each bytes4 xs) (each bytes4 ys) to′ h (omega (arith, each-four xs)))
+    ap (put r to) (ap (eachBytes bytes4) q ∙ each-append bytes4 xs ys)
+    ∙ sym ((λ i. put (e i) to′ (eachBytes bytes4 ys)) ∙ put-put r to (eachBytes bytes4 xs) (eachBytes bytes4 ys) to′ h (omega (arith, each-four xs)))
 
 -- THE REPORT
 moved-length : (t : List ℕ) (at n : ℕ) → length (movedIn t at n) ≡ n
@@ -108,7 +108,7 @@ moved-length t at zero = refl
 moved-length t at (suc n) = ap suc (moved-length t (at + entrySize) n)
 
 -- the counts take two bytes for each body
-pub moved-two : (t : List ℕ) (n : ℕ) → length (each bytes2 (movedIn t headSize n)) ≡ 2 * n
+pub moved-two : (t : List ℕ) (n : ℕ) → length (eachBytes bytes2 (movedIn t headSize n)) ≡ 2 * n
 moved-two t n = each-two (movedIn t headSize n) ∙ ap (λ (m : ℕ). 2 * m) (moved-length t headSize n)
 
 pub report-length : (t : List ℕ) → length (reportOf t) ≡ 2 * bodies t + 4 * length (blanked t)
@@ -116,16 +116,16 @@ unfolding reportOf
 report-length t =
     let a = moved-two t (bodies t) in
     let c = each-four (blanked t) in
-    length-append (each bytes2 (movedIn t headSize (bodies t))) (each bytes4 (blanked t)) ∙ omega arith
+    length-append (eachBytes bytes2 (movedIn t headSize (bodies t))) (eachBytes bytes4 (blanked t)) ∙ omega arith
 
 -- counts, then places
-pub report-by : (t r r₁ r₂ : List ℕ) {n : ℕ} → n ≡ bodies t → r₁ ≡ put r 0 (each bytes2 (movedIn t headSize n)) → r₂ ≡ put r₁ (2 * n) (each bytes4 (blanked t)) → r₂ ≡ put r 0 (reportOf t)
+pub report-by : (t r r₁ r₂ : List ℕ) {n : ℕ} → n ≡ bodies t → r₁ ≡ put r 0 (eachBytes bytes2 (movedIn t headSize n)) → r₂ ≡ put r₁ (2 * n) (eachBytes bytes4 (blanked t)) → r₂ ≡ put r 0 (reportOf t)
 unfolding reportOf
 report-by t r r₁ r₂ {n} e f g =
     let x = moved-two t n in
-    g ∙ ap (λ (s : List ℕ). put s (2 * n) (each bytes4 (blanked t))) f
-    ∙ put-put r 0 (each bytes2 (movedIn t headSize n)) (each bytes4 (blanked t)) (2 * n) (omega arith) (omega arith)
-    ∙ ap (λ (m : ℕ). put r 0 (each bytes2 (movedIn t headSize m) ++ each bytes4 (blanked t))) e
+    g ∙ ap (λ (s : List ℕ). put s (2 * n) (eachBytes bytes4 (blanked t))) f
+    ∙ put-put r 0 (eachBytes bytes2 (movedIn t headSize n)) (eachBytes bytes4 (blanked t)) (2 * n) (omega arith) (omega arith)
+    ∙ ap (λ (m : ℕ). put r 0 (eachBytes bytes2 (movedIn t headSize m) ++ eachBytes bytes4 (blanked t))) e
 
 -- TOTALS SET ANEW
 pub settled-with : (t t′ : List ℕ) (at : ℕ) {a b : ℕ} → a ≡ centsOf 1 (recordsOf t at) → b ≡ centsOf 2 (recordsOf t at) → t′ ≡ put t (at + entryFixed) (keptBytes a b)

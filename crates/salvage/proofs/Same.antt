@@ -45,14 +45,14 @@ unfolding all
 bytes-zero zero = refl
 bytes-zero (suc k) = bytes-zero k
 
-bytes-kept : (t : List ℕ) → areBytes t ≡ true → (at : ℕ) (fs : List ℕ) → areBytes (packing.keptBytes t at fs) ≡ true
-unfolding packing.keptBytes all
+bytes-kept : (t : List ℕ) → areBytes t ≡ true → (at : ℕ) (fs : List ℕ) → areBytes (packing.chosenBytes t at fs) ≡ true
+unfolding packing.chosenBytes all
 bytes-kept t b at [] = refl
 bytes-kept t b at (f ∷ fs) = go (eqb f 1) (bytes-kept t b (at + slotSize) fs)
   where
-    go : (x : Bool) → areBytes (packing.keptBytes t (at + slotSize) fs) ≡ true
-        → areBytes (cond x (packing.slotBytes t at) [] ++ packing.keptBytes t (at + slotSize) fs) ≡ true
-    go true h = bytes-append (packing.slotBytes t at) (packing.keptBytes t (at + slotSize) fs) (bytes-take (drop at t) (bytes-drop t b at) slotSize) h
+    go : (x : Bool) → areBytes (packing.chosenBytes t (at + slotSize) fs) ≡ true
+        → areBytes (cond x (packing.slotBytes t at) [] ++ packing.chosenBytes t (at + slotSize) fs) ≡ true
+    go true h = bytes-append (packing.slotBytes t at) (packing.chosenBytes t (at + slotSize) fs) (bytes-take (drop at t) (bytes-drop t b at) slotSize) h
     go false h = h
 
 bytes-body : (t : List ℕ) → areBytes t ≡ true → (at : ℕ) → areBytes (bodyRepaired t at) ≡ true
@@ -61,7 +61,7 @@ bytes-body t b at =
     let fs : List ℕ = keepsOf t at in
     let rs : List Record = keptOf t at in
     bytes-put _ (at + entryFixed) (bytes8 (centsOf 1 rs) ++ bytes8 (centsOf 2 rs))
-    (bytes-put t (placeOf t at) _ b (bytes-append (packing.keptBytes t (placeOf t at) fs) _ (bytes-kept t b (placeOf t at) fs) (bytes-zero (slotSize * (length fs - packing.kept fs)))))
+    (bytes-put t (placeOf t at) _ b (bytes-append (packing.chosenBytes t (placeOf t at) fs) _ (bytes-kept t b (placeOf t at) fs) (bytes-zero (slotSize * (length fs - packing.chosenCount fs)))))
     (bytes-append (bytes8 (centsOf 1 rs)) (bytes8 (centsOf 2 rs)) (bytes-8 (centsOf 1 rs)) (bytes-8 (centsOf 2 rs)))
 
 pub bytes-repaired : (n : ℕ) (t : List ℕ) → areBytes t ≡ true → (at : ℕ) → areBytes (repairedFrom t at n) ≡ true

@@ -13,7 +13,7 @@ use Rattle.entries.specs.Entry.{entrySize, slotsOf, placeOf, closedOf}
 use Rattle.table.specs.Table.{table2, headSize, bodies, contentsOk}
 use Rattle.service.specs.Service.{settled}
 use Rattle.packing.specs.Packing.{packed}
-use Rattle.keeping.specs.Keeping.{keepsAt, keptAt, blankedFrom, moved, each}
+use Rattle.keeping.specs.Keeping.{keepsAt, keptAt, blankedFrom, moved, eachBytes}
 use Rattle.salvage.specs.declared.Salvaged.{Salvaged}
 use Rattle.salvage.specs.declared.Salvaged.the-variants.{Repaired, InvalidContents, ShortReport}
 use Rattle.salvage.specs.declared.SalvageReply.{SalvageReply}
@@ -53,7 +53,7 @@ abbrev pub blanked : List ℕ → List ℕ
 blanked t = blankedIn t headSize (bodies t)
 
 unfoldable pub reportOf : List ℕ → List ℕ
-reportOf t = each bytes2 (movedIn t headSize (bodies t)) ++ each bytes4 (blanked t)
+reportOf t = eachBytes bytes2 (movedIn t headSize (bodies t)) ++ eachBytes bytes4 (blanked t)
 
 -- THE ANSWER for a table and a report of m bytes: "34 head or entries not valid, 35 report doesn't fit"
 unfoldable pub salvageOf : List ℕ → ℕ → Salvaged

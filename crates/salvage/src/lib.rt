@@ -10,7 +10,7 @@ ghost use Rattle.body.specs.Body.{bodyOk};
 ghost use Rattle.entries.specs.Entry.{slotsOf, placeOf};
 ghost use Rattle.table.specs.Table.{table2, headSize, bodies, contentsOk, recordsOf};
 ghost use Rattle.service.specs.Service.{settled};
-ghost use Rattle.keeping.specs.Keeping.{each};
+ghost use Rattle.keeping.specs.Keeping.{eachBytes};
 ghost use Rattle.salvage.specs.Salvage.{bodyRepaired, repaired, movedIn, blanked, salvageReply, SalvagePromise};
 ghost use Rattle.salvage.specs.Inner.{Fits};
 
@@ -49,7 +49,7 @@ fn count_blanked(t: &[u8], n: usize) -> usize
 // Writes each body's count of moved records.
 fn put_moved(r: &mut [u8], t: &[u8], n: usize)
     requires { ⌜ (contentsOk table2 (now t) ≡ true) × (n ≡ bodies (now t)) × (2 * n ≤ length (now r)) ⌝ }
-    ensures { λ _. ⌜ now (r .exit) ≡ put (now (r .entry)) 0 (each bytes2 (movedIn (now (t .entry)) headSize n)) ⌝ }
+    ensures { λ _. ⌜ now (r .exit) ≡ put (now (r .entry)) 0 (eachBytes bytes2 (movedIn (now (t .entry)) headSize n)) ⌝ }
 {
     let mut at = table::HEAD;
     let mut left = n;
@@ -68,7 +68,7 @@ fn put_moved(r: &mut [u8], t: &[u8], n: usize)
 // Writes the old place of each blanked slot.
 fn put_blanked(r: &mut [u8], t: &[u8], n: usize)
     requires { ⌜ (contentsOk table2 (now t) ≡ true) × (n ≡ bodies (now t)) × (2 * n + 4 * length (blanked (now t)) ≤ length (now r)) ⌝ }
-    ensures { λ _. ⌜ now (r .exit) ≡ put (now (r .entry)) (2 * n) (each bytes4 (blanked (now (t .entry)))) ⌝ }
+    ensures { λ _. ⌜ now (r .exit) ≡ put (now (r .entry)) (2 * n) (eachBytes bytes4 (blanked (now (t .entry)))) ⌝ }
 {
     let mut at = table::HEAD;
     let mut left = n;

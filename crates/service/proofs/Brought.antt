@@ -14,7 +14,7 @@ use Rattle.codes.specs.declared.Operation.{Operation}
 use Rattle.codes.specs.declared.Operation.the-variants.{Inserimento, Variazione, Annullo, Sostituzione}
 use Rattle.replacing.specs.Replacing.{namings, namingsOf}
 use Rattle.rules.specs.Rules.{keyFor}
-use Rattle.rules.specs.Worth.{Which, Value, Years, ofKind, ofKindIn, itsCents, withKey, onLine, replaces, linesWorth, broughtBy, namedWorth, givenBy, namingYears, comeBy, goneBy}
+use Rattle.rules.specs.Worth.{Which, Value, Years, ofKind, ofKindIn, itsCents, withKey, onLine, isReplacement, linesWorth, broughtBy, namedWorth, givenBy, namingYears, comeBy, goneBy}
 
 -- a law of replacements is one of all orders: the others bring in and give up nothing
 when : (u : Bool) (a b c d : ℕ) → a + b ≡ c + d → cond u a 0 + cond u b 0 ≡ cond u c 0 + cond u d 0
@@ -37,7 +37,7 @@ kind-lines kind k n (l ∷ ls) = go (eqb k kind) (kind-lines kind k (suc n) ls)
     go false e = omega arith
 
 pub kind-even : (kind year : ℕ) (o : Ordinativo) → broughtBy (ofKind kind) itsCents year o ≡ givenBy (ofKind kind) itsCents year o
-kind-even kind year o = ap (λ (x : ℕ). cond (replaces (o .operation)) x 0) (kind-lines kind (o .kind) 1 (o .lines))
+kind-even kind year o = ap (λ (x : ℕ). cond (isReplacement (o .operation)) x 0) (kind-lines kind (o .kind) 1 (o .lines))
 
 -- OF A KIND IN SOME YEARS
 module _ (kind : ℕ) (years : Years) where
@@ -69,7 +69,7 @@ module _ (kind : ℕ) (years : Years) where
 
   pub years-even : (year : ℕ) (o : Ordinativo)
       → broughtBy (ofKindIn kind years) itsCents year o + goneBy kind years year o ≡ givenBy (ofKindIn kind years) itsCents year o + comeBy kind years year o
-  years-even year o = when (replaces (o .operation)) _ _ _ _ (go (eqb (o .kind) kind) (years year) (in-years (o .kind) (o .lines)) (all-years 1 (o .lines)))
+  years-even year o = when (isReplacement (o .operation)) _ _ _ _ (go (eqb (o .kind) kind) (years year) (in-years (o .kind) (o .lines)) (all-years 1 (o .lines)))
     where
       go : (u w : Bool) → namedWorth (ofKindIn kind years) itsCents (namings o) ≡ cond u (namingYears years (o .lines)) 0
           → linesWorth itsCents 1 (o .lines) ≡ namingYears years (o .lines) + namingYears (λ y. not (years y)) (o .lines)
@@ -111,7 +111,7 @@ module _ (line : ℕ) where
   brought-new key year o = go (o .operation) (withKey key (keyFor year o)) (one-in 1 (o .lines))
     where
       go : (op : Operation) (u : Bool) → linesWorth (onLine line) 1 (o .lines) ≤ 1
-          → cond (replaces op) (cond u (linesWorth (onLine line) 1 (o .lines)) 0) 0 ≤ cond (opens op) (cond u 1 0) 0
+          → cond (isReplacement op) (cond u (linesWorth (onLine line) 1 (o .lines)) 0) 0 ≤ cond (opens op) (cond u 1 0) 0
       go Sostituzione true h = h
       go Sostituzione false h = omega arith
       go Inserimento u h = omega arith

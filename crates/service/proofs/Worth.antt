@@ -34,7 +34,7 @@ use Rattle.rules.specs.Rules.{changeOf, wasExecuted, anyExecuted, keyFor, eight
 use Rattle.rules.specs.Effects.{storedAt, besides, recordsBy, recordsMoved}
 use Rattle.rules.proofs.Judging.{Stands, inserting, replacing, varying, annulling, accepted, accepted-change, Moves, moved}
 use Rattle.rules.proofs.Kept.{waiting-all}
-use Rattle.rules.specs.Worth.{Which, States, Value, worthIn, worthOf, areExecuted, worth, areHeld, ofKind, itsCents, onLine, replaces, linesWorth, broughtBy, namedWorth, givenBy}
+use Rattle.rules.specs.Worth.{Which, States, Value, worthIn, worthOf, areExecuted, worth, areHeld, ofKind, itsCents, onLine, isReplacement, linesWorth, broughtBy, namedWorth, givenBy}
 use Rattle.service.proofs.Brought.{kind-even}
 
 -- WHERE AN ORDER'S RECORD STANDS: in place of the one at i, or after the last
@@ -101,7 +101,7 @@ replacing-change Insert = false
 replacing-change Vary = false
 replacing-change Annul = false
 
-replaces-is : (op : Operation) → replaces op ≡ replacing-change (changeOf op)
+replaces-is : (op : Operation) → isReplacement op ≡ replacing-change (changeOf op)
 replaces-is Inserimento = refl
 replaces-is Variazione = refl
 replaces-is Annullo = refl
@@ -352,7 +352,7 @@ module _ (c : States) (C : Counts c) where
       pub order-worth : (j : Ruling) → judgeOrder slots year o rs ≡ j
           → worthOf c p v (recordsBy year o rs j) + lost (weighs j (givenBy p v year o)) ≡ worthOf c p v rs + weighs j (broughtBy p v year o)
       order-worth (Accepted d i) e =
-          let x : replaces (o .operation) ≡ replacing-change d = replaces-is (o .operation) ∙ ap replacing-change (sym (accepted-change slots year o rs d i e)) in
+          let x : isReplacement (o .operation) ≡ replacing-change d = replaces-is (o .operation) ∙ ap replacing-change (sym (accepted-change slots year o rs d i e)) in
           rw x (by-stand d i (accepted slots year o rs d i e))
       order-worth (Refused code) e = omega (arith, lost-none)
 

@@ -201,7 +201,8 @@ fn sum_moved(executing: bool, sum: u64, cents: u64) -> u64
 
 // Moves what the entry at a place keeps by one line of an order of a kind.
 fn move_kept(t: &mut [u8], e: usize, executing: bool, kind: u64, cents: u64)
-    requires { ⌜ (e + closedPlace ≤ length (now t)) × Movable executing (kept mandatoKind (now t) e) (its kind mandatoKind cents) × Movable executing (kept reversaleKind (now t) e) (its kind reversaleKind cents) ⌝ }
+    requires { ⌜ (e + closedPlace ≤ length (now t)) × Movable executing (kept mandatoKind (now t) e) (its kind mandatoKind cents)
+        × Movable executing (kept reversaleKind (now t) e) (its kind reversaleKind cents) ⌝ }
     ensures { λ _. ⌜ now (t .exit) ≡ put (now (t .entry)) (e + entryFixed) (keptMoved (now (t .entry)) e executing kind cents) ⌝ }
 {
     let paid = words::read8(t, e + entries::FIXED);

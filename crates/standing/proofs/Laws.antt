@@ -33,7 +33,7 @@ use Rattle.structure.proofs.Walk.{deeper, fits-none, fits-level, counted-within
 use Rattle.standing.specs.declared.Standing.{Standing}
 use Rattle.standing.specs.declared.Standing.the-variants.{StructureBreaks, FieldBreaks, Stands}
 use Rattle.standing.specs.Readings.{Bad, Place, Nowhere, fieldsIn, fieldsBy, badOr, firstBad}
-use Rattle.standing.specs.Standing.{byFields, standingBy, standingAt, fieldStanding, after, structured}
+use Rattle.standing.specs.Standing.{standingByFields, standingBy, standingAt, fieldStanding, after, structured}
 use Rattle.standing.proofs.Readings.{orBad, bad-append, below, fields-level}
 
 -- ONE PART AFTER THE OTHER
@@ -86,7 +86,7 @@ module _ (s : List ℕ) (f : Form) (c : Child) where
   unfolding fieldStanding fieldRead
   field-judged r e g = rw (e, ← g) (go (readingOf f (part s (c .gt + 1) (c .to))))
     where
-      go : (x : Reading) → readStanding (readAt c x) ≡ byFields (badOr (c .lt) Nowhere x)
+      go : (x : Reading) → readStanding (readAt c x) ≡ standingByFields (badOr (c .lt) Nowhere x)
       go (reading.Holds v) = refl
       go (reading.Breaks w) = refl
 

@@ -9,7 +9,7 @@ use Rattle.tokens.specs.Tokens.{whiteAt}
 use Rattle.children.specs.declared.Child.{Child}
 use Rattle.children.specs.declared.Step.{Step}
 use Rattle.children.specs.declared.Step.the-variants.{One, End}
-use Rattle.children.specs.Child.{childAt, thenFrom, childrenBy, childrenFrom, fieldAt, ownText}
+use Rattle.children.specs.Child.{childAt, thenFrom, childrenUpTo, childrenFrom, fieldAt, ownText}
 use Rattle.children.proofs.Laws.{child-lies, field-one}
 use Rattle.fields.specs.declared.Cause.{Cause}
 use Rattle.fields.specs.declared.Form.{Form}
@@ -55,12 +55,12 @@ abbrev EachChild : List ℕ → List Child → Type 0
 EachChild s [] = Unit
 EachChild s (c ∷ cs) = (childAt s (c .lt) ≡ One c) × EachChild s cs
 
-children-each : (n : ℕ) (s : List ℕ) (i : ℕ) → EachChild s (childrenBy n s i)
-unfolding childrenBy
+children-each : (n : ℕ) (s : List ℕ) (i : ℕ) → EachChild s (childrenUpTo n s i)
+unfolding childrenUpTo
 children-each zero s i = tt
 children-each (suc n) s i = go (childAt s i) refl (children-each n s)
   where
-    go : (w : Step) → childAt s i ≡ w → ((j : ℕ) → EachChild s (childrenBy n s j)) → EachChild s (thenFrom w (childrenBy n s))
+    go : (w : Step) → childAt s i ≡ w → ((j : ℕ) → EachChild s (childrenUpTo n s j)) → EachChild s (thenFrom w (childrenUpTo n s))
     go (One c) e more = (ap (childAt s) (child-lies s i c e .0) ∙ e, more (c .after))
     go End e more = tt
 

@@ -13,12 +13,12 @@ use Rattle.standing.specs.declared.Standing.the-variants.{StructureBreak
 use Rattle.standing.specs.Readings.{Bad, Place, Nowhere, badOr, fieldsAt, firstBad}
 
 -- "Checked in that order": a structure that breaks is said before any field
-abbrev pub byFields : Bad → Standing
-byFields (Place p c) = FieldBreaks p c
-byFields Nowhere = Stands
+abbrev pub standingByFields : Bad → Standing
+standingByFields (Place p c) = FieldBreaks p c
+standingByFields Nowhere = Stands
 
 abbrev pub standingBy : Bool → Bad → Standing
-standingBy fits bad = cond fits (byFields bad) StructureBreaks
+standingBy fits bad = cond fits (standingByFields bad) StructureBreaks
 
 -- content that begins at `at`, of at most d levels
 unfoldable pub standingAt : ℕ → Parent → List ℕ → ℕ → Standing

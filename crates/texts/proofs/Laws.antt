@@ -13,9 +13,9 @@ use Rattle.scan.proofs.Laws.{both, in-range}
 use Rattle.tokens.specs.Tokens.{textAt}
 use Rattle.dates.specs.Dates.{dataOraZona}
 use Rattle.grammar.proofs.Alone.{alone-text, text-alone}
-use Rattle.texts.specs.Texts.{breaksAt, wholeText, callerText, istatText, callerTime, TextTold, CallerTextTold}
+use Rattle.texts.specs.Texts.{breaksOnlyAt, wholeText, callerText, istatText, callerTime, TextTold, CallerTextTold}
 
-pub whole-is : (t : List ℕ) (w : Walk) → w ≡ textAt t 0 → wholeText t ≡ breaksAt (length t) w
+pub whole-is : (t : List ℕ) (w : Walk) → w ≡ textAt t 0 → wholeText t ≡ breaksOnlyAt (length t) w
 unfolding wholeText
 whole-is t w e = rw e
 
@@ -48,7 +48,7 @@ pub time-by : (t : List ℕ) → dataOraZona t ≡ true → callerTime t ≡ who
 unfolding callerTime
 time-by t h = rw h
 
-breaks : (n : ℕ) (w : Walk) → breaksAt n w ≡ true → w ≡ Broken n
+breaks : (n : ℕ) (w : Walk) → breaksOnlyAt n w ≡ true → w ≡ Broken n
 breaks n (Past q) e = let z : _≡_ {A = ℕ} 0 1 = cc in absurd (omega arith)
 breaks n (Broken p) e = rw (eqb-true p n e)
 

@@ -13,12 +13,12 @@ use Rattle.dates.specs.Dates.{dataOraZona}
 use Rattle.grammar.specs.Grammar.{Text}
 
 -- the reader of texts goes over all of t: with no < behind it, it breaks at the end and nowhere before
-abbrev pub breaksAt : ℕ → Walk → Bool
-breaksAt n (Past q) = false
-breaksAt n (Broken p) = eqb p n
+abbrev pub breaksOnlyAt : ℕ → Walk → Bool
+breaksOnlyAt n (Past q) = false
+breaksOnlyAt n (Broken p) = eqb p n
 
 unfoldable pub wholeText : List ℕ → Bool
-wholeText t = breaksAt (length t) (textAt t 0)
+wholeText t = breaksOnlyAt (length t) (textAt t 0)
 
 unfoldable pub callerText : List ℕ → Bool
 callerText t = between 1 140 (length t) && wholeText t

@@ -13,7 +13,7 @@ use Rattle.rules.specs.Rules.{orderCode, judgeOrder}
 use Rattle.service.specs.Service.{orderComes, orderLeaves, outcomeBytes, allOutcomes, allAccepted}
 use Rattle.desk.specs.declared.FlowAnswer.{FlowAnswer}
 use Rattle.desk.specs.Desk.{Reading, refused, served, flowReads, flowAnswer, FlowPromise, flowReply, flowCode}
-use Rattle.theorems.specs.Codes.{oneOf, each, orderCodes, outcomeCodes, zeroCodes}
+use Rattle.theorems.specs.Codes.{oneOf, eachCode, orderCodes, outcomeCodes, zeroCodes}
 use Rattle.theorems.proofs.Given.{Coding, read}
 use Rattle.theorems.proofs.Codes.{order-coded, judged-codes}
 
@@ -31,7 +31,7 @@ module _ (base n year : ℕ) where
   written t (o ∷ os) rest = ap (λ (cs : List ℕ). orderCode (judgeOrder n year o (recordsAt t base n)) ∷ cs) (written (orderLeaves t base n year o) os rest)
 
   -- which are numbered ones, and of which as many are 0 as orders are accepted
-  numbered : (t : List ℕ) (os : List Ordinativo) → each (oneOf orderCodes) (codesOn t base n year os) ≡ true
+  numbered : (t : List ℕ) (os : List Ordinativo) → eachCode (oneOf orderCodes) (codesOn t base n year os) ≡ true
   numbered t [] = refl
   numbered t (o ∷ os) =
       let rs = recordsAt t base n in
@@ -64,10 +64,10 @@ module _ (t : List ℕ) (ed : ℕ) (f out : List ℕ) (a : FlowAnswer) (t′ out
       go (refused b) e h q = absurd (h (sym (ap flowCode (q ∙ ap (flowAnswer t) e)) ∙ z))
       go (served base n year os) e h q = k base n year os e
 
-  pub outcomes-coded : flowCode a ≡ 0 → each (oneOf orderCodes) (outcomeCodes (flowReply a .orders) out′) ≡ true
+  pub outcomes-coded : flowCode a ≡ 0 → eachCode (oneOf orderCodes) (outcomeCodes (flowReply a .orders) out′) ≡ true
   outcomes-coded z = taken z (λ base n year os e.
       let x = orders-in-turn base n year os e in
-      ap (λ (k : ℕ). each (oneOf orderCodes) (outcomeCodes k out′)) (x .0) ∙ ap (each (oneOf orderCodes)) (x .1) ∙ numbered base n year t os)
+      ap (λ (k : ℕ). eachCode (oneOf orderCodes) (outcomeCodes k out′)) (x .0) ∙ ap (eachCode (oneOf orderCodes)) (x .1) ∙ numbered base n year t os)
 
   pub accepted-counts : flowCode a ≡ 0 → flowReply a .accepted ≡ zeroCodes (outcomeCodes (flowReply a .orders) out′)
   accepted-counts z = taken z (λ base n year os e.

@@ -9,7 +9,7 @@ use lib.Dec.{eqb, leb, ltb}
 use borrow.Author.Tests.{ltb-true, le-leb, ne-eqb}
 use Rattle.scan.specs.Bytes.{textIs}
 use Rattle.scan.proofs.Laws.{both}
-use Rattle.bounds.specs.Bounds.{isYear}
+use Rattle.bounds.specs.Bounds.{isYear, maxFlow}
 use Rattle.ranges.specs.Ranges.{zeros, isNothing}
 use Rattle.ranges.specs.declared.Found.{Found}
 use Rattle.ranges.specs.declared.Found.the-variants.{At, Nothing}
@@ -39,7 +39,7 @@ use Rattle.year_end.specs.Inner.{Fits}
 use Rattle.year_end.proofs.Laws.{May, closed-when}
 use Rattle.year_end.proofs.Closed.{closed-ok, closed-records, closed-agrees}
 use Rattle.desk.specs.declared.FlowAnswer.{FlowAnswer}
-use Rattle.desk.specs.Desk.{maxFlow, FlowPromise, flowCode}
+use Rattle.desk.specs.Desk.{FlowPromise, flowCode}
 use Rattle.isolation.proofs.History.{rises}
 use Rattle.theorems.specs.Engine.{Call, Engine, bodyRecords, machine, tableAfter}
 use Rattle.theorems.specs.Given.{closedBy, firstOf}

@@ -7,6 +7,7 @@ use mathlib.Core.List.{List}
 use native.Mathlib.Omega.{arith}
 use lib.ListN.{length}
 use lib.Dec.{eqb, leb}
+use Rattle.bounds.specs.Bounds.{maxFlow}
 use Rattle.scan.specs.Bytes.{textIs}
 use Rattle.ranges.specs.declared.Found.{Found}
 use Rattle.ranges.specs.declared.Found.the-variants.{At, Nothing}
@@ -24,7 +25,6 @@ use Rattle.editions.specs.Editions.{editionOf}
 use Rattle.flow.specs.declared.Verdict.{Verdict}
 use Rattle.flow.specs.declared.Verdict.the-variants.{MarkupBreaks, StructureBreaks, FieldBreaks, Stands}
 use Rattle.flow.specs.Flow.{verdictOf, headerOf}
-use Rattle.desk.specs.Desk.{maxFlow}
 use Rattle.isolation.specs.Machine.{Laws}
 use Rattle.isolation.proofs.OrderLaws.{mine-by-body, strays-by-body}
 use Rattle.isolation.proofs.Runs.{good-run}

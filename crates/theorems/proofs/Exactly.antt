@@ -9,6 +9,7 @@ use mathlib.Core.Path.{_≡_, refl, sym, ap, _∙_, subst}
 use mathlib.Core.Bool.{Bool, true}
 use mathlib.Core.List.{List}
 use native.Mathlib.Omega.{arith}
+use Rattle.journal.specs.Told.{Exactly}
 use Rattle.ranges.specs.declared.Found.{Found}
 use Rattle.ranges.specs.declared.Found.the-variants.{At, Nothing}
 use Rattle.record.specs.declared.Key.{Key}
@@ -38,7 +39,7 @@ use Rattle.target_days.specs.Target.{targetCode}
 use Rattle.notices.specs.Notices.{noticed, noticeBy, noticeTableBy, NoticePromise, noticeCodeOf}
 use Rattle.notices.proofs.Laws.{only-target}
 use Rattle.theorems.proofs.Codes.{order-coded, never-zero, noticed-code}
-use Rattle.theorems.specs.Condition2.{Exactly, None, NoneListed, FirstListed, InTurn, Strange, kind, number}
+use Rattle.theorems.specs.Condition2.{None, NoneListed, FirstListed, InTurn, Strange, kind, number}
 
 -- a record that a search found is valid
 pub found-valid : (t : List ℕ) (at n : ℕ) → bodyOk t at n ≡ true → (k : Key) (i : ℕ) → findIn (recordsAt t at n) 0 k ≡ At i → Valid (nth (recordsAt t at n) i)

@@ -6,6 +6,7 @@ use mathlib.Core.List.{List, [], _∷_}
 use native.Mathlib.Omega.{arith}
 use lib.ListN.{length}
 use lib.Dec.{eqb, leb}
+use Rattle.bounds.specs.Bounds.{maxFlow}
 use Rattle.scan.specs.Bytes.{textIs}
 use Rattle.ranges.specs.Ranges.{isNothing}
 use Rattle.ranges.specs.declared.Found.{Found}
@@ -24,8 +25,8 @@ use Rattle.flow.specs.Flow.{verdictOf, headerOf, flowOrders}
 use Rattle.address.specs.Address.{bodyAt}
 use Rattle.desk.specs.declared.FlowAnswer.{FlowAnswer}
 use Rattle.desk.specs.declared.FlowAnswer.the-variants.{InvalidTable, UnknownEdition, TooLong, OtherBank, ClosedYear, NoRoom}
-use Rattle.desk.specs.Desk.{Reading, refused, served, forBody, forFlow, byEdition, maxFlow, flowReads, flowAnswer, FlowPromise, flowReply, flowCode}
-use Rattle.theorems.specs.Given.{breaksAt, breaksBy, verdictAs, closedBy, flowRefusals, firstOf}
+use Rattle.desk.specs.Desk.{Reading, refused, served, forBody, forFlow, byEdition, flowReads, flowAnswer, FlowPromise, flowReply, flowCode}
+use Rattle.theorems.specs.Given.{brokenPlace, breaksBy, verdictAs, closedBy, flowRefusals, firstOf}
 
 -- a reading that refuses has a code other than 0
 abbrev pub Coding : Reading → Type 0
@@ -63,7 +64,7 @@ module _ (t f : List ℕ) (room : ℕ) where
   -- on a table that is valid or not, of a flow that is short or not
   abbrev Read : Edition → Bool → Bool → Verdict → Type 0
   Read y u w v = tableOk t ≡ u → leb (length f) maxFlow ≡ w
-      → Given (firstOf (flowRefusals t (By y) f room v)) (breaksAt v) (breaksBy v) (cond u (cond w (forFlow y t f room v) (refused TooLong)) (refused InvalidTable))
+      → Given (firstOf (flowRefusals t (By y) f room v)) (brokenPlace v) (breaksBy v) (cond u (cond w (forFlow y t f room v) (refused TooLong)) (refused InvalidTable))
 
   by-verdict : (y : Edition) (v : Verdict) → Read y true true v
   by-verdict y (MarkupBreaks p) e d = rw (e, d) (record { code = refl; place = refl; cause = refl; coding = λ z. omega arith })
@@ -77,20 +78,20 @@ module _ (t f : List ℕ) (room : ℕ) where
   by-table y true true v e d = by-verdict y v e d
 
   -- where the number names no edition
-  unknown : (v : Verdict) (u : Bool) → tableOk t ≡ u → Given (firstOf (flowRefusals t NoEdition f room v)) (breaksAt v) (breaksBy v) (cond u (refused UnknownEdition) (refused InvalidTable))
+  unknown : (v : Verdict) (u : Bool) → tableOk t ≡ u → Given (firstOf (flowRefusals t NoEdition f room v)) (brokenPlace v) (breaksBy v) (cond u (refused UnknownEdition) (refused InvalidTable))
   unknown v true e = rw e (record { code = refl; place = refl; cause = refl; coding = λ z. omega arith })
   unknown v false e = rw e (record { code = refl; place = refl; cause = refl; coding = λ z. omega arith })
 
-  by-edition : (x : Edited) → Given (firstOf (flowRefusals t x f room (verdictAs x f))) (breaksAt (verdictAs x f)) (breaksBy (verdictAs x f)) (cond (tableOk t) (byEdition t f room x) (refused InvalidTable))
+  by-edition : (x : Edited) → Given (firstOf (flowRefusals t x f room (verdictAs x f))) (brokenPlace (verdictAs x f)) (breaksBy (verdictAs x f)) (cond (tableOk t) (byEdition t f room x) (refused InvalidTable))
   by-edition (By y) = by-table y (tableOk t) (leb (length f) maxFlow) (verdictOf y f) refl refl
   by-edition NoEdition = unknown (verdictAs NoEdition f) (tableOk t) refl
 
-  pub read : (ed : ℕ) → let v = verdictAs (editionOf ed) f in Given (firstOf (flowRefusals t (editionOf ed) f room v)) (breaksAt v) (breaksBy v) (flowReads t ed f room)
+  pub read : (ed : ℕ) → let v = verdictAs (editionOf ed) f in Given (firstOf (flowRefusals t (editionOf ed) f room v)) (brokenPlace v) (breaksBy v) (flowReads t ed f room)
   unfolding flowReads
   read ed = by-edition (editionOf ed)
 
 pub given-when : (t : List ℕ) (ed : ℕ) (f out : List ℕ) (a : FlowAnswer) (t′ out′ : List ℕ) → FlowPromise t ed f out a t′ out′
     → let v = verdictAs (editionOf ed) f in
-    (flowCode a ≡ firstOf (flowRefusals t (editionOf ed) f (length out) v)) × (flowReply a .place ≡ cond (eqb (flowCode a) 5) (breaksAt v) 0)
+    (flowCode a ≡ firstOf (flowRefusals t (editionOf ed) f (length out) v)) × (flowReply a .place ≡ cond (eqb (flowCode a) 5) (brokenPlace v) 0)
     × (flowReply a .cause ≡ cond (eqb (flowCode a) 5) (breaksBy v) 0)
 given-when t ed f out a t′ out′ p = let g = read t f (length out) ed in rw (p .0) (g .code, g .place, g .cause)

@@ -7,6 +7,7 @@ use mathlib.Core.Option.{Option, none, some}
 use mathlib.Core.List.{List, [], _∷_}
 use lib.ListN.{length}
 use lib.Dec.{leb}
+use Rattle.bounds.specs.Bounds.{maxFlow}
 use Rattle.scan.specs.Bytes.{textIs}
 use Rattle.ranges.specs.declared.Found.{Found}
 use Rattle.ranges.specs.declared.Found.the-variants.{At, Nothing}
@@ -29,7 +30,7 @@ use Rattle.address.specs.declared.Addressed.the-variants.{Unknown, Body}
 use Rattle.address.specs.Address.{bodyAt, bodyNamed, addressed}
 use Rattle.desk.specs.declared.FlowAnswer.{FlowAnswer}
 use Rattle.desk.specs.declared.FlowAnswer.the-variants.{UnknownEdition, TooLong, BrokenMarkup, BrokenStructure, BrokenField, OtherBank, UnknownBody, ClosedYear, NoRoom}
-use Rattle.desk.specs.Desk.{Reading, refused, served, forBody, forFlow, maxFlow, flowReads, flowCode}
+use Rattle.desk.specs.Desk.{Reading, refused, served, forBody, forFlow, flowReads, flowCode}
 use Rattle.theorems.specs.Engine.{flow, namesIn, namesBy, whichBody, position, who}
 use Rattle.theorems.specs.Codes.{oneOf, strayCodes}
 use Rattle.theorems.proofs.Good.{Good, base, size, abi-is, find-is, place-is, slots-is}

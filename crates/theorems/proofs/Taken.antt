@@ -7,6 +7,8 @@ use mathlib.Core.List.{List, [], _∷_, _++_, List·Memᴰ, List·Memᴰ·not-ni
 use native.Mathlib.Omega.{arith}
 use lib.ListN.{length}
 use lib.Dec.{leb}
+use Rattle.journal.specs.Told.{Exactly}
+use Rattle.bounds.specs.Bounds.{maxFlow}
 use Rattle.scan.specs.Bytes.{textIs}
 use Rattle.ranges.specs.declared.Found.{Found}
 use Rattle.ranges.specs.declared.Found.the-variants.{At, Nothing}
@@ -36,10 +38,10 @@ use Rattle.rules.proofs.Kept.{Writables, none, more}
 use Rattle.service.proofs.Kept.{order-kept, order-records, all-kept, all-records}
 use Rattle.desk.specs.declared.FlowAnswer.{FlowAnswer}
 use Rattle.desk.specs.declared.FlowAnswer.the-variants.{InvalidTable, UnknownEdition, TooLong, BrokenMarkup, BrokenStructure, BrokenField, OtherBank, UnknownBody, ClosedYear, NoRoom}
-use Rattle.desk.specs.Desk.{Reading, refused, served, maxFlow, flowReads, flowAnswer, FlowPromise, flowCode, flowReply}
+use Rattle.desk.specs.Desk.{Reading, refused, served, flowReads, flowAnswer, FlowPromise, flowCode, flowReply}
 use Rattle.theorems.specs.Engine.{bodyRecords}
 use Rattle.theorems.specs.Codes.{outcomeCodes}
-use Rattle.theorems.specs.Condition2.{codesInTurn, stepsInTurn, Exactly, NoneListed, Taken}
+use Rattle.theorems.specs.Condition2.{codesInTurn, stepsInTurn, NoneListed, Taken}
 use Rattle.theorems.proofs.Accepted.{codesOn, orders-in-turn}
 use Rattle.theorems.proofs.Exactly.{order-exactly}
 use Rattle.theorems.proofs.Named.{writables}

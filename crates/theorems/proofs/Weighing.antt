@@ -7,6 +7,7 @@ use native.Mathlib.Omega.{arith}
 use lib.ListN.{length}
 use lib.Dec.{eqb, leb}
 use borrow.Author.Tests.{eqb-true}
+use Rattle.bounds.specs.Bounds.{maxFlow}
 use Rattle.scan.specs.Bytes.{textIs}
 use Rattle.record.specs.declared.Key.{Key}
 use Rattle.record.specs.declared.Record.{Record}
@@ -40,7 +41,7 @@ use Rattle.address.specs.declared.Addressed.the-variants.{Invalid, Unknown, Bod
 use Rattle.address.specs.Address.{bodyNamed}
 use Rattle.desk.specs.declared.FlowAnswer.{FlowAnswer}
 use Rattle.desk.specs.declared.FlowAnswer.the-variants.{InvalidTable, TooLong, OtherBank, ClosedYear, NoRoom}
-use Rattle.desk.specs.Desk.{refused, served, forBody, forFlow, byEdition, maxFlow, flowReads, flowCode}
+use Rattle.desk.specs.Desk.{refused, served, forBody, forFlow, byEdition, flowReads, flowCode}
 use Rattle.isolation.specs.Tally.{tally}
 use Rattle.theorems.specs.Engine.{Call, flow, execute, reverse, totals, journal, close, Answer, ofFlow, ofNotice, ofTotals, ofJournal, ofClose}
 use Rattle.theorems.specs.Codes.{outcomeCodes}

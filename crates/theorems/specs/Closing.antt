@@ -6,7 +6,7 @@ use mathlib.Core.List.{List, [], _∷_}
 use lib.ListN.{length}
 use lib.Dec.{eqb, leb}
 use Rattle.scan.specs.Bytes.{textIs}
-use Rattle.bounds.specs.Bounds.{isYear}
+use Rattle.bounds.specs.Bounds.{isYear, maxFlow}
 use Rattle.ranges.specs.Ranges.{zeros, isNothing}
 use Rattle.ranges.specs.declared.Found.{Found}
 use Rattle.ranges.specs.declared.Found.the-variants.{At, Nothing}
@@ -26,7 +26,7 @@ use Rattle.closing.specs.Closing.{earlierRemains, lineWaits, staying, removed}
 use Rattle.year_end.specs.declared.CloseAnswer.{CloseAnswer}
 use Rattle.year_end.specs.YearEnd.{ClosePromise, closeReply, closeCode, CloseReplies}
 use Rattle.desk.specs.declared.FlowAnswer.{FlowAnswer}
-use Rattle.desk.specs.Desk.{maxFlow, FlowPromise, flowCode}
+use Rattle.desk.specs.Desk.{FlowPromise, flowCode}
 use Rattle.theorems.specs.Engine.{Call, Engine, bodyRecords, owned, unowned, tableAfter}
 use Rattle.theorems.specs.Given.{closedBy, firstOf}
 

@@ -11,9 +11,9 @@ abbrev pub oneOf : List ℕ → ℕ → Bool
 oneOf [] c = false
 oneOf (x ∷ xs) c = eqb c x || oneOf xs c
 
-abbrev pub each : (ℕ → Bool) → List ℕ → Bool
-each p [] = true
-each p (x ∷ xs) = p x && each p xs
+abbrev pub eachCode : (ℕ → Bool) → List ℕ → Bool
+eachCode p [] = true
+eachCode p (x ∷ xs) = p x && eachCode p xs
 
 -- OPENING: "9 opening: ABI digits, length, count, .. is wrong; 10 opening: the buffer hasn't the needed length"
 abbrev pub openCodes : List ℕ

@@ -22,7 +22,7 @@ use Rattle.year_end.specs.YearEnd.{ClosePromise, closeReply, closeCode}
 use Rattle.desk.specs.declared.FlowAnswer.{FlowAnswer}
 use Rattle.desk.specs.Desk.{FlowPromise, flowCode, flowReply}
 use Rattle.theorems.specs.Engine.{Call, Answer, Step, answerCode}
-use Rattle.theorems.specs.Codes.{oneOf, each, openCodes, convertCodes, salvageCodes, callCodes, causesWith, orderRefusals, orderCodes, outcomeCodes}
+use Rattle.theorems.specs.Codes.{oneOf, eachCode, openCodes, convertCodes, salvageCodes, callCodes, causesWith, orderRefusals, orderCodes, outcomeCodes}
 
 pub record Condition1 : Type 0 where
   -- "Every call, on arbitrary flow, table or notice, ends with one of the numbered answers in document 01."
@@ -32,7 +32,7 @@ pub record Condition1 : Type 0 where
   pub call-numbered : (c : Call) (t : List ℕ) (a : Answer) (t′ : List ℕ) → Step c t a t′ → oneOf (callCodes c) (answerCode a) ≡ true
   -- and so does every order of a flow taken
   pub orders-numbered : (t : List ℕ) (ed : ℕ) (f out : List ℕ) (a : FlowAnswer) (t′ out′ : List ℕ) → FlowPromise t ed f out a t′ out′ → flowCode a ≡ 0
-      → each (oneOf orderCodes) (outcomeCodes (flowReply a .orders) out′) ≡ true
+      → eachCode (oneOf orderCodes) (outcomeCodes (flowReply a .orders) out′) ≡ true
   -- and the codes that an outcome message may say of a refused order are these (document 02, Req 01: "a code no order can get" is another)
   pub message-codes : (code : ℕ) → isRefusal code ≡ oneOf orderRefusals code
   -- a flow's cause is a numbered one too: 1 to 4 with code 5, and 0 with every other

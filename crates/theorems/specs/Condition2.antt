@@ -6,6 +6,7 @@ use mathlib.Core.Bool.{Bool, true, false, cond}
 use mathlib.Core.List.{List, [], _∷_, _++_, List·Memᴰ}
 use lib.ListN.{length}
 use lib.Dec.{eqb}
+use Rattle.journal.specs.Told.{Exactly}
 use Rattle.ranges.specs.declared.Found.the-variants.{At, Nothing}
 use Rattle.calendar.specs.declared.Date.{Date}
 use Rattle.target_days.specs.Target.{targetCode}
@@ -40,7 +41,7 @@ use Rattle.opening.specs.Opening.{openCode, OpenPromise}
 use Rattle.desk.specs.declared.FlowAnswer.{FlowAnswer}
 use Rattle.desk.specs.Desk.{FlowPromise, flowCode, flowReply}
 use Rattle.theorems.specs.Engine.{bodyRecords}
-use Rattle.theorems.specs.Given.{breaksAt, breaksBy, flowRefusals, firstOf, verdictAs}
+use Rattle.theorems.specs.Given.{brokenPlace, breaksBy, flowRefusals, firstOf, verdictAs}
 use Rattle.theorems.specs.Codes.{outcomeCodes, zeroCodes}
 
 -- the codes that the rules give a flow's orders, "each on the table the one before left", over a body's records
@@ -61,9 +62,6 @@ comesTo t b year o = orderComes t (placeOf t (entryOf b)) (slotsOf t (entryOf b)
 pub data Strange (k : Key) : Type 0 where
   kind : (k .kind ≡ mandatoKind → ⊥) → (k .kind ≡ reversaleKind → ⊥) → Strange k
   number : k .number ≡ 0 → Strange k
-
-abbrev pub Exactly : Type 0 → Type 0 → Type 0
-Exactly a b = (a → b) × (b → a)
 
 -- no refusal applies, whatever its code
 abbrev pub None : (ℕ → Type 0) → Type 0
@@ -125,7 +123,7 @@ pub record Condition2 : Type 0 where
   -- carry cause 0"
   pub refusals : (t : List ℕ) (ed : ℕ) (f out : List ℕ) (a : FlowAnswer) (t′ out′ : List ℕ) → FlowPromise t ed f out a t′ out′
       → let v = verdictAs (editionOf ed) f in
-      (flowCode a ≡ firstOf (flowRefusals t (editionOf ed) f (length out) v)) × (flowReply a .place ≡ cond (eqb (flowCode a) 5) (breaksAt v) 0)
+      (flowCode a ≡ firstOf (flowRefusals t (editionOf ed) f (length out) v)) × (flowReply a .place ≡ cond (eqb (flowCode a) 5) (brokenPlace v) 0)
       × (flowReply a .cause ≡ cond (eqb (flowCode a) 5) (breaksBy v) 0)
   -- "each order .. is answered by the step table", and accepted "exactly when no listed refusal applies": of a flow with code 0
   pub taken : (t : List ℕ) (ed : ℕ) (f out : List ℕ) (a : FlowAnswer) (t′ out′ : List ℕ) → FlowPromise t ed f out a t′ out′ → flowCode a ≡ 0 → Taken t ed f a t′ out′

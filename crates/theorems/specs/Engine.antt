@@ -7,6 +7,7 @@ use mathlib.Core.Option.{Option, none, some}
 use mathlib.Core.List.{List, [], _∷_, _++_}
 use lib.ListN.{length}
 use lib.Dec.{leb}
+use Rattle.bounds.specs.Bounds.{maxFlow}
 use Rattle.scan.specs.Bytes.{part, textIs}
 use Rattle.ranges.specs.declared.Found.{Found}
 use Rattle.ranges.specs.declared.Found.the-variants.{At, Nothing}
@@ -32,7 +33,7 @@ use Rattle.journal.specs.Journal.{JournalPromise}
 use Rattle.year_end.specs.declared.CloseAnswer.{CloseAnswer}
 use Rattle.year_end.specs.YearEnd.{ClosePromise, closeCode}
 use Rattle.desk.specs.declared.FlowAnswer.{FlowAnswer}
-use Rattle.desk.specs.Desk.{maxFlow, FlowPromise, flowCode}
+use Rattle.desk.specs.Desk.{FlowPromise, flowCode}
 use Rattle.isolation.specs.Machine.{Machine, stateAfter}
 
 -- THE CALLS

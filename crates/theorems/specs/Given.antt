@@ -4,6 +4,7 @@ use mathlib.Core.Bool.{Bool, true, false, not, cond}
 use mathlib.Core.List.{List, [], _∷_}
 use lib.ListN.{length}
 use lib.Dec.{leb}
+use Rattle.bounds.specs.Bounds.{maxFlow}
 use Rattle.scan.specs.Bytes.{textIs}
 use Rattle.ranges.specs.Ranges.{isNothing}
 use Rattle.ranges.specs.declared.Found.{Found}
@@ -19,7 +20,6 @@ use Rattle.flow.specs.declared.Verdict.{Verdict}
 use Rattle.flow.specs.declared.Verdict.the-variants.{MarkupBreaks, StructureBreaks, FieldBreaks, Stands}
 use Rattle.flow.specs.Flow.{verdictOf, headerOf, flowOrders}
 use Rattle.service.specs.Service.{outcomeSize}
-use Rattle.desk.specs.Desk.{maxFlow}
 
 -- what of the flow breaks
 abbrev pub isMarkup : Verdict → Bool
@@ -41,11 +41,11 @@ isField (FieldBreaks p c) = true
 isField (Stands at) = false
 
 -- where a field breaks and why, and where the content of a flow that stands begins
-abbrev pub breaksAt : Verdict → ℕ
-breaksAt (MarkupBreaks p) = 0
-breaksAt StructureBreaks = 0
-breaksAt (FieldBreaks p c) = p
-breaksAt (Stands at) = 0
+abbrev pub brokenPlace : Verdict → ℕ
+brokenPlace (MarkupBreaks p) = 0
+brokenPlace StructureBreaks = 0
+brokenPlace (FieldBreaks p c) = p
+brokenPlace (Stands at) = 0
 
 abbrev pub breaksBy : Verdict → ℕ
 breaksBy (MarkupBreaks p) = 0

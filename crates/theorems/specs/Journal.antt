@@ -6,9 +6,8 @@ use mathlib.Core.List.{List, []}
 use Rattle.ranges.specs.declared.Found.the-variants.{At, Nothing}
 use Rattle.table.specs.Table.{tableOk, bodyOf}
 use Rattle.journal.specs.Journal.{movementsIn, wholeMovements, executedLines, journalCode, JournalPromise}
-use Rattle.journal.specs.Told.{Permutation, Told}
+use Rattle.journal.specs.Told.{Permutation, Told, Exactly}
 use Rattle.theorems.specs.Engine.{bodyRecords}
-use Rattle.theorems.specs.Condition2.{Exactly}
 
 -- "accept exactly when every executed line of that body is listed once, with its cents, and nothing else is listed": the table is valid, a body has the code,
 -- the bytes are whole movements and not too many, and these are the body's executed lines with their cents, in any order

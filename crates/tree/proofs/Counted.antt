@@ -16,7 +16,7 @@ use Rattle.scan.proofs.Laws.{in-range, char-past}
 use Rattle.grammar.specs.Grammar.{Character, Piece, char, amp, lt, gt, quot, apos, Pieces, none, more, Text, text}
 use Rattle.grammar.proofs.Parts.{starts-whole}
 use Rattle.grammar.proofs.Complete.{char-is, char-alone}
-use Rattle.names.specs.Names.{replaced, characters, anagrafica}
+use Rattle.names.specs.Names.{referencesReplaced, characters, anagrafica}
 use Rattle.names.specs.Inner.{OnePast}
 use Rattle.names.proofs.Laws.{none-left, past-char, past-ref}
 use Rattle.fields.specs.declared.Form.the-variants.{Anagrafica}
@@ -52,13 +52,13 @@ module _ (t : List ℕ) where
   piece-one quot = past-ref (bytes "&quot;" ++ t) 0 (omega arith) 6 refl
   piece-one apos = past-ref (bytes "&apos;" ++ t) 0 (omega arith) 6 refl
 
-count : {t : List ℕ} (x : Pieces t) → characters (replaced t) ≡ piecesIn x
+count : {t : List ℕ} (x : Pieces t) → characters (referencesReplaced t) ≡ piecesIn x
 unfolding piecesIn
 count none = none-left 0
 count (more {p = c} {t = t} x xs) = rw (drop-append-seam c t) at (piece-one t x .counted) ∙ ap suc (count xs)
 
 -- a name stands exactly when it has 1 to 140
-stands-between : (t : List ℕ) → (fieldStands Anagrafica t ≡ Stands) ↔ ((1 ≤ characters (replaced t)) × (characters (replaced t) ≤ 140))
+stands-between : (t : List ℕ) → (fieldStands Anagrafica t ≡ Stands) ↔ ((1 ≤ characters (referencesReplaced t)) × (characters (referencesReplaced t) ≤ 140))
 unfolding fieldStands anagrafica
 stands-between t = (λ e. in-range 1 140 _ (held _ e), λ h. rw (le-leb 1 _ (h .0), le-leb _ 140 (h .1)))
   where

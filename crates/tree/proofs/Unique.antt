@@ -15,7 +15,7 @@ use Rattle.editions.specs.declared.Edition.{Edition}
 use Rattle.editions.specs.declared.Edition.the-variants.{Oil, Opi}
 use Rattle.header.specs.Header.{Header}
 use Rattle.tree.specs.Tree.{Tree, Trees, heldOf, kidsIn}
-use Rattle.tree.specs.Orders.{OneText, OneValue, Each, each-none, each-next, TestataIn, HeaderIn, Words, mandatoWords, reversaleWords, joined, childrenNamed, replaced, NamedIn, NamedBy, LineIn, OrderIn, AnOrder, OrdersIn}
+use Rattle.tree.specs.Orders.{OneText, OneValue, Each, each-none, each-next, TestataIn, HeaderIn, Words, mandatoWords, reversaleWords, joined, childrenNamed, daSostituire, NamedIn, NamedBy, LineIn, OrderIn, AnOrder, OrdersIn}
 use Rattle.order.specs.Ordinativo.{Ordinativo}
 
 text-one : {x : String} {ts : Trees} {t u : List ℕ} → OneText x ts t → OneText x ts u → t ≡ u
@@ -45,9 +45,9 @@ each-one u (each-next {t = t} {a = a} x xs) (each-next {a = b} y ys) = let e = u
 named-one : (w : Words) (ts : Trees) (n m : NamedLine) → NamedIn w ts n → NamedIn w ts m → n ≡ m
 named-one w ts n m a b =
     let z : b .structure ≡ a .structure = let y = a .there .alone in let x = b .there .alone in cc in
-    let u = number-one (a .number) (subst (λ (us : Trees). OneValue (replaced "numero_" (w .name)) numero us (Value (m .number))) z (b .number)) in
-    let v = number-one (a .line) (subst (λ (us : Trees). OneValue (replaced "progressivo_" (w .party)) progressivo us (Value (m .line))) z (b .line)) in
-    let e = number-one (a .esercizio) (subst (λ (us : Trees). OneValue (replaced "esercizio_" (w .name)) esercizio us (Value (m .esercizio))) z (b .esercizio)) in
+    let u = number-one (a .number) (subst (λ (us : Trees). OneValue (daSostituire "numero_" (w .name)) numero us (Value (m .number))) z (b .number)) in
+    let v = number-one (a .line) (subst (λ (us : Trees). OneValue (daSostituire "progressivo_" (w .party)) progressivo us (Value (m .line))) z (b .line)) in
+    let e = number-one (a .esercizio) (subst (λ (us : Trees). OneValue (daSostituire "esercizio_" (w .name)) esercizio us (Value (m .esercizio))) z (b .esercizio)) in
     λ i. record { number = u i; line = v i; esercizio = e i }
 
 by-one : (o : Operation) (w : Words) (ts : Trees) (n m : NamedLine) → NamedBy o w ts n → NamedBy o w ts m → n ≡ m

@@ -41,7 +41,7 @@ use Rattle.editions.specs.declared.Edition.the-variants.{Oil, Opi}
 use Rattle.header.specs.Header.{rootOf}
 use Rattle.flow.proofs.Values.{ordersRow}
 use Rattle.tree.specs.Tree.{Tree, tree, says, holds, Trees, none, more, nameOf, heldOf, kidsIn}
-use Rattle.tree.specs.Orders.{childrenNamed, firstText, textNamed, OneText, OneHolds, OneValue, Each, each-none, each-next, HeaderIn, Words, mandatoWords, reversaleWords, joined, replaced, NamedIn, NamedBy, LineIn, OrderIn, AnOrder, OrdersIn}
+use Rattle.tree.specs.Orders.{childrenNamed, firstText, textNamed, OneText, OneHolds, OneValue, Each, each-none, each-next, HeaderIn, Words, mandatoWords, reversaleWords, joined, daSostituire, NamedIn, NamedBy, LineIn, OrderIn, AnOrder, OrdersIn}
 use Rattle.order.specs.Ordinativo.{Ordinativo, ordinativo, noName, noLine}
 use Rattle.order.specs.declared.NamedLine.{NamedLine}
 use Rattle.codes.specs.declared.Operation.{Operation}
@@ -281,12 +281,12 @@ none-counted : (z : Parent) → between 1 1 (countRow 0 (rowsOfTrees (keptTrees 
 unfolding rowsOfTrees keptTrees
 none-counted z c = let y : _≡_ {A = ℕ} 0 1 = cc in omega arith
 
-named-some : (d : ℕ) (z : Parent) (w : Words) → HasRow z 0 (once (replaced "numero_" (w .name) is Text Numero)) → fitsTree d z none ≡ true → ⊥
+named-some : (d : ℕ) (z : Parent) (w : Words) → HasRow z 0 (once (daSostituire "numero_" (w .name) is Text Numero)) → fitsTree d z none ≡ true → ⊥
 unfolding fitsTree
 named-some zero z w h e = let y : _≡_ {A = ℕ} 0 1 = cc in omega arith
 named-some (suc d) z w h e =
     let b = both (inOrder (ranges (table z)) 0 (rowsOfTrees (keptTrees z none))) (allTrees (keptFits (fitsTree d)) (keptTrees z none)) e in
-    let c = row-count (table z) 0 0 (once (replaced "numero_" (w .name) is Text Numero)) (h .0) (rowsOfTrees (keptTrees z none)) (h .1) (b .0) in
+    let c = row-count (table z) 0 0 (once (daSostituire "numero_" (w .name) is Text Numero)) (h .0) (rowsOfTrees (keptTrees z none)) (h .1) (b .0) in
     none-counted z c
 
 -- by whether the order replaces others
@@ -334,9 +334,9 @@ module _ (p q z : Parent) (r : Bool) (w : Words) (sp : Spelled p q z r w) where
           rw (first (childrenNamed (x ∷ []) ts) l) (record {
             structure = us;
             there = k .one;
-            number = numero-of (replaced "numero_" (w .name)) us (text-of d z us (k .right) 0 (replaced "numero_" (w .name)) _ (sp .replaced-number));
-            line = progressivo-of (replaced "progressivo_" (w .party)) us (text-of d z us (k .right) 1 (replaced "progressivo_" (w .party)) _ (sp .replaced-line));
-            esercizio = esercizio-of (replaced "esercizio_" (w .name)) us (text-of d z us (k .right) 2 (replaced "esercizio_" (w .name)) _ (sp .replaced-year));
+            number = numero-of (daSostituire "numero_" (w .name)) us (text-of d z us (k .right) 0 (daSostituire "numero_" (w .name)) _ (sp .replaced-number));
+            line = progressivo-of (daSostituire "progressivo_" (w .party)) us (text-of d z us (k .right) 1 (daSostituire "progressivo_" (w .party)) _ (sp .replaced-line));
+            esercizio = esercizio-of (daSostituire "esercizio_" (w .name)) us (text-of d z us (k .right) 2 (daSostituire "esercizio_" (w .name)) _ (sp .replaced-year));
           })
       go false e = refl
 

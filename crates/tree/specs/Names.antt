@@ -5,7 +5,7 @@ use mathlib.Core.Logic.{_↔_}
 use Prim.Native.Nat.{ℕ, suc, _≤_}
 use mathlib.Core.List.{List, [], _∷_}
 use Rattle.grammar.specs.Grammar.{Pieces, none, more, Text, text}
-use Rattle.names.specs.Names.{replaced, characters}
+use Rattle.names.specs.Names.{referencesReplaced, characters}
 use Rattle.fields.specs.declared.Form.the-variants.{Anagrafica}
 use Rattle.fields.specs.declared.Judged.the-variants.{Stands}
 use Rattle.fields.specs.Fields.{fieldStands}
@@ -21,7 +21,7 @@ pieces (text ps w) = piecesIn ps
 
 -- "Anagrafica holds 1 to 140 characters, each of the five references counting as one."
 pub record Counted {t : List ℕ} (x : Text t) : Type 0 where
-  pub counted : characters (replaced t) ≡ pieces x
+  pub counted : characters (referencesReplaced t) ≡ pieces x
   pub stands : (fieldStands Anagrafica t ≡ Stands) ↔ ((1 ≤ pieces x) × (pieces x ≤ 140))
 
 -- fields, each anagrafica among them: the grammar derives the text, so that every byte of it is of a character or a reference, and it is counted so

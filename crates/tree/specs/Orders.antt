@@ -100,15 +100,15 @@ joined (String._∷_ c x) y = String._∷_ c (joined x y)
 
 -- THE LINE THAT A LINE NAMES, in the one structure of its kind: "each line names one line, of the same kind and body, by number, line and esercizio (the
 -- sostituzione structures of 000)" (document 02, Req 07)
-abbrev pub replaced : String → String → String
-replaced x y = joined x (joined y "_da_sostituire")
+abbrev pub daSostituire : String → String → String
+daSostituire x y = joined x (joined y "_da_sostituire")
 
 pub record NamedIn (w : Words) (kids : Trees) (n : NamedLine) : Type 0 where
   pub structure : Trees
   pub there : OneHolds (joined "sostituzione_" (w .name)) kids structure
-  pub number : OneValue (replaced "numero_" (w .name)) numero structure (Value (n .number))
-  pub line : OneValue (replaced "progressivo_" (w .party)) progressivo structure (Value (n .line))
-  pub esercizio : OneValue (replaced "esercizio_" (w .name)) esercizio structure (Value (n .esercizio))
+  pub number : OneValue (daSostituire "numero_" (w .name)) numero structure (Value (n .number))
+  pub line : OneValue (daSostituire "progressivo_" (w .party)) progressivo structure (Value (n .line))
+  pub esercizio : OneValue (daSostituire "esercizio_" (w .name)) esercizio structure (Value (n .esercizio))
 
 -- "other operations pass it over"
 abbrev pub NamedBy : Operation → Words → Trees → NamedLine → Type 0

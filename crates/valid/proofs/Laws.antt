@@ -10,7 +10,7 @@ use lib.Seq.{drop-cons}
 use lib.Dec.{eqb}
 use borrow.Author.Tests.{eq-eqb, ne-eqb, eqb-true, eqb-false}
 use Rattle.valid.specs.Valid.{allFrom, sum, executedIn}
-use Rattle.valid.specs.Inner.{told}
+use Rattle.valid.specs.Inner.{judgedBy}
 use Rattle.valid.specs.declared.Judged.the-variants.{Broken, Right}
 
 -- TESTS OF ONE AFTER THE OTHER
@@ -71,10 +71,10 @@ executed-sum (x ∷ s) (y ∷ a) = go (eqb x 2) (executed-sum s a) where
 
 -- WHAT IS TOLD
 
-pub told-right : (b : Bool) (x c : ℕ) → told b x ≡ Right c → (b ≡ true) × (x ≡ c)
+pub told-right : (b : Bool) (x c : ℕ) → judgedBy b x ≡ Right c → (b ≡ true) × (x ≡ c)
 told-right true x c e = (refl, cc)
 told-right false x c e = let z : _≡_ {A = ℕ} 0 1 = cc in absurd (omega arith)
 
-pub told-broken : (b : Bool) (x : ℕ) → told b x ≡ Broken → b ≡ false
+pub told-broken : (b : Bool) (x : ℕ) → judgedBy b x ≡ Broken → b ≡ false
 told-broken true x e = let z : _≡_ {A = ℕ} 0 1 = cc in absurd (omega arith)
 told-broken false x e = refl

@@ -15,7 +15,7 @@ use Rattle.record.proofs.Back.{eight-at, be8s-at}
 use Rattle.record.specs.declared.Record.{Record}
 use Rattle.valid.specs.Valid.{lineThere, lineAbsent, lineOk, allFrom, sum, rangesOk, recordOk, executedIn, executed}
 use Rattle.valid.specs.declared.Judged.the-variants.{Broken}
-use Rattle.valid.specs.Inner.{told, judged}
+use Rattle.valid.specs.Inner.{judgedBy, judgedRecord}
 use Rattle.valid.proofs.Valid.{ranges-bounds}
 use Rattle.valid.proofs.Laws.{and-stop, and-go, all-more, all-done, sum-more, sum-over, sum-go, executed-more}
 
@@ -127,8 +127,8 @@ module _ (t : List ℕ) (at n k rest a : ℕ) (h : k < n) (b : n ≤ 8) (q : n �
 
 -- what is told where a line breaks
 pub lines-told : (r : Record) (n : ℕ) → leftOk r n 0 (r .total) ≡ false
-    → Broken ≡ told (allFrom (lineOk r) 0 n && eqb (sum (r .amounts)) (r .total)) (executed r)
-lines-told r n f = sym (ap (λ (b : Bool). told b (executed r)) (sym (left-all r n) ∙ f))
+    → Broken ≡ judgedBy (allFrom (lineOk r) 0 n && eqb (sum (r .amounts)) (r .total)) (executed r)
+lines-told r n f = sym (ap (λ (b : Bool). judgedBy b (executed r)) (sym (left-all r n) ∙ f))
 
 pub there-done : (r : Record) (n k rest : ℕ) → k ≤ n → n ≤ k → sum (drop n (r .amounts)) ≡ 0 → leftOk r n k rest ≡ eqb 0 rest
 there-done r n k rest h l z =
@@ -139,8 +139,8 @@ there-done r n k rest h l z =
 
 -- THE WHOLE RECORD
 
-pub broken : (r : Record) → recordOk r ≡ false → Broken ≡ judged r
-broken r f = sym (ap (λ (b : Bool). told b (executed r)) f)
+pub broken : (r : Record) → recordOk r ≡ false → Broken ≡ judgedRecord r
+broken r f = sym (ap (λ (b : Bool). judgedBy b (executed r)) f)
 
 all-split : (f : ℕ → Bool) (k m n : ℕ) → allFrom f k (m + n) ≡ (allFrom f k m && allFrom f (k + m) n)
 unfolding allFrom

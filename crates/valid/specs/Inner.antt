@@ -7,9 +7,9 @@ use Rattle.valid.specs.declared.Judged.{Judged}
 use Rattle.valid.specs.declared.Judged.the-variants.{Broken, Right}
 
 -- broken, or right with these cents
-abbrev pub told : Bool → ℕ → Judged
-told right cents = cond right (Right cents) Broken
+abbrev pub judgedBy : Bool → ℕ → Judged
+judgedBy right cents = cond right (Right cents) Broken
 
 -- a record: whether it is valid, and the cents of its executed lines
-abbrev pub judged : Record → Judged
-judged r = told (recordOk r) (executed r)
+abbrev pub judgedRecord : Record → Judged
+judgedRecord r = judgedBy (recordOk r) (executed r)

@@ -12,7 +12,7 @@ ghost use Rattle.words.specs.Numbers.{be8};
 ghost use Rattle.calendar.specs.Calendar.{isDate};
 ghost use Rattle.record.specs.Slot.{slotSize, waitingLine, replacedLine, statesOffset, amountsOffset, dateAt, recordAt};
 ghost use Rattle.valid.specs.Valid.{lineThere, lineAbsent, lineOk, allFrom, sum, rangesOk, executed};
-ghost use Rattle.valid.specs.Inner.{told, judged};
+ghost use Rattle.valid.specs.Inner.{judgedBy, judgedRecord};
 
 // A record judged: broken, or valid with the cents of its executed lines.
 pub enum Judged {
@@ -115,7 +115,7 @@ pub fn line_cents(executed: bool, amount: u64) -> u64
 }
 
 fn told_by(right: bool, cents: u64) -> Judged
-    ensures { λ j. ⌜ j ≡ told right cents ⌝ }
+    ensures { λ j. ⌜ j ≡ judgedBy right cents ⌝ }
 {
     if right {
         Judged::Right(cents)
@@ -128,7 +128,7 @@ fn told_by(right: bool, cents: u64) -> Judged
 fn lines_there(t: &[u8], at: usize, lines: usize) -> Judged
     requires { ⌜ (at + slotSize ≤ length (now t)) × (lines ≤ 8) × (lines ≡ recordAt (now t) at .lines)
         × (sum (drop lines (recordAt (now t) at .amounts)) ≡ 0) ⌝ }
-    ensures { λ j. ⌜ j ≡ told (allFrom (lineOk (recordAt (now (t .entry)) at)) 0 lines
+    ensures { λ j. ⌜ j ≡ judgedBy (allFrom (lineOk (recordAt (now (t .entry)) at)) 0 lines
         && eqb (sum (recordAt (now (t .entry)) at .amounts)) (recordAt (now (t .entry)) at .total)) (executed (recordAt (now (t .entry)) at)) ⌝ }
 {
     let annulled = t[at + 1] == record::ANNULLED;
@@ -154,7 +154,7 @@ fn lines_there(t: &[u8], at: usize, lines: usize) -> Judged
 // Whether the record in the slot at a place is valid, and the cents of its executed lines.
 pub fn judge_at(t: &[u8], at: usize) -> Judged
     requires { ⌜ at + slotSize ≤ length (now t) ⌝ }
-    ensures { λ j. ⌜ j ≡ judged (recordAt (now (t .entry)) at) ⌝ }
+    ensures { λ j. ⌜ j ≡ judgedRecord (recordAt (now (t .entry)) at) ⌝ }
 {
     if !ranges_ok(t, at) {
         return Judged::Broken;

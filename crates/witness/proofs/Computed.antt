@@ -5,6 +5,7 @@ use mathlib.Core.Bool.{true}
 use mathlib.Core.List.{List, [], _∷_, _++_}
 use lib.ListN.{length, take}
 use lib.Dec.{leb}
+use Rattle.bounds.specs.Bounds.{maxFlow}
 use Rattle.order.specs.Ordinativo.{Ordinativo}
 use Rattle.orders.specs.Orders.{those, textIn as ordersTextIn, inside, lineOf, linesOf, eight, linesIn, orderOf, ordersOf, namedOf, namedIn}
 use Rattle.editions.specs.declared.Edition.the-variants.{Oil}
@@ -13,7 +14,7 @@ use Rattle.flow.specs.declared.Verdict.the-variants.{Stands}
 use Rattle.flow.specs.Flow.{headerOf, flowOrders, verdictBy, verdictOf}
 use Rattle.table.specs.Table.{tableOk}
 use Rattle.desk.specs.declared.FlowAnswer.the-variants.{BrokenField}
-use Rattle.desk.specs.Desk.{refused, maxFlow, forBank, flowReads}
+use Rattle.desk.specs.Desk.{refused, forBank, flowReads}
 use Rattle.marked.specs.Flows.{single}
 use Rattle.witness.specs.Flows.{two, headerFor, order}
 use Rattle.scan.specs.Bytes.{bytes, isLetter, isDigit, isAlnum, isNameByte, isWhite, all, run, runEnd, startsWith, hasAt, textIs}
@@ -27,8 +28,8 @@ use Rattle.dates.specs.Dates.{dataOf, clock, signs, dataOraWritten, dataOraWith
 use Rattle.names.specs.Names.{replacedAfter, charactersAfter, anagrafica}
 use Rattle.fields.specs.Fields.{fieldStands}
 use Rattle.tokens.specs.Tokens.{repeat, until, nameAt, tagEndAt, pieceAt, textAt, endTagAt, optionalAt}
-use Rattle.markup.specs.Markup.{elementBy, childBy, childrenBy, contentBy, elementAt, contentAt, rootAt, rootFrom, markupOf}
-use Rattle.children.specs.Child.{childAt, childrenBy as childrenChildrenBy, childrenFrom}
+use Rattle.markup.specs.Markup.{elementBy, childBy, childrenUpTo, contentBy, elementAt, contentAt, rootAt, rootFrom, markupOf}
+use Rattle.children.specs.Child.{childAt, childrenUpTo as childrenChildrenBy, childrenFrom}
 use Rattle.rows.specs.Kept.{keep, keptFrom}
 use Rattle.rows.specs.Replaces.{replaces, rowsFor}
 use Rattle.rows.specs.Table.{nameIs}
@@ -49,7 +50,7 @@ pub record Flows : Type 0 where
   pub more : ReadAs two (headerFor "471") (order 1 ∷ order 2 ∷ [])
 
 pub flows : Flows
-unfolding isLetter isDigit isAlnum isNameByte isWhite all run runEnd startsWith hasAt textIs isChar sized isTail charSize pastOr charAt leap monthLength isDate isIdentifying codiceAbi identificativo codiceEnte tipoOperazione digitsAfter digits esercizio numero zeroInFront importo progressivo dataOf clock signs dataOraWritten dataOraWithin dataOra whichAt replacedAfter charactersAfter anagrafica fieldStands repeat until nameAt tagEndAt pieceAt textAt endTagAt optionalAt elementBy childBy childrenBy contentBy elementAt contentAt rootAt rootFrom markupOf childAt childrenChildrenBy childrenFrom keep keptFrom replaces rowsFor nameIs allKept rowsOf inOrder textOnly fitBy fitsAt fieldsBy fieldsAt firstBad those ordersTextIn inside namedOf namedIn lineOf linesOf eight linesIn orderOf ordersOf verdictBy
+unfolding isLetter isDigit isAlnum isNameByte isWhite all run runEnd startsWith hasAt textIs isChar sized isTail charSize pastOr charAt leap monthLength isDate isIdentifying codiceAbi identificativo codiceEnte tipoOperazione digitsAfter digits esercizio numero zeroInFront importo progressivo dataOf clock signs dataOraWritten dataOraWithin dataOra whichAt replacedAfter charactersAfter anagrafica fieldStands repeat until nameAt tagEndAt pieceAt textAt endTagAt optionalAt elementBy childBy childrenUpTo contentBy elementAt contentAt rootAt rootFrom markupOf childAt childrenChildrenBy childrenFrom keep keptFrom replaces rowsFor nameIs allKept rowsOf inOrder textOnly fitBy fitsAt fieldsBy fieldsAt firstBad those ordersTextIn inside namedOf namedIn lineOf linesOf eight linesIn orderOf ordersOf verdictBy
 flows = record {
   own = record { at = 19; short = refl; stands = refl; header = refl; orders = refl };
   other = record { at = 19; short = refl; stands = refl; header = refl; orders = refl };

@@ -21,7 +21,7 @@ use Rattle.table.specs.Table.{agrees}
 use Rattle.service.specs.Service.{settled}
 use Rattle.service.proofs.Totals.{is-agrees, kept-same, put-paid, put-collected}
 use Rattle.packing.proofs.Packed.{packed-before, packed-after}
-use Rattle.closing.specs.Closing.{earlierRemains, staying, openAt, yearRemoved}
+use Rattle.closing.specs.Closing.{earlierRemains, staying, staysAt, yearRemoved}
 use Rattle.closing.proofs.Removed.{removed-records, removed-ok, length-open, staying-later}
 use Rattle.year_end.specs.YearEnd.{bodyClosed}
 use Rattle.year_end.specs.Inner.{Fits}
@@ -47,14 +47,14 @@ module _ (t : List ℕ) (e base n year : ℕ) (F : Fits t e base n) where
   long : length mid ≡ length t
   long = removed-long t e base n year F
 
-  room : base + slotSize * length (openAt t base n year) ≤ length t
+  room : base + slotSize * length (staysAt t base n year) ≤ length t
   room = omega (arith, length-open t base n year, F .inside)
 
   mid-before : (p m : ℕ) → p + m ≤ base → Agree mid p t p m
-  mid-before = packed-before t base (openAt t base n year) room
+  mid-before = packed-before t base (staysAt t base n year) room
 
   mid-after : (p m : ℕ) → base + slotSize * n ≤ p → Agree mid p t p m
-  mid-after p m h = packed-after t base (openAt t base n year) room p m (omega (arith, length-open t base n year))
+  mid-after p m h = packed-after t base (staysAt t base n year) room p m (omega (arith, length-open t base n year))
 
   sixteen : length sums ≡ 16
   unfolding keptBytes

@@ -20,7 +20,7 @@ use Rattle.body.specs.Inner.{summed}
 use Rattle.entries.specs.Entry.{entryFixed, closedPlace, keptBytes, closedOf}
 use Rattle.service.specs.Service.{settled}
 use Rattle.packing.proofs.Packed.{packed-long}
-use Rattle.closing.specs.Closing.{earlierRemains, lineWaits, staying, removed, openAt, yearRemoved}
+use Rattle.closing.specs.Closing.{earlierRemains, lineWaits, staying, removed, staysAt, yearRemoved}
 use Rattle.closing.proofs.Removed.{removed-records, removed-ok, length-open}
 use Rattle.address.specs.declared.Addressed.{Addressed}
 use Rattle.address.specs.declared.Addressed.the-variants.{Invalid, Unknown, Body}
@@ -55,7 +55,7 @@ settled-with t t′ e rs w g = g ∙ (λ i. put t (e + entryFixed) (keptBytes (w
 -- THE BODY WITHOUT THE YEAR'S RECORDS still fits
 module _ (t : List ℕ) (e base n year : ℕ) (F : Fits t e base n) where
   pub removed-long : length (yearRemoved t base n year) ≡ length t
-  removed-long = packed-long t base (openAt t base n year) (omega (arith, length-open t base n year, F .inside))
+  removed-long = packed-long t base (staysAt t base n year) (omega (arith, length-open t base n year, F .inside))
 
   pub removed-fits : Fits (yearRemoved t base n year) e base n
   removed-fits = record {

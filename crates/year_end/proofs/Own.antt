@@ -22,7 +22,7 @@ use Rattle.service.proofs.Own.{put-agree}
 use Rattle.packing.specs.Packing.{slotBytes, packed}
 use Rattle.packing.specs.Packing as P
 use Rattle.packing.proofs.Packed.{packed-before}
-use Rattle.closing.specs.Closing.{stays, flagsBy, staying, openAt, yearRemoved}
+use Rattle.closing.specs.Closing.{stays, flagsBy, staying, staysAt, yearRemoved}
 use Rattle.closing.proofs.Removed.{length-open}
 use Rattle.year_end.specs.declared.CloseAnswer.{CloseAnswer}
 use Rattle.year_end.specs.declared.CloseAnswer.the-variants.{InvalidTable, UnknownBody, NotAYear, AlreadyClosed, EarlierRemains, LineWaits, Closed}
@@ -37,8 +37,8 @@ slot-same {s} {t} at a hs ht =
     rw z at (part-agree a 0 slotSize (omega arith) at (at + slotSize) at (at + slotSize) (omega arith) refl (omega arith) refl hs ht)
 
 bytes-same : {s t : List ℕ} (at : ℕ) (fs : List ℕ) → Agree s at t at (slotSize * length fs) → at + slotSize * length fs ≤ length s → at + slotSize * length fs ≤ length t
-    → P.keptBytes s at fs ≡ P.keptBytes t at fs
-unfolding P.keptBytes
+    → P.chosenBytes s at fs ≡ P.chosenBytes t at fs
+unfolding P.chosenBytes
 bytes-same at [] a hs ht = refl
 bytes-same at (f ∷ fs) a hs ht =
     let x = slot-same at (fewer a slotSize (omega arith)) (omega arith) (omega arith) in
@@ -48,13 +48,13 @@ bytes-same at (f ∷ fs) a hs ht =
 module _ {s t : List ℕ} {e base n : ℕ} (year : ℕ) (a : Agree s base t base (slotSize * n)) (b : Agree s (e + entryFixed) t (e + entryFixed) (entrySize - entryFixed))
     (S : Fits s e base n) (T : Fits t e base n) where
   abbrev fs : List ℕ
-  fs = openAt t base n year
+  fs = staysAt t base n year
 
-  flags-same : openAt s base n year ≡ openAt t base n year
+  flags-same : staysAt s base n year ≡ staysAt t base n year
   flags-same = ap (flagsBy (stays year)) (slots-agree n a)
 
   abbrev v : List ℕ
-  v = P.keptBytes t base fs ++ replicate (slotSize * (length fs - P.kept fs)) 0
+  v = P.chosenBytes t base fs ++ replicate (slotSize * (length fs - P.chosenCount fs)) 0
 
   long : length fs ≡ n
   long = length-open t base n year
@@ -62,9 +62,9 @@ module _ {s t : List ℕ} {e base n : ℕ} (year : ℕ) (a : Agree s base t base
   packed-s : yearRemoved s base n year ≡ put s base v
   unfolding packed
   packed-s =
-      let k : P.keptBytes s base fs ≡ P.keptBytes t base fs =
+      let k : P.chosenBytes s base fs ≡ P.chosenBytes t base fs =
       bytes-same base fs (fewer a (slotSize * length fs) (omega (arith, long))) (omega (arith, long, S .inside)) (omega (arith, long, T .inside)) in
-      ap (packed s base) flags-same ∙ ap (λ (x : List ℕ). put s base (x ++ replicate (slotSize * (length fs - P.kept fs)) 0)) k
+      ap (packed s base) flags-same ∙ ap (λ (x : List ℕ). put s base (x ++ replicate (slotSize * (length fs - P.chosenCount fs)) 0)) k
 
   packed-t : yearRemoved t base n year ≡ put t base v
   unfolding packed
@@ -77,7 +77,7 @@ module _ {s t : List ℕ} {e base n : ℕ} (year : ℕ) (a : Agree s base t base
 
   before : (u : List ℕ) (U : Fits u e base n) → Agree (yearRemoved u base n year) (e + entryFixed) u (e + entryFixed) (entrySize - entryFixed)
   before u U =
-      packed-before u base (openAt u base n year) (omega (arith, length-open u base n year, U .inside)) (e + entryFixed) (entrySize - entryFixed) (omega (arith, U .entry))
+      packed-before u base (staysAt u base n year) (omega (arith, length-open u base n year, U .inside)) (e + entryFixed) (entrySize - entryFixed) (omega (arith, U .entry))
 
   tails : Agree (yearRemoved s base n year) (e + entryFixed) (yearRemoved t base n year) (e + entryFixed) (entrySize - entryFixed)
   tails = record { same = λ i h. before s S .same i h ∙ b .same i h ∙ sym (before t T .same i h) }

@@ -5,7 +5,7 @@ use native.Mathlib.Omega.{arith}
 use Rattle.record.specs.Slot.{slotSize}
 use Rattle.slots.specs.Slots.{recordsAt}
 use Rattle.slots.proofs.Laws.{records-more, records-end, records-none}
-use Rattle.closing.specs.Closing.{earlier, earlierRemains}
+use Rattle.closing.specs.Closing.{ofEarlier, earlierRemains}
 use Rattle.closing.proofs.Laws.{any-first, any-later, any-nil, year-earlier, year-later}
 use Rattle.closing.proofs.earlier_remains.Statement.{statement}
 use Rattle.closing.proofs.earlier_remains.Tie as tie
@@ -26,7 +26,7 @@ shared-slice-read-if1 : tie.Need-shared-slice-read-if1 Inv-loop μ-loop
 shared-slice-read-if1 c = search needs
 
 returns : tie.Need-returns Inv-loop μ-loop
-returns c = sym (c .before .before .before .loop .inv .1 ∙ any-nil (earlier (c .before .before .before .before .before .args .year)) (records-end (c .before .before .before .before .before .args .t .now) (c .before .before .before .loop .at) (c .before .before .before .loop .left) (c .if1 .taken)))
+returns c = sym (c .before .before .before .loop .inv .1 ∙ any-nil (ofEarlier (c .before .before .before .before .before .args .year)) (records-end (c .before .before .before .before .before .args .t .now) (c .before .before .before .loop .at) (c .before .before .before .loop .left) (c .if1 .taken)))
 
 add-read2 : tie.Need-add-read2 Inv-loop μ-loop
 add-read2 c = search needs
@@ -35,7 +35,7 @@ read2-requires : tie.Need-read2-requires Inv-loop μ-loop
 read2-requires c κs = search needs
 
 returns-2 : tie.Need-returns-2 Inv-loop μ-loop
-returns-2 c = sym (c .before .before .before .before .before .loop .inv .1 ∙ any-first (earlier (c .before .before .before .before .before .before .before .args .year)) (records-more (c .before .before .before .before .before .before .before .args .t .now) (c .before .before .before .before .before .loop .at) (c .before .before .before .before .before .loop .left) (c .before .before .before .before .before .loop .left - 1) (omega arith) (c .before .before .if1 .left)) (year-earlier (c .before .before .before .before .before .before .before .args .t .now) (c .before .before .before .before .before .loop .at) (c .before .before .before .before .before .before .before .args .year) (c .before .read2 .ensures .0) (c .if2 .taken)))
+returns-2 c = sym (c .before .before .before .before .before .loop .inv .1 ∙ any-first (ofEarlier (c .before .before .before .before .before .before .before .args .year)) (records-more (c .before .before .before .before .before .before .before .args .t .now) (c .before .before .before .before .before .loop .at) (c .before .before .before .before .before .loop .left) (c .before .before .before .before .before .loop .left - 1) (omega arith) (c .before .before .if1 .left)) (year-earlier (c .before .before .before .before .before .before .before .args .t .now) (c .before .before .before .before .before .loop .at) (c .before .before .before .before .before .before .before .args .year) (c .before .read2 .ensures .0) (c .if2 .taken)))
 
 add-at : tie.Need-add-at Inv-loop μ-loop
 add-at c = search needs
@@ -47,10 +47,10 @@ loop-less : tie.Need-loop-less Inv-loop μ-loop
 loop-less c = search needs
 
 loop-again : tie.Need-loop-again Inv-loop μ-loop
-loop-again c = (omega arith, c .before .before .before .before .before .loop .inv .1 ∙ any-later (earlier (c .before .before .before .before .before .before .before .args .year)) (records-more (c .before .before .before .before .before .before .before .args .t .now) (c .before .before .before .before .before .loop .at) (c .before .before .before .before .before .loop .left) (c .before .before .before .before .before .loop .left - 1) (omega arith) (c .before .before .if1 .left)) (year-later (c .before .before .before .before .before .before .before .args .t .now) (c .before .before .before .before .before .loop .at) (c .before .before .before .before .before .before .before .args .year) (c .before .read2 .ensures .0) (λ z. omega (arith, c .if2 .left))))
+loop-again c = (omega arith, c .before .before .before .before .before .loop .inv .1 ∙ any-later (ofEarlier (c .before .before .before .before .before .before .before .args .year)) (records-more (c .before .before .before .before .before .before .before .args .t .now) (c .before .before .before .before .before .loop .at) (c .before .before .before .before .before .loop .left) (c .before .before .before .before .before .loop .left - 1) (omega arith) (c .before .before .if1 .left)) (year-later (c .before .before .before .before .before .before .before .args .t .now) (c .before .before .before .before .before .loop .at) (c .before .before .before .before .before .before .before .args .year) (c .before .read2 .ensures .0) (λ z. omega (arith, c .if2 .left))))
 
 returns-3 : tie.Need-returns-3 Inv-loop μ-loop
-returns-3 c = sym (c .before .loop .inv .1 ∙ any-nil (earlier (c .before .before .before .args .year)) (records-none (c .before .before .before .args .t .now) (c .before .loop .at) (c .before .loop .left) (omega arith)))
+returns-3 c = sym (c .before .loop .inv .1 ∙ any-nil (ofEarlier (c .before .before .before .args .year)) (records-none (c .before .before .before .args .t .now) (c .before .loop .at) (c .before .loop .left) (omega arith)))
 
 pub earlier-remains-spec : {M : Type 1} → statement M
 earlier-remains-spec =

@@ -3,7 +3,7 @@ use mathlib.Core.Path.{_≡_, sym, ap, _∙_}
 use mathlib.Core.List.{List}
 use lib.ListN.{length}
 use native.Mathlib.Omega.{arith}
-use Rattle.packing.specs.Packing.{kept, packed}
+use Rattle.packing.specs.Packing.{chosenCount, packed}
 use Rattle.closing.proofs.Removed.{removed-used}
 use borrow.Author.Needs.{needs}
 use Rattle.closing.proofs.remove_by.Statement.{statement}
@@ -24,7 +24,7 @@ pack-requires : tie.Need-pack-requires
 pack-requires c κs = search needs
 
 sub-result : tie.Need-sub-result
-sub-result c = omega (arith, removed-used (c .before .before .before .before .before .before .before .before .before .before .before .before .before .before .args .t .now) (c .before .before .before .before .before .before .before .before .before .before .before .before .before .before .args .base) (length (c .before .before .before .before .before .before .before .before .before .before .before .before .before .before .args .flags .now)) (c .before .before .before .before .before .before .before .before .before .before .before .before .before .before .args .year) (c .before .before .before .before .before .before .before .before .before .before .before .before .before .before .pre .0) (c .before .before .before .before .before .before .before .before .before .before .before .before .before .before .pre .1), c .before .before .before .before .before .before .before .before .before .before .used-slots .ensures, c .before .before .pack .ensures .0, ap kept (c .before .before .before .before .before .before .before .flags-of .ensures))
+sub-result c = omega (arith, removed-used (c .before .before .before .before .before .before .before .before .before .before .before .before .before .before .args .t .now) (c .before .before .before .before .before .before .before .before .before .before .before .before .before .before .args .base) (length (c .before .before .before .before .before .before .before .before .before .before .before .before .before .before .args .flags .now)) (c .before .before .before .before .before .before .before .before .before .before .before .before .before .before .args .year) (c .before .before .before .before .before .before .before .before .before .before .before .before .before .before .pre .0) (c .before .before .before .before .before .before .before .before .before .before .before .before .before .before .pre .1), c .before .before .before .before .before .before .before .before .before .before .used-slots .ensures, c .before .before .pack .ensures .0, ap chosenCount (c .before .before .before .before .before .before .before .flags-of .ensures))
 
 same-length : tie.Need-same-length
 same-length c = search needs
@@ -33,7 +33,7 @@ same-length-2 : tie.Need-same-length-2
 same-length-2 c = search needs
 
 returns : tie.Need-returns
-returns c = (omega (arith, removed-used (c .before .before .before .before .before .before .before .before .before .before .before .before .before .before .args .t .now) (c .before .before .before .before .before .before .before .before .before .before .before .before .before .before .args .base) (length (c .before .before .before .before .before .before .before .before .before .before .before .before .before .before .args .flags .now)) (c .before .before .before .before .before .before .before .before .before .before .before .before .before .before .args .year) (c .before .before .before .before .before .before .before .before .before .before .before .before .before .before .pre .0) (c .before .before .before .before .before .before .before .before .before .before .before .before .before .before .pre .1), c .before .before .before .before .before .before .before .before .before .before .used-slots .ensures, c .before .before .pack .ensures .0, ap kept (c .before .before .before .before .before .before .before .flags-of .ensures)), c .before .before .pack .ensures .1 ∙ ap (packed (c .before .before .before .before .before .before .before .before .before .before .before .before .before .before .args .t .now) (c .before .before .before .before .before .before .before .before .before .before .before .before .before .before .args .base)) (c .before .before .before .before .before .before .before .flags-of .ensures))
+returns c = (omega (arith, removed-used (c .before .before .before .before .before .before .before .before .before .before .before .before .before .before .args .t .now) (c .before .before .before .before .before .before .before .before .before .before .before .before .before .before .args .base) (length (c .before .before .before .before .before .before .before .before .before .before .before .before .before .before .args .flags .now)) (c .before .before .before .before .before .before .before .before .before .before .before .before .before .before .args .year) (c .before .before .before .before .before .before .before .before .before .before .before .before .before .before .pre .0) (c .before .before .before .before .before .before .before .before .before .before .before .before .before .before .pre .1), c .before .before .before .before .before .before .before .before .before .before .used-slots .ensures, c .before .before .pack .ensures .0, ap chosenCount (c .before .before .before .before .before .before .before .flags-of .ensures)), c .before .before .pack .ensures .1 ∙ ap (packed (c .before .before .before .before .before .before .before .before .before .before .before .before .before .before .args .t .now) (c .before .before .before .before .before .before .before .before .before .before .before .before .before .before .args .base)) (c .before .before .before .before .before .before .before .flags-of .ensures))
 
 pub remove-by-spec : {M : Type 1} → statement M
 remove-by-spec =

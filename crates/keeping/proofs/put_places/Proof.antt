@@ -6,7 +6,7 @@ use lib.ListN.{length}
 use Rattle.words.specs.Numbers.{put, bytes4}
 use Rattle.words.proofs.Laws.{length-put}
 use Rattle.record.specs.Slot.{slotSize}
-use Rattle.keeping.specs.Keeping.{blankedFrom, each}
+use Rattle.keeping.specs.Keeping.{blankedFrom, eachBytes}
 use Rattle.keeping.proofs.Laws.{blankedRest, rest-yes, rest-no, rest-end, put-more, put-none}
 use native.Mathlib.Omega.{arith}
 use mathlib.Core.Path.{_≡_, refl, sym, ap, _∙_}
@@ -23,7 +23,7 @@ Inv-loop r₀ to t base flags at₀ i₀ next₀ r at i next =
     × (at ≡ base + slotSize * i)
     × (length r ≡ length r₀)
     × (to + 4 * length (blankedFrom t base flags) ≡ next + 4 * length (blankedRest t at flags i))
-    × (put r₀ to (each bytes4 (blankedFrom t base flags)) ≡ put r next (each bytes4 (blankedRest t at flags i)))
+    × (put r₀ to (eachBytes bytes4 (blankedFrom t base flags)) ≡ put r next (eachBytes bytes4 (blankedRest t at flags i)))
 
 abbrev μ-loop : tie.MeasureT-loop
 μ-loop r₀ to t base flags at₀ i₀ next₀ r at i next = length flags - i
@@ -68,7 +68,7 @@ loop-again c =
       omega arith,
       ap length (w .5 ∙ w .2 .ensures) ∙ length-put (l .r) (l .next) _ (omega (arith, l .inv .3)) ∙ l .inv .2,
       l .inv .3 ∙ omega (arith, w .6),
-      l .inv .4 ∙ ap (λ (vs : List ℕ). put (l .r) (l .next) (each bytes4 vs)) k ∙ put-more bytes4 (l .r) (l .next) (c .if1 .r) 4 (l .at) z refl (omega (arith, l .inv .3)) (w .5 ∙ w .2 .ensures) ∙ (λ j. put (c .if1 .r) (sym (w .6) j) (each bytes4 z)),
+      l .inv .4 ∙ ap (λ (vs : List ℕ). put (l .r) (l .next) (eachBytes bytes4 vs)) k ∙ put-more bytes4 (l .r) (l .next) (c .if1 .r) 4 (l .at) z refl (omega (arith, l .inv .3)) (w .5 ∙ w .2 .ensures) ∙ (λ j. put (c .if1 .r) (sym (w .6) j) (eachBytes bytes4 z)),
     ))
     (λ w.
     let k = rest-no (c .before .before .before .before .before .before .before .before .args .t .now) (l .at) (c .before .before .before .before .before .before .before .before .args .flags .now) (l .i) (omega arith) (c .before .is-blanked .ensures) (w .0 .left) in (
@@ -76,7 +76,7 @@ loop-again c =
       omega arith,
       ap length (w .1) ∙ l .inv .2,
       l .inv .3 ∙ omega (arith, w .2, ap length k),
-      l .inv .4 ∙ (λ j. put (sym (w .1) j) (sym (w .2) j) (each bytes4 (k j))),
+      l .inv .4 ∙ (λ j. put (sym (w .1) j) (sym (w .2) j) (eachBytes bytes4 (k j))),
     ))
     (c .if1 .came)
 
@@ -87,7 +87,7 @@ returns : tie.Need-returns Inv-loop μ-loop
 returns c =
     let l = c .before .loop in
     let k = rest-end (c .before .before .before .before .before .args .t .now) (l .at) (c .before .before .before .before .before .args .flags .now) (l .i) (omega arith) in
-    (omega (arith, l .inv .3, ap length k), sym (l .inv .4 ∙ ap (λ (vs : List ℕ). put (l .r) (l .next) (each bytes4 vs)) k ∙ put-none bytes4 (l .r) (l .next)))
+    (omega (arith, l .inv .3, ap length k), sym (l .inv .4 ∙ ap (λ (vs : List ℕ). put (l .r) (l .next) (eachBytes bytes4 vs)) k ∙ put-none bytes4 (l .r) (l .next)))
 
 pub put-places-spec : {M : Type 1} → statement M
 put-places-spec =

@@ -4,7 +4,7 @@ use Prim.Native.Nat.{ℕ, _+_, _*_}
 use lib.ListN.{length}
 use native.Mathlib.Omega.{arith}
 use Rattle.words.specs.Numbers.{put, bytes4}
-use Rattle.keeping.specs.Keeping.{blankedFrom, each}
+use Rattle.keeping.specs.Keeping.{blankedFrom, eachBytes}
 use borrow.Author.Needs.{needs}
 use Rattle.mending.proofs.places_by.Statement.{statement}
 use Rattle.mending.proofs.places_by.Tie as tie
@@ -31,7 +31,7 @@ returns : tie.Need-returns
 returns c =
     let e = c .before .before .before .before .before .before .before .flags-of .ensures in (
       c .before .before .put-places .ensures .0 ∙ ap (λ (fs : List ℕ). c .before .before .before .before .before .before .before .before .before .before .before .before .args .to + 4 * length (blankedFrom (c .before .before .before .before .before .before .before .before .before .before .before .before .args .t .now) (c .before .before .before .before .before .before .before .before .before .before .before .before .args .base) fs)) e,
-      c .before .before .put-places .ensures .1 ∙ ap (λ (fs : List ℕ). put (c .before .before .before .before .before .before .before .before .before .before .before .before .args .r .now) (c .before .before .before .before .before .before .before .before .before .before .before .before .args .to) (each bytes4 (blankedFrom (c .before .before .before .before .before .before .before .before .before .before .before .before .args .t .now) (c .before .before .before .before .before .before .before .before .before .before .before .before .args .base) fs))) e,
+      c .before .before .put-places .ensures .1 ∙ ap (λ (fs : List ℕ). put (c .before .before .before .before .before .before .before .before .before .before .before .before .args .r .now) (c .before .before .before .before .before .before .before .before .before .before .before .before .args .to) (eachBytes bytes4 (blankedFrom (c .before .before .before .before .before .before .before .before .before .before .before .before .args .t .now) (c .before .before .before .before .before .before .before .before .before .before .before .before .args .base) fs))) e,
     )
 
 pub places-by-spec : {M : Type 1} → statement M

@@ -3,7 +3,7 @@ use Prim.Native.Nat.{ℕ, _+_, _*_}
 use lib.ListN.{length}
 use native.Mathlib.Omega.{arith}
 use Rattle.words.specs.Numbers.{put, bytes4}
-use Rattle.keeping.specs.Keeping.{keepsAt, blankedFrom, each}
+use Rattle.keeping.specs.Keeping.{keepsAt, blankedFrom, eachBytes}
 use Rattle.mending.proofs.Laws.{room}
 use borrow.Author.Needs.{needs}
 use Rattle.mending.proofs.places_in.Statement.{statement}
@@ -34,7 +34,7 @@ returns : tie.Need-returns
 returns c =
     let q = room (c .before .before .before .before .before .before .before .before .args .n) (omega arith) in (
       c .before .before .before .places-by .ensures .0 ∙ ap (λ (m : ℕ). c .before .before .before .before .before .before .before .before .args .to + 4 * length (blankedFrom (c .before .before .before .before .before .before .before .before .args .t .now) (c .before .before .before .before .before .before .before .before .args .base) (keepsAt (c .before .before .before .before .before .before .before .before .args .closed) (c .before .before .before .before .before .before .before .before .args .t .now) (c .before .before .before .before .before .before .before .before .args .base) m))) q,
-      c .before .before .before .places-by .ensures .1 ∙ ap (λ (m : ℕ). put (c .before .before .before .before .before .before .before .before .args .r .now) (c .before .before .before .before .before .before .before .before .args .to) (each bytes4 (blankedFrom (c .before .before .before .before .before .before .before .before .args .t .now) (c .before .before .before .before .before .before .before .before .args .base) (keepsAt (c .before .before .before .before .before .before .before .before .args .closed) (c .before .before .before .before .before .before .before .before .args .t .now) (c .before .before .before .before .before .before .before .before .args .base) m)))) q,
+      c .before .before .before .places-by .ensures .1 ∙ ap (λ (m : ℕ). put (c .before .before .before .before .before .before .before .before .args .r .now) (c .before .before .before .before .before .before .before .before .args .to) (eachBytes bytes4 (blankedFrom (c .before .before .before .before .before .before .before .before .args .t .now) (c .before .before .before .before .before .before .before .before .args .base) (keepsAt (c .before .before .before .before .before .before .before .before .args .closed) (c .before .before .before .before .before .before .before .before .args .t .now) (c .before .before .before .before .before .before .before .before .args .base) m)))) q,
     )
 
 pub places-in-spec : {M : Type 1} → statement M

@@ -3,13 +3,13 @@ use Prim.Native.Nat.{_+_, _-_, _≤_}
 use native.Mathlib.Omega.{arith}
 use borrow.Author.Needs.{needs}
 use lib.ListN.{length, drop}
-use Rattle.names.specs.Names.{replaced, characters}
+use Rattle.names.specs.Names.{referencesReplaced, characters}
 use Rattle.names.proofs.Laws.{characters-end}
 use Rattle.names.proofs.characters_of.Statement.{statement}
 use Rattle.names.proofs.characters_of.Tie as tie
 
 abbrev Inv-loop : tie.InvT-loop
-Inv-loop t i₀ n₀ i n = (i ≤ length t) × (n ≤ i) × (n + characters (replaced (drop i t)) ≡ characters (replaced t))
+Inv-loop t i₀ n₀ i n = (i ≤ length t) × (n ≤ i) × (n + characters (referencesReplaced (drop i t)) ≡ characters (referencesReplaced t))
 
 abbrev μ-loop : tie.MeasureT-loop
 μ-loop t i₀ n₀ i n = length t - i

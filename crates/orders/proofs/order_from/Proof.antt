@@ -3,7 +3,7 @@ use native.Mathlib.Omega.{arith}
 use Rattle.rows.specs.declared.Holds.the-variants.{Rows}
 use Rattle.rows.specs.Kept.{keptFrom}
 use Rattle.orders.specs.Orders.{kindOf}
-use Rattle.orders.specs.Said.{numberOf, dayOf, saidOperation}
+use Rattle.orders.specs.Said.{numberOf, dateRead, saidOperation}
 use Rattle.orders.proofs.Laws.{found, found-some, says-operazione, says-numero, says-data, says-importo, lines-same, order-made}
 use borrow.Author.Needs.{needs}
 use Rattle.orders.proofs.order_from.Statement.{statement}
@@ -180,7 +180,7 @@ returns c =
     let w = c .before .lines-from .ensures .0 ∙ sym (lines-same s (keptFrom p s i0) (keptFrom p s i4) r) in
     let u0 = c .before .before .before .before .before .before .before .before .before .before .before .before .before .before .operation-of .ensures ∙ ap saidOperation (c .before .before .before .before .before .before .before .before .before .before .before .before .before .before .before .read-field .ensures) ∙ says-operazione s (xa .child) _ (fa .text) in
     let u1 = c .before .before .before .before .before .before .before .before .before .before .number-of .ensures ∙ ap numberOf (c .before .before .before .before .before .before .before .before .before .before .before .read-field2 .ensures) ∙ says-numero s (xb .child) _ t1 in
-    let u2 = c .before .before .before .before .before .before .day-of .ensures ∙ ap dayOf (c .before .before .before .before .before .before .before .read-field3 .ensures) ∙ says-data s (xc .child) _ t2 in
+    let u2 = c .before .before .before .before .before .before .day-of .ensures ∙ ap dateRead (c .before .before .before .before .before .before .before .read-field3 .ensures) ∙ says-data s (xc .child) _ t2 in
     let u3 = c .before .before .number-of2 .ensures ∙ ap numberOf (c .before .before .before .read-field4 .ensures) ∙ says-importo s (xd .child) _ t3 in
     (order-made (kindOf (Rows p)) s (keptFrom p s i0) _ (c .kind-of .ensures) u0 u1 u2 u3 w, c .before .lines-from .ensures .1)
 

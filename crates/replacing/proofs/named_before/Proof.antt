@@ -3,7 +3,7 @@ use Prim.Native.Nat.{_≤_}
 use mathlib.Core.Path.{_≡_, refl, sym, _∙_}
 use native.Mathlib.Omega.{arith}
 use Rattle.order.specs.Ordinativo.{linesThere}
-use Rattle.replacing.specs.Inner.{earlier}
+use Rattle.replacing.specs.Inner.{namedEarlier}
 use Rattle.replacing.proofs.Walk.{earlier-none, earlier-hit, earlier-miss}
 use Rattle.replacing.proofs.named_before.Statement.{statement}
 use Rattle.replacing.proofs.named_before.Tie as tie
@@ -13,7 +13,7 @@ use Rattle.replacing.proofs.naming_at.Reads as naming-at-reads
 use Rattle.replacing.proofs.same_line.Reads as same-line-reads
 
 abbrev Inv-loop : tie.InvT-loop
-Inv-loop o j m i₀ i = (i ≤ j) × (earlier (o .kind) (linesThere (o .lines)) j m ≡ earlier (o .kind) (linesThere (o .lines)) i m)
+Inv-loop o j m i₀ i = (i ≤ j) × (namedEarlier (o .kind) (linesThere (o .lines)) j m ≡ namedEarlier (o .kind) (linesThere (o .lines)) i m)
 
 abbrev μ-loop : tie.MeasureT-loop
 μ-loop o j m i₀ i = i

@@ -8,7 +8,7 @@ use Rattle.words.specs.Numbers.{put, bytes4}
 use Rattle.words.proofs.Laws.{length-put}
 use Rattle.entries.specs.Entry.{entrySize}
 use Rattle.table.specs.Table.{headSize}
-use Rattle.keeping.specs.Keeping.{keepsAt, blankedFrom, each}
+use Rattle.keeping.specs.Keeping.{keepsAt, blankedFrom, eachBytes}
 use Rattle.keeping.proofs.Laws.{put-none}
 use Rattle.salvage.specs.Salvage.{blanked, blankedIn}
 use Rattle.salvage.proofs.Laws.{turn, few-bodies, count-more, blanked-more, blanked-done, places-more, each-four}
@@ -26,7 +26,7 @@ Inv-loop r₀ t n at₀ left₀ to₀ r at left to =
     (at + entrySize * left ≡ headSize + entrySize * n)
     × (2 * n + 4 * length (blanked t) ≡ to + 4 * length (blankedIn t at left))
     × (length r ≡ length r₀)
-    × (put r₀ (2 * n) (each bytes4 (blanked t)) ≡ put r to (each bytes4 (blankedIn t at left)))
+    × (put r₀ (2 * n) (eachBytes bytes4 (blanked t)) ≡ put r to (eachBytes bytes4 (blankedIn t at left)))
 
 abbrev μ-loop : tie.MeasureT-loop
 μ-loop r₀ t n at₀ left₀ to₀ r at left to = left
@@ -39,7 +39,7 @@ mul-to c =
 loop-holds : tie.Need-loop-holds Inv-loop μ-loop
 loop-holds c =
     let e = c .before .before .pre .1 in
-    (refl, ap (λ (m : ℕ). 2 * c .before .before .args .n + 4 * length (blankedIn (c .before .before .args .t .now) headSize m)) (sym e), refl, ap (λ (m : ℕ). put (c .before .before .args .r .now) (2 * c .before .before .args .n) (each bytes4 (blankedIn (c .before .before .args .t .now) headSize m))) (sym e))
+    (refl, ap (λ (m : ℕ). 2 * c .before .before .args .n + 4 * length (blankedIn (c .before .before .args .t .now) headSize m)) (sym e), refl, ap (λ (m : ℕ). put (c .before .before .args .r .now) (2 * c .before .before .args .n) (eachBytes bytes4 (blankedIn (c .before .before .args .t .now) headSize m))) (sym e))
 
 place-of-requires : tie.Need-place-of-requires Inv-loop μ-loop
 place-of-requires c κs =
@@ -97,7 +97,7 @@ loop-again c =
     let m = each-four xs in (
       omega arith,
       l .inv .1 ∙ omega (arith, c .before .before .places-in .ensures .0),
-      ap length (c .before .before .places-in .ensures .1) ∙ length-put (l .r) (l .to) (each bytes4 xs) (omega (arith, l .inv .1)) ∙ l .inv .2,
+      ap length (c .before .before .places-in .ensures .1) ∙ length-put (l .r) (l .to) (eachBytes bytes4 xs) (omega (arith, l .inv .1)) ∙ l .inv .2,
       l .inv .3 ∙ places-more (l .r) _ (l .to) _ (blankedIn (c .before .before .before .before .before .before .before .before .before .before .before .args .t .now) (l .at) (l .left)) xs (blankedIn (c .before .before .before .before .before .before .before .before .before .before .before .args .t .now) (l .at + entrySize) (l .left - 1)) (blanked-more (c .before .before .before .before .before .before .before .before .before .before .before .args .t .now) (l .at) (l .left) (omega arith) (c .before .before .before .before .before .before .place-of .ensures .0) (c .before .before .before .before .before .slots-of .ensures .0) (c .before .before .before .before .closed-of .ensures .0)) (omega (arith, l .inv .1)) (c .before .before .places-in .ensures .0) (c .before .before .places-in .ensures .1),
     )
 
@@ -107,7 +107,7 @@ same-length c = search needs
 returns : tie.Need-returns Inv-loop μ-loop
 returns c =
     let l = c .before .loop in
-    sym (l .inv .3 ∙ ap (λ (vs : List ℕ). put (l .r) (l .to) (each bytes4 vs)) (blanked-done (c .before .before .before .before .args .t .now) (l .at) (l .left) (omega arith)) ∙ put-none bytes4 (l .r) (l .to))
+    sym (l .inv .3 ∙ ap (λ (vs : List ℕ). put (l .r) (l .to) (eachBytes bytes4 vs)) (blanked-done (c .before .before .before .before .args .t .now) (l .at) (l .left) (omega arith)) ∙ put-none bytes4 (l .r) (l .to))
 
 pub put-blanked-spec : {M : Type 1} → statement M
 put-blanked-spec =

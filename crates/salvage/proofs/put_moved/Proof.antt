@@ -8,7 +8,7 @@ use Rattle.words.specs.Numbers.{put, bytes2}
 use Rattle.words.proofs.Laws.{length-put}
 use Rattle.entries.specs.Entry.{entrySize}
 use Rattle.table.specs.Table.{headSize}
-use Rattle.keeping.specs.Keeping.{each}
+use Rattle.keeping.specs.Keeping.{eachBytes}
 use Rattle.keeping.proofs.Laws.{put-more, put-none}
 use Rattle.salvage.specs.Salvage.{movedIn}
 use Rattle.salvage.proofs.Laws.{turn, few-bodies, moved-more, moved-done}
@@ -27,7 +27,7 @@ Inv-loop r₀ t n at₀ left₀ to₀ r at left to =
     (at + entrySize * left ≡ headSize + entrySize * n)
     × (to + 2 * left ≡ 2 * n)
     × (length r ≡ length r₀)
-    × (put r₀ 0 (each bytes2 (movedIn t headSize n)) ≡ put r to (each bytes2 (movedIn t at left)))
+    × (put r₀ 0 (eachBytes bytes2 (movedIn t headSize n)) ≡ put r to (eachBytes bytes2 (movedIn t at left)))
 
 abbrev μ-loop : tie.MeasureT-loop
 μ-loop r₀ t n at₀ left₀ to₀ r at left to = left
@@ -100,7 +100,7 @@ loop-again c =
       omega arith,
       omega arith,
       ap length (c .before .before .write2 .ensures) ∙ length-put (l .r) (l .to) _ (omega (arith, l .inv .1)) ∙ l .inv .2,
-      l .inv .3 ∙ ap (λ (vs : List ℕ). put (l .r) (l .to) (each bytes2 vs)) k
+      l .inv .3 ∙ ap (λ (vs : List ℕ). put (l .r) (l .to) (eachBytes bytes2 vs)) k
           ∙ put-more bytes2 (l .r) (l .to) _ 2 _ z refl (omega (arith, l .inv .1)) (c .before .before .write2 .ensures ∙ ap (λ (v : ℕ). put (l .r) (l .to) (bytes2 v)) (c .before .before .before .moved-in .ensures)),
     )
 
@@ -110,7 +110,7 @@ same-length c = search needs
 returns : tie.Need-returns Inv-loop μ-loop
 returns c =
     let l = c .before .loop in
-    sym (l .inv .3 ∙ ap (λ (vs : List ℕ). put (l .r) (l .to) (each bytes2 vs)) (moved-done (c .before .before .before .before .args .t .now) (l .at) (l .left) (omega arith)) ∙ put-none bytes2 (l .r) (l .to))
+    sym (l .inv .3 ∙ ap (λ (vs : List ℕ). put (l .r) (l .to) (eachBytes bytes2 vs)) (moved-done (c .before .before .before .before .args .t .now) (l .at) (l .left) (omega arith)) ∙ put-none bytes2 (l .r) (l .to))
 
 pub put-moved-spec : {M : Type 1} → statement M
 put-moved-spec =

@@ -11,7 +11,7 @@ use Rattle.table.specs.Table.{table2, headSize, contentsOk}
 use Rattle.table.specs.Inner.{Known}
 use Rattle.table.specs.declared.Layout.{Layout}
 use Rattle.table.proofs.Laws.{known-2}
-use Rattle.keeping.specs.Keeping.{each}
+use Rattle.keeping.specs.Keeping.{eachBytes}
 use Rattle.salvage.specs.Salvage.{movedIn}
 use Rattle.salvage.proofs.Laws.{few-bodies, moved-two, report-by, salvage-not, salvage-short, salvage-done}
 use borrow.Author.Needs.{needs}
@@ -86,7 +86,7 @@ put-blanked-requires c κs =
     let e = c .before .before .before .before .before .before .before .before .before .before .body-count .ensures .0 in
     let f = c .before .before .before .before .before .before .before .before .count-blanked .ensures .0 in
     let m = moved-two (c .before .before .before .before .before .before .before .before .before .before .before .before .before .before .before .before .before .before .args .t .now) (c .before .before .before .before .before .before .before .before .before .before .body-count .result) in
-    let l = ap length (c .before .before .before .before .put-moved .ensures) ∙ length-put (c .before .before .before .before .before .before .before .before .before .before .before .before .before .before .before .before .before .before .args .report .now) 0 (each bytes2 (movedIn (c .before .before .before .before .before .before .before .before .before .before .before .before .before .before .before .before .before .before .args .t .now) headSize (c .before .before .before .before .before .before .before .before .before .before .body-count .result))) (omega arith) in
+    let l = ap length (c .before .before .before .before .put-moved .ensures) ∙ length-put (c .before .before .before .before .before .before .before .before .before .before .before .before .before .before .before .before .before .before .args .report .now) 0 (eachBytes bytes2 (movedIn (c .before .before .before .before .before .before .before .before .before .before .before .before .before .before .before .before .before .before .args .t .now) headSize (c .before .before .before .before .before .before .before .before .before .before .body-count .result))) (omega arith) in
     (g, e, omega arith)
 
 repair-all-requires : tie.Need-repair-all-requires

@@ -4,7 +4,7 @@ use native.Mathlib.Omega.{arith}
 use borrow.Author.Tests.{not-true, not-false}
 use Rattle.record.specs.Slot.{recordAt}
 use Rattle.valid.specs.Valid.{executed}
-use Rattle.valid.specs.Inner.{told}
+use Rattle.valid.specs.Inner.{judgedBy}
 use Rattle.valid.proofs.Lines.{broken, ranges-not, lines-is, lines-most, past-not, past-ok, past-sum}
 use borrow.Author.Needs.{needs}
 use Rattle.valid.proofs.judge_at.Statement.{statement}
@@ -35,7 +35,7 @@ lines-there-requires : tie.Need-lines-there-requires
 lines-there-requires c κs = (omega arith, lines-most (c .before .before .before .before .before .before .before .args .t .now) (c .before .before .before .before .before .before .before .args .at) (c .before .before .wide .ensures .0) (sym (c .before .before .before .before .before .ranges-ok .ensures) ∙ not-false _ (c .before .before .before .before .if1 .left)), lines-is (c .before .before .before .before .before .before .before .args .t .now) (c .before .before .before .before .before .before .before .args .at) (c .before .before .wide .ensures .0) (sym (c .before .before .before .before .before .ranges-ok .ensures) ∙ not-false _ (c .before .before .before .before .if1 .left)), past-sum (c .before .before .before .before .before .before .before .args .t .now) (c .before .before .before .before .before .before .before .args .at) (c .before .before .wide .ensures .0) (sym (c .before .before .before .before .before .ranges-ok .ensures) ∙ not-false _ (c .before .before .before .before .if1 .left)) (sym (c .before .lines-absent .ensures) ∙ not-false _ (c .if2 .left)))
 
 returns-3 : tie.Need-returns-3
-returns-3 c = c .lines-there .ensures ∙ ap (λ (b : Bool). told b (executed (recordAt (c .before .before .before .before .before .before .before .before .args .t .now) (c .before .before .before .before .before .before .before .before .args .at)))) (sym (past-ok (c .before .before .before .before .before .before .before .before .args .t .now) (c .before .before .before .before .before .before .before .before .args .at) (c .before .before .before .wide .ensures .0) (sym (c .before .before .before .before .before .before .ranges-ok .ensures) ∙ not-false _ (c .before .before .before .before .before .if1 .left)) (sym (c .before .before .lines-absent .ensures) ∙ not-false _ (c .before .if2 .left))))
+returns-3 c = c .lines-there .ensures ∙ ap (λ (b : Bool). judgedBy b (executed (recordAt (c .before .before .before .before .before .before .before .before .args .t .now) (c .before .before .before .before .before .before .before .before .args .at)))) (sym (past-ok (c .before .before .before .before .before .before .before .before .args .t .now) (c .before .before .before .before .before .before .before .before .args .at) (c .before .before .before .wide .ensures .0) (sym (c .before .before .before .before .before .before .ranges-ok .ensures) ∙ not-false _ (c .before .before .before .before .before .if1 .left)) (sym (c .before .before .lines-absent .ensures) ∙ not-false _ (c .before .if2 .left))))
 
 pub judge-at-spec : {M : Type 1} → statement M
 judge-at-spec =

@@ -8,7 +8,7 @@ use lib.ListN.{getD, drop}
 use borrow.Author.Tests.{not-true, not-false}
 use Rattle.record.specs.Slot.{recordAt}
 use Rattle.valid.specs.Valid.{executedIn, executed}
-use Rattle.valid.specs.Inner.{told}
+use Rattle.valid.specs.Inner.{judgedBy}
 use Rattle.valid.proofs.Laws.{executed-sum}
 use Rattle.valid.proofs.Lines.{leftOk, left-all, there-stop, over-stop, there-go, there-cents, there-done, lines-told}
 use Rattle.valid.proofs.lines_there.Statement.{statement}
@@ -102,7 +102,7 @@ returns-3 c =
     let w = ap (λ (j : ℕ). executedIn (drop j (r .states)) (drop j (r .amounts))) k in
     let v : c .before .before .loop .cents ≡ executed r = omega arith in
     let b = sym (left-all r (c .before .before .before .before .before .before .args .lines)) ∙ c .before .before .loop .inv .3 ∙ there-done r (c .before .before .before .before .before .before .args .lines) (c .before .before .loop .k) (c .before .before .loop .rest) (omega arith) (omega arith) q in
-    c .told-by .ensures ∙ (λ i. told (sym b i) (v i))
+    c .told-by .ensures ∙ (λ i. judgedBy (sym b i) (v i))
 
 pub lines-there-spec : {M : Type 1} → statement M
 lines-there-spec =
