@@ -28,8 +28,8 @@ use Rattle.digits.specs.Digits.{digitsAfter, digits}
 use Rattle.record.specs.Slot.{recordAt, restZero, flat8, recordBytes, keyIs}
 use Rattle.valid.specs.Valid.{lineThere, lineAbsent, lineOk, allFrom, sum, rangesOk, recordOk, executedIn}
 use Rattle.slots.specs.Slots.{usedAt, slotsAt, findIn, distinct}
-use Rattle.body.specs.Body.{slotOk, slotsOk, bodyOk, centsOf}
-use Rattle.entries.specs.Entry.{keptBytes, slotsFrom, codeAt, slotsOf, placeOf, formOk, formsOk, codesFrom, findCode, distinctCodes}
+use Rattle.body.specs.Body.{slotOk, slotsOk, bodyOk, centsOf, allLater}
+use Rattle.entries.specs.Entry.{keptBytes, slotsFrom, codeAt, slotsOf, placeOf, closedOf, formOk, formsOk, codesFrom, findCode, distinctCodes}
 use Rattle.request.specs.Request.{asked, needed, bodiesAskedOk, requestOk}
 use Rattle.opening.specs.declared.Opened.the-variants.{Open}
 use Rattle.contents.specs.Contents.{headBytes, entryBytes, entriesBytes}
@@ -91,7 +91,7 @@ pub record Facts : Type 0 where
   pub opens : openOf (requestOf 4) 880 ≡ Open
 
 pub facts : Facts
-unfolding isLetter isDigit isAlnum all startsWith hasAt textIs be2 be4 be8 put leap monthLength isDate zeros digitsAfter digits recordAt restZero flat8 recordBytes keyIs lineThere lineAbsent lineOk allFrom sum rangesOk recordOk usedAt slotsAt findIn distinct slotOk slotsOk bodyOk codeAt slotsOf placeOf formOk formsOk codesFrom findCode distinctCodes headOk entryOk layoutOk agrees bodyHolds bodiesOk validAs centsOf executedIn keptBytes slotsFrom asked needed bodiesAskedOk requestOk headBytes entryBytes entriesBytes opened openOf numberedFrom sumOf lineCode amountsOf anyExecuted situationIn situationOf sameList sameOrder placed stepped judgeOrder written lineMoves noticeIn noticeAt judgeNotice orderComes orderStored outcomeBytes allLeave allOutcomes allAccepted allSteps stepsOf noticeComes addressed noticeBy targetCode daysServed closing closesOn weekend fixedClosing marchDay easter sundayAfter fullMoon paschal weekday monthOf lengthAt bodyTotals totalsOf dayNumber monthStart
+unfolding isLetter isDigit isAlnum all startsWith hasAt textIs be2 be4 be8 put leap monthLength isDate zeros digitsAfter digits recordAt restZero flat8 recordBytes keyIs lineThere lineAbsent lineOk allFrom sum rangesOk recordOk usedAt slotsAt findIn distinct slotOk slotsOk bodyOk codeAt slotsOf placeOf closedOf formOk formsOk codesFrom findCode distinctCodes headOk entryOk layoutOk agrees bodyHolds bodiesOk validAs centsOf allLater executedIn keptBytes slotsFrom asked needed bodiesAskedOk requestOk headBytes entryBytes entriesBytes opened openOf numberedFrom sumOf lineCode amountsOf anyExecuted situationIn situationOf sameList sameOrder placed stepped judgeOrder written lineMoves noticeIn noticeAt judgeNotice orderComes orderStored outcomeBytes allLeave allOutcomes allAccepted allSteps stepsOf noticeComes addressed noticeBy targetCode daysServed closing closesOn weekend fixedClosing marchDay easter sundayAfter fullMoon paschal weekday monthOf lengthAt bodyTotals totalsOf dayNumber monthStart
 facts = record {
   valid = refl;
   valid-first = refl;
