@@ -5,12 +5,11 @@ use mathlib.Core.List.{List, [], _∷_, _++_}
 use mathlib.Core.Path.{_≡_, refl, sym, ap, _∙_}
 use native.Mathlib.Omega.{arith}
 use native.Mathlib.Numerals.{add-one}
-use lib.ListN.{length, getD, take, drop, set, replicate, length-replicate, drop-of-length-le}
-use lib.Seq.{take-suc-set, take-all, drop-cons, length-take-le}
+use lib.ListN.{length, getD, take, drop, set, drop-of-length-le}
+use lib.Seq.{take-suc-set, take-all, drop-cons}
 use lib.Dec.{eqb, ltb}
 use borrow.Author.Tests.{eq-eqb, ne-eqb, lt-ltb, le-ltb}
 use Rattle.packing.specs.Packing.{flag}
-use Rattle.bounds.specs.Bounds.{maxSlots}
 use Rattle.words.specs.Numbers.{be2}
 use Rattle.record.specs.declared.Record.{Record}
 use Rattle.record.specs.Slot.{slotSize, statesOffset, eightAt, recordAt}
@@ -120,7 +119,3 @@ pub flags-all : (t : List ℕ) (base year : ℕ) (fs : List ℕ) (i n : ℕ) →
 flags-all t base year fs i n q a b e =
     let z : i ≡ n = omega arith in
     sym (take-all i fs (omega arith)) ∙ e ∙ ap (λ (m : ℕ). staysAt t base m year) z
-
--- the room for a body's flags
-pub room : (n : ℕ) → n ≤ maxSlots → length (take (n - 0) (drop 0 (replicate {A = ℕ} 512 0))) ≡ n
-room n h = length-take-le (n - 0) (replicate 512 0) (omega (arith, length-replicate {A = ℕ} 512 0)) ∙ omega arith

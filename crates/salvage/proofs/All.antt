@@ -27,16 +27,12 @@ use Rattle.table.proofs.Kept.{Contents, Rest, rest-agree, Own, number, bank, co
 use Rattle.service.specs.Service.{settled}
 use Rattle.service.proofs.Totals.{agrees-is, is-agrees, kept-same, put-paid, put-collected}
 use Rattle.packing.specs.Packing.{packed}
-use Rattle.packing.proofs.Packed.{packed-long, packed-before, packed-after}
+use Rattle.packing.proofs.Packed.{joined as through, packed-long, packed-before, packed-after}
 use Rattle.keeping.specs.Keeping.{keepsAt, keptAt}
 use Rattle.keeping.proofs.Repaired.{keeps-length, repaired-ok, repaired-records, repaired-later, kept-agree}
 use Rattle.salvage.specs.Salvage.{keepsOf, keptOf, bodyRepaired, repairedFrom, repaired}
 use Rattle.salvage.specs.Repaired.{Repairs}
 use Rattle.salvage.specs.Inner.{Fits}
-
--- the same bytes, one table after another
-through : {r s t : List ℕ} {p m : ℕ} → Agree r p s p m → Agree s p t p m → Agree r p t p m
-through a b = record { same = λ i l. a .same i l ∙ b .same i l }
 
 itself : (t : List ℕ) (p m : ℕ) → Agree t p t p m
 itself t p m = record { same = λ i l. refl }

@@ -1,7 +1,7 @@
 -- WHAT A CLOSE WRITES: its body's own bytes, as a valid table has them; and what it leaves of the table.
 use Prim.Native.Nat.{ℕ, _+_, _*_, _≤_, _<_}
 use mathlib.Core.Path.{_≡_, refl, sym, ap, _∙_}
-use mathlib.Core.Bool.{Bool, true, false, _||_}
+use mathlib.Core.Bool.{true}
 use mathlib.Core.List.{List}
 use native.Mathlib.Omega.{arith}
 use lib.ListN.{length}
@@ -20,15 +20,12 @@ use Rattle.year_end.specs.YearEnd.{closeOf, bodyClosed, closeStored}
 use Rattle.year_end.specs.Inner.{Fits}
 use Rattle.year_end.proofs.Laws.{May, closed-when}
 use Rattle.year_end.proofs.Closed.{closed-long, closed-before, closed-between, closed-after, closed-ok, closed-agrees, closed-year, closed-later}
+use Rattle.theorems.proofs.Codes.{or-true}
 use Rattle.theorems.proofs.Good.{Good, base, size, Wrote, kept-wrote, own-is, open-is, served, tail-in}
 
 -- a year of 2000 to 2099
 year-bounds : (year : ℕ) → isYear year ≡ true → (2000 ≤ year) × (year ≤ 2099)
 year-bounds year e = let w = both (leb 2000 year) (leb year 2099) e in (leb-true 2000 year (w .0), leb-true year 2099 (w .1))
-
-or-true : (b : Bool) {c : Bool} → c ≡ true → b || c ≡ true
-or-true true e = refl
-or-true false e = e
 
 module _ (t₀ : List ℕ) (r : tableOk t₀ ≡ true) (t : List ℕ) (g : Good t₀ t) (b : ℕ) (l : b < bodies t₀) where
   pub fits : Fits t (entryOf b) (base t₀ b) (size t₀ b)

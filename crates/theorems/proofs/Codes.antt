@@ -157,7 +157,7 @@ never-zero (Refused c) h e = absurd (let z : _≡_ {A = Bool} false true = sym (
     no : _≡_ {A = Bool} false true → ⊥
     no z = let y : _≡_ {A = ℕ} 0 1 = cc in omega arith
 
-or-true : (b : Bool) {c : Bool} → c ≡ true → b || c ≡ true
+pub or-true : (b : Bool) {c : Bool} → c ≡ true → b || c ≡ true
 or-true true e = refl
 or-true false e = e
 

@@ -20,16 +20,12 @@ use Rattle.entries.specs.Entry.{entrySize, entryFixed, closedPlace, entryRest, 
 use Rattle.table.specs.Table.{agrees}
 use Rattle.service.specs.Service.{settled}
 use Rattle.service.proofs.Totals.{is-agrees, kept-same, put-paid, put-collected}
-use Rattle.packing.proofs.Packed.{packed-before, packed-after}
+use Rattle.packing.proofs.Packed.{joined, packed-before, packed-after}
 use Rattle.closing.specs.Closing.{earlierRemains, staying, staysAt, yearRemoved}
 use Rattle.closing.proofs.Removed.{removed-records, removed-ok, length-open, staying-later}
 use Rattle.year_end.specs.YearEnd.{bodyClosed}
 use Rattle.year_end.specs.Inner.{Fits}
 use Rattle.year_end.proofs.Laws.{removed-long}
-
--- the same bytes, one table after another
-through : {r s t : List ℕ} {p m : ℕ} → Agree r p s p m → Agree s p t p m → Agree r p t p m
-through a b = record { same = λ i l. a .same i l ∙ b .same i l }
 
 module _ (t : List ℕ) (e base n year : ℕ) (F : Fits t e base n) where
   abbrev mid : List ℕ
@@ -76,19 +72,19 @@ module _ (t : List ℕ) (e base n year : ℕ) (F : Fits t e base n) where
 
   pub closed-before : (p m : ℕ) → p + m ≤ e + entryFixed → Agree (bodyClosed t e base n year) p t p m
   closed-before p m h =
-      through (year-before p m (omega arith))
-      (through (agree-before mid (e + entryFixed) sums p (omega (arith, long, F .entry, F .inside)) m h) (mid-before p m (omega (arith, F .entry))))
+      joined (year-before p m (omega arith))
+      (joined (agree-before mid (e + entryFixed) sums p (omega (arith, long, F .entry, F .inside)) m h) (mid-before p m (omega (arith, F .entry))))
 
   past-year : (p m : ℕ) → e + entryRest ≤ p → Agree (bodyClosed t e base n year) p mid p m
   past-year p m h =
-      through (rw is (agree-after set (e + closedPlace) (bytes2 year) p (omega (arith, set-long, F .entry, F .inside)) m (omega arith)))
+      joined (rw is (agree-after set (e + closedPlace) (bytes2 year) p (omega (arith, set-long, F .entry, F .inside)) m (omega arith)))
       (agree-after mid (e + entryFixed) sums p (omega (arith, long, F .entry, F .inside)) m (omega (arith, sixteen)))
 
   pub closed-between : (p m : ℕ) → e + entryRest ≤ p → p + m ≤ base → Agree (bodyClosed t e base n year) p t p m
-  closed-between p m h l = through (past-year p m h) (mid-before p m l)
+  closed-between p m h l = joined (past-year p m h) (mid-before p m l)
 
   pub closed-after : (p m : ℕ) → base + slotSize * n ≤ p → Agree (bodyClosed t e base n year) p t p m
-  closed-after p m h = through (past-year p m (omega (arith, F .entry))) (mid-after p m h)
+  closed-after p m h = joined (past-year p m (omega (arith, F .entry))) (mid-after p m h)
 
   -- the body
   slots-are : Agree (bodyClosed t e base n year) base mid base (slotSize * n)

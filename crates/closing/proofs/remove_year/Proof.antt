@@ -4,7 +4,7 @@ use native.Mathlib.Omega.{arith}
 use Rattle.slots.specs.Slots.{recordsAt}
 use Rattle.body.specs.Body.{bodyOk}
 use Rattle.closing.specs.Closing.{removed, yearRemoved}
-use Rattle.closing.proofs.Laws.{room}
+use Rattle.packing.proofs.Laws.{room}
 use borrow.Author.Needs.{needs}
 use Rattle.closing.proofs.remove_year.Statement.{statement}
 use Rattle.closing.proofs.remove_year.Tie as tie

@@ -3,7 +3,7 @@ use Prim.Native.Nat.{ℕ}
 use lib.ListN.{length}
 use native.Mathlib.Omega.{arith}
 use Rattle.keeping.specs.Keeping.{keepsAt, blankedFrom}
-use Rattle.mending.proofs.Laws.{room}
+use Rattle.packing.proofs.Laws.{room}
 use borrow.Author.Needs.{needs}
 use Rattle.mending.proofs.blanked_in.Statement.{statement}
 use Rattle.mending.proofs.blanked_in.Tie as tie

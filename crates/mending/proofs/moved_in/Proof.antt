@@ -2,7 +2,7 @@ use mathlib.Core.Path.{ap, _∙_}
 use Prim.Native.Nat.{ℕ}
 use native.Mathlib.Omega.{arith}
 use Rattle.keeping.specs.Keeping.{keepsAt, moved}
-use Rattle.mending.proofs.Laws.{room}
+use Rattle.packing.proofs.Laws.{room}
 use borrow.Author.Needs.{needs}
 use Rattle.mending.proofs.moved_in.Statement.{statement}
 use Rattle.mending.proofs.moved_in.Tie as tie

@@ -4,7 +4,7 @@ use lib.ListN.{length}
 use native.Mathlib.Omega.{arith}
 use Rattle.words.specs.Numbers.{put, bytes4}
 use Rattle.keeping.specs.Keeping.{keepsAt, blankedFrom, eachBytes}
-use Rattle.mending.proofs.Laws.{room}
+use Rattle.packing.proofs.Laws.{room}
 use borrow.Author.Needs.{needs}
 use Rattle.mending.proofs.places_in.Statement.{statement}
 use Rattle.mending.proofs.places_in.Tie as tie

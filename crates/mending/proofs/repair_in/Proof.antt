@@ -3,7 +3,7 @@ use Prim.Native.Nat.{ℕ}
 use native.Mathlib.Omega.{arith}
 use Rattle.packing.specs.Packing.{packed}
 use Rattle.keeping.specs.Keeping.{keepsAt}
-use Rattle.mending.proofs.Laws.{room}
+use Rattle.packing.proofs.Laws.{room}
 use borrow.Author.Needs.{needs}
 use Rattle.mending.proofs.repair_in.Statement.{statement}
 use Rattle.mending.proofs.repair_in.Tie as tie
