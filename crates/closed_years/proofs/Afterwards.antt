@@ -9,7 +9,7 @@ use lib.ListN.{length}
 use lib.Dec.{eqb}
 use borrow.Author.Tests.{le-leb, eqb-true}
 use Rattle.scan.specs.Bytes.{textIs}
-use Rattle.bounds.specs.Bounds.{isYear}
+use Rattle.bounds.specs.Bounds.{isYear, maxFlow}
 use Rattle.ranges.specs.declared.Found.{Found}
 use Rattle.ranges.specs.declared.Found.the-variants.{At, Nothing}
 use Rattle.calendar.specs.declared.Date.{Date}
@@ -42,7 +42,7 @@ use Rattle.editions.specs.Editions.{editionOf}
 use Rattle.flow.specs.declared.Verdict.the-variants.{Stands}
 use Rattle.flow.specs.Flow.{verdictOf, headerOf}
 use Rattle.desk.specs.declared.FlowAnswer.the-variants.{ClosedYear}
-use Rattle.desk.specs.Desk.{refused, maxFlow, flowReads, flowCode}
+use Rattle.desk.specs.Desk.{refused, flowReads, flowCode}
 use Rattle.desk.proofs.Refusals.{refused-keeps}
 use Rattle.salvage.specs.Salvage.{keptOf, repaired}
 use Rattle.salvage.proofs.All.{repairs}

@@ -12,7 +12,7 @@ use Rattle.scan.proofs.Laws.{both}
 use Rattle.record.specs.declared.Record.{Record}
 use Rattle.record.specs.Slot.{acquiredState, waitingLine}
 use Rattle.body.specs.Body.{allLater}
-use Rattle.closing.specs.Closing.{any, keep, ofYear, earlier, earlierRemains, anyWaiting, waits, lineWaits, staying}
+use Rattle.closing.specs.Closing.{any, keep, ofYear, ofEarlier, earlierRemains, anyWaiting, waits, lineWaits, staying}
 use Rattle.packing.proofs.Packed.{clash}
 use Rattle.closed_years.specs.Leaves.{Parted, none, goes, stays}
 
@@ -41,10 +41,10 @@ module _ (p : Record → Bool) where
 -- "a record of an earlier year remains"
 module _ (year : ℕ) (rs : List Record) where
   pub earlier-is : earlierRemains year rs ≡ true → (r : Record) × List·Memᴰ r rs × (r .esercizio < year)
-  earlier-is e = let w = any-is (earlier year) rs e in (w .0, w .1, ltb-true _ _ (w .2))
+  earlier-is e = let w = any-is (ofEarlier year) rs e in (w .0, w .1, ltb-true _ _ (w .2))
 
   pub is-earlier : (r : Record) → List·Memᴰ r rs → r .esercizio < year → earlierRemains year rs ≡ true
-  is-earlier r m l = is-any (earlier year) rs r m (lt-ltb (r .esercizio) year l)
+  is-earlier r m l = is-any (ofEarlier year) rs r m (lt-ltb (r .esercizio) year l)
 
 -- "has a waiting line"
 waiting-is : (states : List ℕ) → anyWaiting states ≡ true → (k : ℕ) × (getD states k 0 ≡ waitingLine)

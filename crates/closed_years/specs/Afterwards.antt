@@ -5,6 +5,7 @@ use mathlib.Core.Path.{_≡_}
 use mathlib.Core.Bool.{Bool, true}
 use mathlib.Core.List.{List, _∷_, _++_, List·Memᴰ}
 use lib.ListN.{length}
+use Rattle.bounds.specs.Bounds.{maxFlow}
 use Rattle.scan.specs.Bytes.{textIs}
 use Rattle.ranges.specs.declared.Found.the-variants.{At}
 use Rattle.calendar.specs.declared.Date.{Date}
@@ -28,7 +29,7 @@ use Rattle.journal.specs.declared.Movement.{Movement}
 use Rattle.journal.specs.Journal.{movementsIn, wholeMovements, executedLines, JournalPromise}
 use Rattle.journal.specs.Told.{NoneOf, Right}
 use Rattle.desk.specs.declared.FlowAnswer.{FlowAnswer}
-use Rattle.desk.specs.Desk.{maxFlow, FlowPromise, flowCode}
+use Rattle.desk.specs.Desk.{FlowPromise, flowCode}
 use Rattle.salvage.specs.Salvage.{keptOf, blanked}
 use Rattle.year_end.specs.declared.CloseAnswer.{CloseAnswer}
 use Rattle.year_end.specs.YearEnd.{ClosePromise, closeCode}
