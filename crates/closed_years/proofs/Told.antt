@@ -7,6 +7,7 @@ use mathlib.Core.Logic.{_⊎_, inl, inr}
 use native.Mathlib.Omega.{arith}
 use lib.Dec.{eqb, leb}
 use borrow.Author.Tests.{le-leb, leb-true, leb-false, eqb-true, eqb-false}
+use Rattle.journal.specs.Told.{Exactly}
 use Rattle.scan.proofs.Laws.{both}
 use Rattle.bounds.specs.Bounds.{isYear}
 use Rattle.ranges.specs.declared.Found.{Found}
@@ -19,7 +20,7 @@ use Rattle.closing.specs.Closing.{earlierRemains, lineWaits, removed}
 use Rattle.year_end.specs.declared.CloseAnswer.{CloseAnswer}
 use Rattle.year_end.specs.declared.CloseAnswer.the-variants.{NotAYear, AlreadyClosed, EarlierRemains, LineWaits, Closed}
 use Rattle.year_end.specs.YearEnd.{closeOf, ClosePromise, closeCode}
-use Rattle.closed_years.specs.Told.{CloseApplies, no-year, not-later, earlier, waiting, closeTurn, Exactly, None, FirstOf, CloseTold, OneCode}
+use Rattle.closed_years.specs.Told.{CloseApplies, no-year, not-later, earlier, waiting, closeTurn, None, FirstOf, CloseTold, OneCode}
 use Rattle.closed_years.proofs.Records.{earlier-is, is-earlier, line-is, is-line}
 use Rattle.closed_years.proofs.Answers.{on-invalid, on-unknown, on-body}
 

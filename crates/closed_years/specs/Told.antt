@@ -6,6 +6,7 @@ use mathlib.Core.Bool.{true, false, cond}
 use mathlib.Core.List.{List, List·Memᴰ}
 use lib.ListN.{getD}
 use lib.Dec.{eqb}
+use Rattle.journal.specs.Told.{Exactly}
 use Rattle.ranges.specs.declared.Found.the-variants.{At, Nothing}
 use Rattle.record.specs.declared.Record.{Record}
 use Rattle.record.specs.Slot.{acquiredState, waitingLine}
@@ -28,9 +29,6 @@ pub data CloseApplies (last year : ℕ) (rs : List Record) : ℕ → Type 0 wher
 -- the turn of each: "37 .., 36 .., 38 .., 39"
 abbrev pub closeTurn : ℕ → ℕ
 closeTurn c = cond (eqb c 37) 1 (cond (eqb c 36) 2 (cond (eqb c 38) 3 4))
-
-abbrev pub Exactly : Type 0 → Type 0 → Type 0
-Exactly a b = (a → b) × (b → a)
 
 -- none applies; one applies, and none that applies has an earlier turn
 abbrev pub None : (ℕ → Type 0) → Type 0
