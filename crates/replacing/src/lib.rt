@@ -21,7 +21,7 @@ pub struct Naming {
 }
 
 // By line j of an order, counted from 0.
-fn naming_at(o: Order, j: usize) -> Naming
+pub fn naming_at(o: Order, j: usize) -> Naming
     requires { ⌜ (j < length (linesThere (o .lines))) × (j < 8) ⌝ }
     ensures { λ m. ⌜ m ≡ namingAt (o .kind) (linesThere (o .lines)) j ⌝ }
 {
@@ -42,7 +42,7 @@ fn naming_at(o: Order, j: usize) -> Naming
 }
 
 // What a line comes to of the record that is named.
-fn named_in(r: Record, line: u64, amount: u64) -> u8
+pub fn named_in(r: Record, line: u64, amount: u64) -> u8
     ensures { λ c. ⌜ c ≡ lineNamedIn r line amount ⌝ }
 {
     let states = r.states;

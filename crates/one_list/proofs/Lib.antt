@@ -1,0 +1,2 @@
+pub mod OneList
+pub mod Same
