@@ -168,43 +168,44 @@ uint64_t hondivole_open(const uint8_t *request, size_t request_len, uint8_t *tab
 /*
  * Converts a table 1, of entries of 32 bytes and the number 1 in its head, into a table 2, in a second buffer of exactly the length that
  * HONDIVOLE_CONVERTED_BYTES says. It answers 0 and fills the whole second buffer, whatever it held, with the same bank, bodies and records,
- * each entry keeping the cents paid and collected of its body's records and no closed year; or 1 when the old table isn't a valid table 1, or
- * 10 when the second buffer's length isn't right. It never changes the old table, and no byte with 1 or 10. Every other call takes tables 2 alone.
+ * each entry keeping the cents paid and collected of its body's records and no closed year; or 1 when the old table isn't a valid table 1,
+ * or 10 when the second buffer's length isn't right. It never changes the old table, and no byte with 1 or 10. Every other call takes tables
+ * 2 alone.
  */
 uint64_t hondivole_convert(const uint8_t *old, size_t old_len, uint8_t *table, size_t table_len);
 
 /*
- * Takes a body's flow of the edition of that number, 1 or 2; a body may mix editions. It answers 0 when the flow is taken: its orders are then served as written, each on the table the one before left;
- * *orders is how many it holds (1 to 64) and *accepted how many of them got outcome code 0; *place and *cause are 0. *steps is how many
- * slots the searches for its orders looked at, together: each up to and including the slot found, or all the body's used slots when there is
- * none, and none for an order answered 12 or 13; at most *orders times the body's slots. A SOSTITUZIONE is a new order whose lines each
- * name an executed line of the same kind and body, of equal amount: that one becomes replaced, for good, and the new one is executed at once,
- * so that no cash moves. Each order has written
- * 16 outcome bytes: 0 kind, 1 operation (1 INSERIMENTO, 2 VARIAZIONE, 3 ANNULLO, 4 SOSTITUZIONE), 2 code (0, 12 to 19, 24 to 26), 3 lines, 4-7
- * number, 8-15 total, numbers with the highest byte first. Otherwise it answers the first code of 1, 23, 2 to 7, 36 (the body has closed the flow's esercizio, or a later year) and 8 that applies, with *orders, *accepted
- * and *steps 0, and *place and *cause 0 but for code 5, where *place is the byte of `<` of the first element whose field breaks, counted
- * from 0, and *cause what is wrong with that field, 1 to 4: hondivole_cause_text says it in words. It never changes table or outcomes with
- * a code other than 0, never changes the record of a refused order or of another body, and never writes outcome bytes past the last
- * order's.
+ * Takes a body's flow of the edition of that number, 1 or 2; a body may mix editions. It answers 0 when the flow is taken: its orders are
+ * then served as written, each on the table the one before left; *orders is how many it holds (1 to 64) and *accepted how many of them got
+ * outcome code 0; *place and *cause are 0. *steps is how many slots the searches for its orders looked at, together: each up to and
+ * including the slot found, or all the body's used slots when there is none, and none for an order answered 12 or 13; at most *orders times
+ * the body's slots. A SOSTITUZIONE is a new order whose lines each name an executed line of the same kind and body, of equal amount: that
+ * one becomes replaced, for good, and the new one is executed at once, so that no cash moves. Each order has written 16 outcome bytes: 0
+ * kind, 1 operation (1 INSERIMENTO, 2 VARIAZIONE, 3 ANNULLO, 4 SOSTITUZIONE), 2 code (0, 12 to 19, 24 to 26), 3 lines, 4-7 number, 8-15
+ * total, numbers with the highest byte first. Otherwise it answers the first code of 1, 23, 2 to 7, 36 (the body has closed the flow's
+ * esercizio, or a later year) and 8 that applies, with *orders, *accepted and *steps 0, and *place and *cause 0 but for code 5, where *place
+ * is the byte of `<` of the first element whose field breaks, counted from 0, and *cause what is wrong with that field, 1 to 4:
+ * hondivole_cause_text says it in words. It never changes table or outcomes with a code other than 0, never changes the record of a refused
+ * order or of another body, and never writes outcome bytes past the last order's.
  */
 uint64_t hondivole_flow(uint8_t *table, size_t table_len, uint64_t edition, const uint8_t *flow, size_t flow_len, uint8_t *outcomes,
                         size_t outcomes_len, uint64_t *place, uint64_t *orders, uint64_t *accepted, uint64_t *cause, uint64_t *steps);
 
 /*
- * Takes the bank's notice that a line is executed. It names the body by its code, the order by kind (1 mandato, 2 reversale), esercizio
- * and number, and the line, counted from 1; year, month and day are its date, which has to be a TARGET day. It answers 0 and sets the line
- * executed, *cents being the line's amount; or the first of 1 (table not valid), 27 (no date, or outside 2002 to 2099), 28 (closing day),
- * 7 (no such body), 16 (no such order), 17 (annulled), 20 (no such line) and 21 (already executed, or replaced) that applies, *cents being 0. It changes
- * the line's state and the cents that the body's entry keeps, and no other byte, and none on a refusal.
+ * Takes the bank's notice that a line is executed. It names the body by its code, the order by kind (1 mandato, 2 reversale), esercizio and
+ * number, and the line, counted from 1; year, month and day are its date, which has to be a TARGET day. It answers 0 and sets the line
+ * executed, *cents being the line's amount; or the first of 1 (table not valid), 27 (no date, or outside 2002 to 2099), 28 (closing day), 7
+ * (no such body), 16 (no such order), 17 (annulled), 20 (no such line) and 21 (already executed, or replaced) that applies, *cents being 0.
+ * It changes the line's state and the cents that the body's entry keeps, and no other byte, and none on a refusal.
  */
 uint64_t hondivole_execute(uint8_t *table, size_t table_len, const uint8_t *body, size_t body_len, uint64_t kind, uint64_t esercizio,
                            uint64_t number, uint64_t line, uint64_t year, uint64_t month, uint64_t day, uint64_t *cents);
 
 /*
- * Takes the bank's notice that an executed line is reversed (storno). It names a line and has a date as hondivole_execute does. It answers
- * 0 and sets the line waiting again, so that it may be executed again, *cents being the line's amount; or the first of 1, 27, 28, 7, 16,
- * 17, 20 and 22 (not executed, or replaced) that applies, *cents being 0. It changes the line's state and the cents that the body's entry keeps, and no
- * other byte, and none on a refusal.
+ * Takes the bank's notice that an executed line is reversed (storno). It names a line and has a date as hondivole_execute does. It answers 0
+ * and sets the line waiting again, so that it may be executed again, *cents being the line's amount; or the first of 1, 27, 28, 7, 16, 17,
+ * 20 and 22 (not executed, or replaced) that applies, *cents being 0. It changes the line's state and the cents that the body's entry keeps,
+ * and no other byte, and none on a refusal.
  */
 uint64_t hondivole_reverse(uint8_t *table, size_t table_len, const uint8_t *body, size_t body_len, uint64_t kind, uint64_t esercizio,
                            uint64_t number, uint64_t line, uint64_t year, uint64_t month, uint64_t day, uint64_t *cents);
@@ -226,9 +227,9 @@ uint64_t hondivole_days_between(uint64_t year, uint64_t month, uint64_t day, uin
 
 /*
  * Reports a body's totals. It answers 0 with *used, the body's used slots (an annulled order keeps its slot), *paid and *collected, the
- * cents of executed lines of its mandati and of its reversali, replaced ones not counted, and *balance, collected less paid, which may be below zero; they speak of the orders that are in the table, so that
- * those of a year fall away when it is closed; or 1 (table
- * not valid) or 7 (no such body), all four being 0. It never changes the table.
+ * cents of executed lines of its mandati and of its reversali, replaced ones not counted, and *balance, collected less paid, which may be
+ * below zero; they speak of the orders that are in the table, so that those of a year fall away when it is closed; or 1 (table not valid) or
+ * 7 (no such body), all four being 0. It never changes the table.
  */
 uint64_t hondivole_totals(const uint8_t *table, size_t table_len, const uint8_t *body, size_t body_len, uint64_t *used, uint64_t *paid,
                           uint64_t *collected, int64_t *balance);
@@ -236,12 +237,12 @@ uint64_t hondivole_totals(const uint8_t *table, size_t table_len, const uint8_t 
 /*
  * Checks the movements of the bank's cash journal (giornale di cassa) against a body's executed lines. A movement has 16 bytes: kind, line,
  * esercizio in two, number in four, cents in eight, numbers with the highest byte first. It answers 0 exactly when every executed line of
- * the body is listed once, with its cents, and nothing else is listed (no replaced line either), in any order; or the first of 1 (table not valid), 7 (no such body),
- * 29 (over 4,096 or not whole movements), then movement by movement 30 (no such executed line), 31 (other cents) and 32 (listed before),
- * the first bad movement deciding, and then 33 (an executed line is missing). It never changes the table.
- * Its cost is close to linear in slots and movements: 4,096 movements of a full body of 512 orders take under three times what the
- * check that the table is valid takes, that check among it, in any order. Only where many orders' keys share their places in its index does
- * a movement cost a search of the body's slots.
+ * the body is listed once, with its cents, and nothing else is listed (no replaced line either), in any order; or the first of 1 (table not
+ * valid), 7 (no such body), 29 (over 4,096 or not whole movements), then movement by movement 30 (no such executed line), 31 (other cents)
+ * and 32 (listed before), the first bad movement deciding, and then 33 (an executed line is missing). It never changes the table. Its cost
+ * is close to linear in slots and movements: 4,096 movements of a full body of 512 orders take under three times what the check that the
+ * table is valid takes, that check among it, in any order. Only where many orders' keys share their places in its index does a movement cost
+ * a search of the body's slots.
  */
 uint64_t hondivole_journal(const uint8_t *table, size_t table_len, const uint8_t *body, size_t body_len, const uint8_t *movements,
                            size_t movements_len);
@@ -259,14 +260,14 @@ uint64_t hondivole_close(uint8_t *table, size_t table_len, const uint8_t *body, 
 
 /*
  * Repairs a table that every call answers with 1, as far as its head and entries are valid but for the cents that the entries keep. Of each
- * body's slots, in order, it keeps those whose record is valid by itself, is of a year later than the one that the body closed
- * last, and has a key (kind, esercizio, number) that hasn't been kept earlier in that body; it blanks the others, moves the kept ones up to the body's first slots in their order, and sets the kept cents anew.
- * It answers 0 with *blanked, how many slots were blanked; a slot that was all zero isn't blanked. The table is then valid, and a valid one
- * comes out the same. The report, whose bytes past it stay, says what was lost: first for each body, in the order of the entries, two bytes
- * with how many of its kept records stand in another slot now; then for each blanked slot, in the order of the table, four bytes with the
- * place in the table where it stood; numbers have the highest byte first. Or it answers 34 when the head or an entry isn't valid, or else 35
- * when the report is shorter than HONDIVOLE_REPORT_BYTES of the bodies and what would be blanked; *blanked is then 0, and neither table nor
- * report is changed. HONDIVOLE_MOST_REPORT_BYTES are enough for any table.
+ * body's slots, in order, it keeps those whose record is valid by itself, is of a year later than the one that the body closed last, and has
+ * a key (kind, esercizio, number) that hasn't been kept earlier in that body; it blanks the others, moves the kept ones up to the body's
+ * first slots in their order, and sets the kept cents anew. It answers 0 with *blanked, how many slots were blanked; a slot that was all
+ * zero isn't blanked. The table is then valid, and a valid one comes out the same. The report, whose bytes past it stay, says what was lost:
+ * first for each body, in the order of the entries, two bytes with how many of its kept records stand in another slot now; then for each
+ * blanked slot, in the order of the table, four bytes with the place in the table where it stood; numbers have the highest byte first. Or it
+ * answers 34 when the head or an entry isn't valid, or else 35 when the report is shorter than HONDIVOLE_REPORT_BYTES of the bodies and what
+ * would be blanked; *blanked is then 0, and neither table nor report is changed. HONDIVOLE_MOST_REPORT_BYTES are enough for any table.
  */
 uint64_t hondivole_salvage(uint8_t *table, size_t table_len, uint8_t *report, size_t report_len, uint64_t *blanked);
 
@@ -279,14 +280,14 @@ void hondivole_field_at(const uint8_t *flow, size_t flow_len, uint64_t place, ui
                         uint64_t *text_len);
 
 /*
- * Writes the outcome message ("messaggio di esito applicativo") of a flow and its outcome bytes; the edition is the flow's, and the message is
- * the same of both. The caller gives the time of the message's
- * creation and the time of outcome, each as YYYY-MM-DDThh:mm:ss and then Z or a sign and hh:mm to 23:59, and seven texts of 1 to 140 bytes,
- * which are written as given: a text's bytes are UTF-8, with & only as one of the five references. An empty ISTAT code is left out. All
- * reversali stand before all mandati. It answers 0, *length being the message's, at most HONDIVOLE_MOST_WRITTEN_BYTES; bytes of the buffer
- * past it stay. Or it answers the first that applies of 23 (no such edition); 2 to 5 for the flow, as hondivole_flow does; 41, when there are under 16 outcome
- * bytes per order, their kinds, operations, numbers, line counts or totals aren't this flow's, a code is none that an order can get, or a
- * caller's value has a wrong form; and 40, when the buffer is shorter than the message. *length is then 0, and no byte is changed.
+ * Writes the outcome message ("messaggio di esito applicativo") of a flow and its outcome bytes; the edition is the flow's, and the message
+ * is the same of both. The caller gives the time of the message's creation and the time of outcome, each as YYYY-MM-DDThh:mm:ss and then Z
+ * or a sign and hh:mm to 23:59, and seven texts of 1 to 140 bytes, which are written as given: a text's bytes are UTF-8, with & only as one
+ * of the five references. An empty ISTAT code is left out. All reversali stand before all mandati. It answers 0, *length being the
+ * message's, at most HONDIVOLE_MOST_WRITTEN_BYTES; bytes of the buffer past it stay. Or it answers the first that applies of 23 (no such
+ * edition); 2 to 5 for the flow, as hondivole_flow does; 41, when there are under 16 outcome bytes per order, their kinds, operations,
+ * numbers, line counts or totals aren't this flow's, a code is none that an order can get, or a caller's value has a wrong form; and 40,
+ * when the buffer is shorter than the message. *length is then 0, and no byte is changed.
  */
 uint64_t hondivole_message_write(uint64_t edition, const uint8_t *flow, size_t flow_len, const uint8_t *outcomes, size_t outcomes_len,
                                  const uint8_t *created, size_t created_len, const uint8_t *outcome, size_t outcome_len, const uint8_t *codice_ente,
@@ -297,14 +298,15 @@ uint64_t hondivole_message_write(uint64_t edition, const uint8_t *flow, size_t f
                                  size_t identificativo_flusso_BT_len, uint8_t *message, size_t message_len, uint64_t *length);
 
 /*
- * Reads an outcome message of at most 65,536 bytes, on whose root an Id may stand in edition 2. It answers 0, *entries being how many orders it speaks of (1 to 64), and fills 80 bytes
- * of values and 48 for each entry; bytes past them stay. Numbers have the highest byte first. The 80 are ten pairs of place and length, four
- * bytes each, of texts that stand in the message: codice_ABI_BT, the message's time, codice_ente, descrizione_ente, codice_istat_ente (both
- * 0 where there is none), codice_fiscale_ente, codice_tramite_ente, codice_tramite_BT, codice_ente_BT, identificativo_flusso_BT. Of each 48,
- * byte 0 is the kind, 1 the operation, 2 the code (0 when accepted), 4-5 esercizio, 8-11 number, 12-15 date (year in two, month, day),
- * 16-23 total in cents, 24-31 place and length of identificativo_flusso, 32-39 those of the time of outcome, the rest zero. Or it answers
- * the first that applies of 23 (no such edition), 2 (above 65,536 bytes), 3, 4, 5, as hondivole_flow does, with *place and *cause for 5; and 40, when there is no
- * room for the values. *entries is then 0, *place and *cause are 0 but for 5, and no byte is changed.
+ * Reads an outcome message of at most 65,536 bytes, on whose root an Id may stand in edition 2. It answers 0, *entries being how many orders
+ * it speaks of (1 to 64), and fills 80 bytes of values and 48 for each entry; bytes past them stay. Numbers have the highest byte first. The
+ * 80 are ten pairs of place and length, four bytes each, of texts that stand in the message: codice_ABI_BT, the message's time, codice_ente,
+ * descrizione_ente, codice_istat_ente (both 0 where there is none), codice_fiscale_ente, codice_tramite_ente, codice_tramite_BT,
+ * codice_ente_BT, identificativo_flusso_BT. Of each 48, byte 0 is the kind, 1 the operation, 2 the code (0 when accepted), 4-5 esercizio,
+ * 8-11 number, 12-15 date (year in two, month, day), 16-23 total in cents, 24-31 place and length of identificativo_flusso, 32-39 those of
+ * the time of outcome, the rest zero. Or it answers the first that applies of 23 (no such edition), 2 (above 65,536 bytes), 3, 4, 5, as
+ * hondivole_flow does, with *place and *cause for 5; and 40, when there is no room for the values. *entries is then 0, *place and *cause are
+ * 0 but for 5, and no byte is changed.
  */
 uint64_t hondivole_message_read(uint64_t edition, const uint8_t *message, size_t message_len, uint8_t *values, size_t values_len,
                                 uint64_t *entries, uint64_t *place, uint64_t *cause);
@@ -312,8 +314,8 @@ uint64_t hondivole_message_read(uint64_t edition, const uint8_t *message, size_t
 /*
  * Reads an outcome message and writes its values anew, as hondivole_message_write would: without white space, mark, declaration or elements
  * that were passed over. Reading what it wrote gives the same values, and what the writer wrote comes out byte for byte. It answers 0,
- * *length being the new message's; or the first that applies of 23 and 2 to 5, as hondivole_message_read does, and 40, when the buffer is shorter
- * than the new message. *length is then 0, and no byte is changed.
+ * *length being the new message's; or the first that applies of 23 and 2 to 5, as hondivole_message_read does, and 40, when the buffer is
+ * shorter than the new message. *length is then 0, and no byte is changed.
  */
 uint64_t hondivole_message_rewrite(uint64_t edition, const uint8_t *message, size_t message_len, uint8_t *again, size_t again_len,
                                    uint64_t *length);

@@ -431,7 +431,8 @@ mod tests {
         let [one, two, three, other] = [entry(1, 0, 1), entry(2, 1, 2), entry(3, 2, 3), entry(2, 1, 7)].map(|entry| entry.bytes());
         let whole = [&one[..], &two, &three].concat();
         // What stands there at first, what another process leaves there just before the table is looked at, and that table; then what has to count.
-        let cases: [(&[u8], &[u8], u64, &[u64]); 9] = [
+        type Case<'c> = (&'c [u8], &'c [u8], u64, &'c [u64]);
+        let cases: [Case; 9] = [
             (&whole, &whole, 3, &[1, 2, 3]),
             // The last entry's table isn't there yet.
             (&whole, &whole, 2, &[1, 2]),

@@ -13,8 +13,8 @@ use Rattle.dates.specs.Dates.{dataOf, clock, signs, dataOraWritten, dataOraWith
 use Rattle.names.specs.Names.{replacedAfter, charactersAfter, anagrafica}
 use Rattle.fields.specs.Fields.{fieldStands}
 use Rattle.tokens.specs.Tokens.{repeat, until, nameAt, tagEndAt, pieceAt, textAt, endTagAt, optionalAt}
-use Rattle.markup.specs.Markup.{elementBy, childBy, childrenUpTo, contentBy, elementAt, contentAt, rootAt, rootFrom, markupOf}
-use Rattle.children.specs.Child.{childAt, childrenUpTo as childrenChildrenBy, childrenFrom}
+use Rattle.markup.specs.Markup.{elementBy, childBy, childrenBy, contentBy, elementAt, contentAt, rootAt, rootFrom, markupOf}
+use Rattle.children.specs.Child.{childAt, childrenUpTo, childrenFrom}
 use Rattle.rows.specs.Kept.{keep, keptFrom}
 use Rattle.rows.specs.Replaces.{replaces, rowsFor}
 use Rattle.rows.specs.Table.{nameIs}
@@ -43,5 +43,5 @@ use Rattle.desk.specs.Desk.{flowReads}
 use Rattle.marked.specs.Marked.{allHold, marked}
 
 pub all-hold : allHold marked ≡ true
-unfolding isLetter isDigit isAlnum isNameByte isWhite allBytes run runEnd startsWith hasAt textIs isChar sized isTail charSize pastOr charAt be2 be4 be8 put leap monthLength isDate zeros isIdentifying codiceAbi identificativo codiceEnte tipoOperazione digitsAfter digits esercizio numero zeroInFront importo progressivo dataOf clock signs dataOraWritten dataOraWithin dataOra whichAt replacedAfter charactersAfter anagrafica fieldStands repeat until nameAt tagEndAt pieceAt textAt endTagAt optionalAt elementBy childBy childrenUpTo contentBy elementAt contentAt rootAt rootFrom markupOf childAt childrenChildrenBy childrenFrom keep keptFrom replaces rowsFor nameIs allKept rowsOf inOrder textOnly fitBy fitsAt fieldsBy fieldsAt firstBad those ordersTextIn inside namedOf namedIn lineOf linesOf eight linesIn orderOf ordersOf verdictBy recordAt restZero flat8 recordBytes keyIs lineThere lineAbsent lineOk allFrom sum rangesOk recordOk usedAt slotsAt findIn distinct slotOk slotsOk bodyOk codeAt slotsOf placeOf closedOf formOk codesFrom findCode distinctCodes headOk entryOk layoutOk agrees bodyHolds bodiesOk validAs centsOf allLater executedIn keptBytes slotsFrom asked needed headAsked entryBytes entriesBytes opened numberedFrom sumOf lineCode amountsOf anyExecuted situationIn situationOf placed stepped judgeOrder written lineMoves noticeIn noticeAt judgeNotice orderComes orderStored outcomeBytes allLeave allOutcomes noticeComes addressed noticeBy targetCode served closing closesOn weekend fixedClosing marchDay easter sundayAfter fullMoon paschal weekday dayNumber monthOf monthStart lengthAt flowReads
+unfolding isLetter isDigit isAlnum isNameByte isWhite allBytes run runEnd startsWith hasAt textIs isChar sized isTail charSize pastOr charAt be2 be4 be8 put leap monthLength isDate zeros isIdentifying codiceAbi identificativo codiceEnte tipoOperazione digitsAfter digits esercizio numero zeroInFront importo progressivo dataOf clock signs dataOraWritten dataOraWithin dataOra whichAt replacedAfter charactersAfter anagrafica fieldStands repeat until nameAt tagEndAt pieceAt textAt endTagAt optionalAt elementBy childBy childrenBy contentBy elementAt contentAt rootAt rootFrom markupOf childAt childrenUpTo childrenFrom keep keptFrom replaces rowsFor nameIs allKept rowsOf inOrder textOnly fitBy fitsAt fieldsBy fieldsAt firstBad those ordersTextIn inside namedOf namedIn lineOf linesOf eight linesIn orderOf ordersOf verdictBy recordAt restZero flat8 recordBytes keyIs lineThere lineAbsent lineOk allFrom sum rangesOk recordOk usedAt slotsAt findIn distinct slotOk slotsOk bodyOk codeAt slotsOf placeOf closedOf formOk codesFrom findCode distinctCodes headOk entryOk layoutOk agrees bodyHolds bodiesOk validAs centsOf allLater executedIn keptBytes slotsFrom asked needed headAsked entryBytes entriesBytes opened numberedFrom sumOf lineCode amountsOf anyExecuted situationIn situationOf placed stepped judgeOrder written lineMoves noticeIn noticeAt judgeNotice orderComes orderStored outcomeBytes allLeave allOutcomes noticeComes addressed noticeBy targetCode served closing closesOn weekend fixedClosing marchDay easter sundayAfter fullMoon paschal weekday dayNumber monthOf monthStart lengthAt flowReads
 all-hold = refl

@@ -24,12 +24,13 @@ use Rattle.flow.specs.declared.Verdict.{Verdict}
 use Rattle.flow.specs.declared.Verdict.the-variants.{MarkupBreaks, StructureBreaks, FieldBreaks, Stands}
 use Rattle.flow.specs.Flow.{verdictOf, headerOf, flowOrders}
 use Rattle.flow.proofs.Laws.{flow-stood}
-use Rattle.flow.proofs.Values.{OrderOk, Each, orders-ok, header-ok}
-use Rattle.rules.proofs.Kept.{Writable, Writables, none, more}
+use Rattle.flow.proofs.Values.{orders-ok, header-ok}
+use Rattle.rules.proofs.Kept.{Writables}
 use Rattle.address.specs.declared.Addressed.the-variants.{Unknown, Body}
 use Rattle.address.specs.Address.{bodyAt, bodyNamed, addressed}
 use Rattle.desk.specs.declared.FlowAnswer.{FlowAnswer}
 use Rattle.desk.specs.declared.FlowAnswer.the-variants.{UnknownEdition, TooLong, BrokenMarkup, BrokenStructure, BrokenField, OtherBank, UnknownBody, ClosedYear, NoRoom}
+use Rattle.desk.proofs.Written.{writables}
 use Rattle.desk.specs.Desk.{Reading, refused, served, forBody, forFlow, flowReads, flowCode}
 use Rattle.theorems.specs.Engine.{flow, namesIn, namesBy, whichBody, position, who}
 use Rattle.theorems.specs.Codes.{oneOf, strayCodes}
@@ -55,14 +56,6 @@ pub data Reads (t₀ : List ℕ) (ed : ℕ) (f out : List ℕ) : Option ℕ → 
   serves : (b : ℕ) → b < bodies t₀ → (year : ℕ) (os : List Ordinativo) → Writables os → (2000 ≤ year) × (year ≤ 2099) → (room : Bool)
       → ((t : List ℕ) → Good t₀ t → flowReads t ed f (length out) ≡ forYear (base t₀ b) (size t₀ b) year os room (leb year (closedOf t (entryOf b))))
       → Reads t₀ ed f out (some b)
-
--- THE ORDERS OF A FLOW THAT STANDS
-writable : (o : Ordinativo) → OrderOk o → Writable o
-writable o h = record { kind = h .kind; number = h .number; date = h .date; total = h .total; count = h .count }
-
-pub writables : (os : List Ordinativo) → Each OrderOk os → Writables os
-writables [] h = none
-writables (o ∷ os) h = more (writable o (h .0)) (writables os (h .1))
 
 module _ (t₀ : List ℕ) (r : tableOk t₀ ≡ true) where
   -- A CODE

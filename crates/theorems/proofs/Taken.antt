@@ -44,7 +44,7 @@ use Rattle.theorems.specs.Codes.{outcomeCodes}
 use Rattle.theorems.specs.Condition2.{codesInTurn, stepsInTurn, NoneListed, Taken}
 use Rattle.theorems.proofs.Accepted.{codesOn, orders-in-turn}
 use Rattle.theorems.proofs.Exactly.{order-exactly}
-use Rattle.theorems.proofs.Named.{writables}
+use Rattle.desk.proofs.Written.{writables}
 
 front-writable : (xs zs : List Ordinativo) → Writables (xs ++ zs) → Writables xs
 front-writable [] zs w = none

@@ -28,8 +28,8 @@ use Rattle.dates.specs.Dates.{dataOf, clock, signs, dataOraWritten, dataOraWith
 use Rattle.names.specs.Names.{replacedAfter, charactersAfter, anagrafica}
 use Rattle.fields.specs.Fields.{fieldStands}
 use Rattle.tokens.specs.Tokens.{repeat, until, nameAt, tagEndAt, pieceAt, textAt, endTagAt, optionalAt}
-use Rattle.markup.specs.Markup.{elementBy, childBy, childrenUpTo, contentBy, elementAt, contentAt, rootAt, rootFrom, markupOf}
-use Rattle.children.specs.Child.{childAt, childrenUpTo as childrenChildrenBy, childrenFrom}
+use Rattle.markup.specs.Markup.{elementBy, childBy, childrenBy, contentBy, elementAt, contentAt, rootAt, rootFrom, markupOf}
+use Rattle.children.specs.Child.{childAt, childrenUpTo, childrenFrom}
 use Rattle.rows.specs.Kept.{keep, keptFrom}
 use Rattle.rows.specs.Replaces.{replaces, rowsFor}
 use Rattle.rows.specs.Table.{nameIs}
@@ -50,7 +50,7 @@ pub record Flows : Type 0 where
   pub more : ReadAs two (headerFor "471") (order 1 ∷ order 2 ∷ [])
 
 pub flows : Flows
-unfolding isLetter isDigit isAlnum isNameByte isWhite all run runEnd startsWith hasAt textIs isChar sized isTail charSize pastOr charAt leap monthLength isDate isIdentifying codiceAbi identificativo codiceEnte tipoOperazione digitsAfter digits esercizio numero zeroInFront importo progressivo dataOf clock signs dataOraWritten dataOraWithin dataOra whichAt replacedAfter charactersAfter anagrafica fieldStands repeat until nameAt tagEndAt pieceAt textAt endTagAt optionalAt elementBy childBy childrenUpTo contentBy elementAt contentAt rootAt rootFrom markupOf childAt childrenChildrenBy childrenFrom keep keptFrom replaces rowsFor nameIs allKept rowsOf inOrder textOnly fitBy fitsAt fieldsBy fieldsAt firstBad those ordersTextIn inside namedOf namedIn lineOf linesOf eight linesIn orderOf ordersOf verdictBy
+unfolding isLetter isDigit isAlnum isNameByte isWhite all run runEnd startsWith hasAt textIs isChar sized isTail charSize pastOr charAt leap monthLength isDate isIdentifying codiceAbi identificativo codiceEnte tipoOperazione digitsAfter digits esercizio numero zeroInFront importo progressivo dataOf clock signs dataOraWritten dataOraWithin dataOra whichAt replacedAfter charactersAfter anagrafica fieldStands repeat until nameAt tagEndAt pieceAt textAt endTagAt optionalAt elementBy childBy childrenBy contentBy elementAt contentAt rootAt rootFrom markupOf childAt childrenUpTo childrenFrom keep keptFrom replaces rowsFor nameIs allKept rowsOf inOrder textOnly fitBy fitsAt fieldsBy fieldsAt firstBad those ordersTextIn inside namedOf namedIn lineOf linesOf eight linesIn orderOf ordersOf verdictBy
 flows = record {
   own = record { at = 19; short = refl; stands = refl; header = refl; orders = refl };
   other = record { at = 19; short = refl; stands = refl; header = refl; orders = refl };

@@ -133,6 +133,40 @@ fn a_table_is_held_too() {
     explained(&folder, &table);
 }
 
+/// A process with many flows holds each table that it leaves: one that comes after its first waits for its last, also without the lock file.
+#[test]
+fn a_table_is_held_from_call_to_call() {
+    let folder = folder("calls");
+    let table = folder.join("desk.table");
+    let opened = run(&["open", table.to_str().unwrap(), "--abi", "01234", "000471:40", "471:40"], Cut::Not);
+    assert!(opened.status.success(), "{opened:?}");
+    let before = fs::read(&table).unwrap();
+    let file = |body: &str, number: u64| {
+        let file = folder.join(format!("{body}-{number}.xml"));
+        fs::write(&file, flow(body, &[(Kind::Mandato, number)])).unwrap();
+        file.to_str().unwrap().to_string()
+    };
+    let (many, one): (Vec<_>, _) = ((1..=40).map(|number| file("000471", number)).collect(), file("471", 1));
+    let mut words = vec!["flow", table.to_str().unwrap()];
+    words.extend(many.iter().map(String::as_str));
+    thread::scope(|scope| {
+        let first = scope.spawn(|| run(&words, Cut::Not));
+        while fs::read(&table).unwrap() == before && !first.is_finished() {
+            thread::sleep(Duration::from_micros(200));
+        }
+        fs::remove_file(folder.join("desk.table.lock")).unwrap();
+        let second = run(&["flow", table.to_str().unwrap(), &one], Cut::Not);
+        assert!(second.status.success(), "{second:?}");
+        // The first was answered by then, all of it.
+        let first = first.join().unwrap();
+        assert!(first.status.success(), "{first:?}");
+    });
+    let bytes = fs::read(&table).unwrap();
+    let used = ["000471", "471"].map(|body| Table::over(&bytes).totals(body).unwrap().used);
+    assert_eq!(used, [40, 1]);
+    explained(&folder, &table);
+}
+
 /// Two processes on one table whose lock file is removed all the time: no call is lost, and the log gives the table.
 #[test]
 fn two_processes_without_a_lasting_lock() {
