@@ -34,5 +34,5 @@ pub record Replacements : Type 0 where
       ≡ storedAt (replacedBy rs (namings o)) (length rs) (recordOf (keyFor year o) acquiredState executedLine o))
   -- what each of its lines named is there afterwards, and its state is 3 ..
   pub once : OfReplacements (λ slots year o rs. (l : Line) → List·Memᴰ l (o .lines) → Replaced (recordsBy year o rs (judgeOrder slots year o rs)) (namingOf (o .kind) l))
-  -- .. so that to name it again is 25, "not executed or already replaced". (That it stays so after any calls: `replaced-history` of History)
+  -- .. so that to name it again is 25, "not executed or already replaced". (That it stays so after any calls that don't close its year: `replaced-history` of History)
   pub again : OfReplacements (λ slots year o rs. (l : Line) → List·Memᴰ l (o .lines) → namedCode (recordsBy year o rs (judgeOrder slots year o rs)) (namingOf (o .kind) l) ≡ 25)
