@@ -74,7 +74,10 @@ int main(void)
     send(2021, 1);
     send(2021, 2);
     print_totals();
+    close_year(0);
     close_year(1999);
+    close_year(2100);
+    close_year(65536 + 2021);
     close_year(2021);
     close_year(2020);
     execute(2020, 1);
