@@ -141,7 +141,7 @@ enum {
 
 /*
  * How many bytes of stack a call takes on x86-64, its arguments among them, whatever it is lent: the thread that makes it needs so many
- * beside its own. tests/stack makes each call on a stack of exactly so many bytes.
+ * beside its own. tests/stack makes each of these calls on a stack of exactly so many bytes. Of the two over dates nothing is stated.
  */
 #define HONDIVOLE_OPEN_STACK 1024u
 #define HONDIVOLE_CONVERT_STACK 8192u
@@ -282,7 +282,7 @@ void hondivole_field_at(const uint8_t *flow, size_t flow_len, uint64_t place, ui
 /*
  * Writes the outcome message ("messaggio di esito applicativo") of a flow and its outcome bytes; the edition is the flow's, and the message
  * is the same of both. The caller gives the time of the message's creation and the time of outcome, each as YYYY-MM-DDThh:mm:ss and then Z
- * or a sign and hh:mm to 23:59, and seven texts of 1 to 140 bytes, which are written as given: a text's bytes are UTF-8, with & only as one
+ * or a sign and hh:mm to 23:59, and seven texts of 1 to 140 bytes, written as given: XML's characters in UTF-8, no <, no ]]>, & only as one
  * of the five references. An empty ISTAT code is left out. All reversali stand before all mandati. It answers 0, *length being the
  * message's, at most HONDIVOLE_MOST_WRITTEN_BYTES; bytes of the buffer past it stay. Or it answers the first that applies of 23 (no such
  * edition); 2 to 5 for the flow, as hondivole_flow does; 41, when there are under 16 outcome bytes per order, their kinds, operations,

@@ -2,7 +2,7 @@
 
 /*
  * Each code of opening, notices, totals and journals, and those of flows and orders that no flow alone can show (1, 8, 18): a script of calls on one
- * table, each printed with its code in words. (The flows of examples/ have the other codes of flows and orders, but for 23, which opi.c has, and 24 and 26, which replacement.c has.)
+ * table, each printed with its code in words. (The flows of examples/ have the other codes of flows and orders, but for 23, which opi.c has, 24 and 26, which replacement.c has, and 36, which close.c has.)
  *
  * At the top of the repository, after `./library`:
  *
