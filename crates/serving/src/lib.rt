@@ -20,7 +20,7 @@ pub struct FlowSums {
 }
 
 // An order's code, for its outcome bytes.
-fn code_of(j: Ruling) -> u8
+pub fn code_of(j: Ruling) -> u8
     ensures { λ r. ⌜ r ≡ orderCode j ⌝ }
 {
     match j {
@@ -30,7 +30,7 @@ fn code_of(j: Ruling) -> u8
 }
 
 // What an order of this code adds to the accepted ones.
-fn one_of(code: u8) -> usize
+pub fn one_of(code: u8) -> usize
     ensures { λ r. ⌜ (r ≡ cond (eqb code 0) 1 0) × (r ≤ 1) ⌝ }
 {
     if code == 0 { 1 } else { 0 }

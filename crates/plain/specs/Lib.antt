@@ -1,0 +1,4 @@
+pub mod Plain
+pub mod Flows
+pub mod Notices
+pub mod Says
