@@ -9,23 +9,29 @@ use borrow.Author.Tests.{eq-eqb, ne-eqb}
 use Rattle.fields.specs.declared.Judged.the-variants.{Stands, Breaks}
 use Rattle.fields.specs.declared.Value.{Value}
 use Rattle.fields.specs.declared.Reading.the-variants as reading
+use Rattle.fields.specs.declared.Valued.{Valued}
+use Rattle.fields.specs.declared.Valued.the-variants.{Some, None}
 use Rattle.fields.specs.declared.Form.{Form}
 use Rattle.fields.specs.declared.Longest.{Longest}
 use Rattle.fields.specs.declared.Cause.{Cause}
 use Rattle.fields.specs.declared.Cause.the-variants.{Empty, Long, Misformed, OutOfRange}
 use Rattle.fields.specs.Causes.{longest, longer, formed, causeOf}
-use Rattle.fields.specs.Fields.{Valued, some, none, told, fieldValue, standsBy, readingOf, fieldStands}
+use Rattle.fields.specs.Fields.{told, fieldValue, standsBy, readingOf, fieldStands}
 
 -- a reading by what a form's own function answers: x is what the text says
 module _ (f : Form) (t : List ℕ) {x : Valued} (e : x ≡ fieldValue f t) where
-  pub reading-some : {v : Value} → x ≡ some v → reading.Holds v ≡ readingOf f t
+  pub reading-some : {v : Value} → x ≡ Some v → reading.Holds v ≡ readingOf f t
   reading-some h = ap (told (causeOf f t)) (sym h ∙ e)
 
-  pub none-breaks : x ≡ none → fieldStands f t ≡ Breaks
+  pub some-stands : {v : Value} → x ≡ Some v → fieldStands f t ≡ Stands
+  unfolding fieldStands
+  some-stands h = ap standsBy (sym e ∙ h)
+
+  pub none-breaks : x ≡ None → fieldStands f t ≡ Breaks
   unfolding fieldStands
   none-breaks h = ap standsBy (sym e ∙ h)
 
-  pub reading-none : {w : Cause} → x ≡ none → w ≡ causeOf f t → reading.Breaks w ≡ readingOf f t
+  pub reading-none : {w : Cause} → x ≡ None → w ≡ causeOf f t → reading.Breaks w ≡ readingOf f t
   reading-none h g = ap reading.Breaks g ∙ ap (told (causeOf f t)) (sym h ∙ e)
 
 -- what a reading says of whether its text stands
@@ -35,24 +41,16 @@ module _ (f : Form) (t : List ℕ) where
   stands-holds = go (fieldValue f t)
     where
       go : (x : Valued) {v : Value} → reading.Holds v ≡ told (causeOf f t) x → Stands ≡ standsBy x
-      go (some u) e = refl
-      go none e = let z : _≡_ {A = ℕ} 0 1 = cc in absurd (omega arith)
+      go (Some u) e = refl
+      go None e = let z : _≡_ {A = ℕ} 0 1 = cc in absurd (omega arith)
 
   pub holds-value : fieldStands f t ≡ Stands → (v : Value) × (readingOf f t ≡ reading.Holds v)
   unfolding fieldStands
   holds-value = go (fieldValue f t)
     where
       go : (x : Valued) → standsBy x ≡ Stands → (v : Value) × (told (causeOf f t) x ≡ reading.Holds v)
-      go (some u) e = (u, refl)
-      go none e = let z : _≡_ {A = ℕ} 0 1 = cc in absurd (omega arith)
-
-  pub stands-breaks : {w : Cause} → reading.Breaks w ≡ readingOf f t → Breaks ≡ fieldStands f t
-  unfolding fieldStands
-  stands-breaks = go (fieldValue f t)
-    where
-      go : (x : Valued) {w : Cause} → reading.Breaks w ≡ told (causeOf f t) x → Breaks ≡ standsBy x
-      go (some u) e = let z : _≡_ {A = ℕ} 0 1 = cc in absurd (omega arith)
-      go none e = refl
+      go (Some u) e = (u, refl)
+      go None e = let z : _≡_ {A = ℕ} 0 1 = cc in absurd (omega arith)
 
 -- the four ways out of `cause_of`
 module _ (f : Form) (t : List ℕ) where

@@ -28,12 +28,14 @@ use Rattle.names.specs.Names.{anagrafica}
 use Rattle.names.proofs.Laws.{anagrafica-length}
 use Rattle.fields.specs.declared.Judged.the-variants.{Breaks}
 use Rattle.fields.specs.declared.Reading.the-variants as reading
+use Rattle.fields.specs.declared.Valued.{Valued}
+use Rattle.fields.specs.declared.Valued.the-variants.{Some, None}
 use Rattle.fields.specs.declared.Form.{Form}
 use Rattle.fields.specs.declared.Form.the-variants.{CodiceAbi, Identificativo, DataOra, CodiceEnte, Esercizio, TipoOperazione, Numero, Data, Importo, Progressivo, Anagrafica, DataOraZona, Testo, EsitoOperazione, CodiceErrore, Descrizione, Elemento}
 use Rattle.fields.specs.declared.Cause.{Cause}
 use Rattle.fields.specs.declared.Cause.the-variants.{Empty, Long, Misformed, OutOfRange}
 use Rattle.fields.specs.Causes.{causeNumber, formed, inRange, applies, causeOf}
-use Rattle.fields.specs.Fields.{Valued, some, none, told, fieldValue, readingOf, standsBy, judged, isNumber, isDay, isOperation, isEsito, fieldStands}
+use Rattle.fields.specs.Fields.{told, fieldValue, readingOf, standsBy, judged, isNumber, isDay, isOperation, isEsito, fieldStands}
 use Rattle.fields.specs.Told.{First, Told}
 
 no : {A : Type 0} → _≡_ {A = Bool} true false → A
@@ -158,16 +160,16 @@ module _ (f : Form) (t : List ℕ) where
   broken w c = go (fieldValue f t)
     where
       go : (v : Valued) → standsBy v ≡ Breaks → told (causeOf f t) v ≡ reading.Breaks w
-      go (some v) s = let q : _≡_ {A = ℕ} 0 1 = cc in absurd (omega arith)
-      go none s = rw c
+      go (Some v) s = let q : _≡_ {A = ℕ} 0 1 = cc in absurd (omega arith)
+      go None s = rw c
 
   pub breaks : (w : Cause) → readingOf f t ≡ reading.Breaks w → (causeOf f t ≡ w) × (fieldStands f t ≡ Breaks)
   unfolding fieldStands
   breaks w = go (fieldValue f t)
     where
       go : (v : Valued) → told (causeOf f t) v ≡ reading.Breaks w → (causeOf f t ≡ w) × (standsBy v ≡ Breaks)
-      go (some v) s = let q : _≡_ {A = ℕ} 0 1 = cc in absurd (omega arith)
-      go none s = (cc, refl)
+      go (Some v) s = let q : _≡_ {A = ℕ} 0 1 = cc in absurd (omega arith)
+      go None s = (cc, refl)
 
   before : (n : ℕ) → (1 < n → applies Empty f t ≡ false) → (2 < n → applies Long f t ≡ false) → (3 < n → applies Misformed f t ≡ false) → n ≤ 4 → (v : Cause) → causeNumber v < n → applies v f t ≡ false
   before n a b c m Empty h = a h

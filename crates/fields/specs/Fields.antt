@@ -17,8 +17,9 @@ use Rattle.dates.specs.Dates.{dataOra, dataOf, dataOraZona}
 use Rattle.names.specs.Names.{anagrafica}
 use Rattle.fields.specs.declared.Judged.{Judged}
 use Rattle.fields.specs.declared.Judged.the-variants.{Stands, Breaks}
-use Rattle.fields.specs.declared.Value as field
 use Rattle.fields.specs.declared.Value.the-variants as value
+use Rattle.fields.specs.declared.Valued.{Valued}
+use Rattle.fields.specs.declared.Valued.the-variants.{Some, None}
 use Rattle.fields.specs.declared.Reading.{Reading}
 use Rattle.fields.specs.declared.Reading.the-variants as reading
 use Rattle.fields.specs.declared.Cause.{Cause}
@@ -27,30 +28,26 @@ use Rattle.fields.specs.declared.Form.the-variants.{CodiceAbi, Identific
 use Rattle.fields.specs.Causes.{causeOf}
 
 -- WHAT A TEXT SAYS: a value of the form, or none. Of a text that stays bytes only that it has the form is said.
-pub data Valued : Type 0 where
-  some : field.Value → Valued
-  none : Valued
-
 abbrev pub ofText : Bool → Valued
-ofText true = some value.Text
-ofText false = none
+ofText true = Some value.Text
+ofText false = None
 
 abbrev pub ofNumber : Number → Valued
-ofNumber (Value v) = some (value.Number v)
-ofNumber NoNumber = none
+ofNumber (Value v) = Some (value.Number v)
+ofNumber NoNumber = None
 
 abbrev pub ofDay : Day → Valued
-ofDay (On d) = some (value.Day d)
-ofDay NoDay = none
+ofDay (On d) = Some (value.Day d)
+ofDay NoDay = None
 
 abbrev pub ofOperation : Asked → Valued
-ofOperation (Operazione o) = some (value.Operation o)
-ofOperation NoOperation = none
+ofOperation (Operazione o) = Some (value.Operation o)
+ofOperation NoOperation = None
 
 abbrev pub ofEsito : Esito → Valued
-ofEsito (Accepted o) = some (value.Accepted o)
-ofEsito (Refused o) = some (value.Refused o)
-ofEsito NoEsito = none
+ofEsito (Accepted o) = Some (value.Accepted o)
+ofEsito (Refused o) = Some (value.Refused o)
+ofEsito NoEsito = None
 
 -- which form asks what, in the table's order
 abbrev pub fieldValue : Form → List ℕ → Valued
@@ -75,16 +72,16 @@ fieldValue Elemento t = ofText (elemento t)
 
 -- A READING: the value that a text says, or what is wrong with it (Causes)
 abbrev pub told : Cause → Valued → Reading
-told w (some v) = reading.Holds v
-told w none = reading.Breaks w
+told w (Some v) = reading.Holds v
+told w None = reading.Breaks w
 
 abbrev pub readingOf : Form → List ℕ → Reading
 readingOf f t = told (causeOf f t) (fieldValue f t)
 
 -- IT STANDS: it says a value
 abbrev pub standsBy : Valued → Judged
-standsBy (some v) = Stands
-standsBy none = Breaks
+standsBy (Some v) = Stands
+standsBy None = Breaks
 
 unfoldable pub fieldStands : Form → List ℕ → Judged
 fieldStands f t = standsBy (fieldValue f t)

@@ -46,6 +46,12 @@ pub enum Value {
     Refused(Operation),
 }
 
+// A value of a text, or none.
+pub enum Valued {
+    Some(Value),
+    None,
+}
+
 // The longest text that a form allows, in bytes or, of a name, in characters as its form counts them.
 pub enum Longest {
     Bytes(usize),
@@ -154,89 +160,95 @@ fn cause_of(f: Form, t: &[u8]) -> Cause
     Cause::OutOfRange
 }
 
-fn text_reading(has_form: bool, f: Form, t: &[u8]) -> Reading
-    requires { ⌜ ofText «has_form» ≡ fieldValue f (now t) ⌝ }
-    ensures { λ r. ⌜ r ≡ readingOf f (now (t .entry)) ⌝ }
+fn of_text(has_form: bool) -> Valued
+    ensures { λ r. ⌜ r ≡ ofText «has_form» ⌝ }
 {
     if has_form {
-        Reading::Holds(Value::Text)
+        Valued::Some(Value::Text)
     } else {
-        Reading::Breaks(cause_of(f, t))
+        Valued::None
     }
 }
 
-fn number_reading(n: Number, f: Form, t: &[u8]) -> Reading
-    requires { ⌜ ofNumber n ≡ fieldValue f (now t) ⌝ }
-    ensures { λ r. ⌜ r ≡ readingOf f (now (t .entry)) ⌝ }
+fn of_number(n: Number) -> Valued
+    ensures { λ r. ⌜ r ≡ ofNumber n ⌝ }
 {
     match n {
-        Number::Value(v) => Reading::Holds(Value::Number(v)),
-        Number::NoNumber => Reading::Breaks(cause_of(f, t)),
+        Number::Value(v) => Valued::Some(Value::Number(v)),
+        Number::NoNumber => Valued::None,
     }
 }
 
-fn day_reading(d: Day, f: Form, t: &[u8]) -> Reading
-    requires { ⌜ ofDay d ≡ fieldValue f (now t) ⌝ }
-    ensures { λ r. ⌜ r ≡ readingOf f (now (t .entry)) ⌝ }
+fn of_day(d: Day) -> Valued
+    ensures { λ r. ⌜ r ≡ ofDay d ⌝ }
 {
     match d {
-        Day::On(date) => Reading::Holds(Value::Day(date)),
-        Day::NoDay => Reading::Breaks(cause_of(f, t)),
+        Day::On(date) => Valued::Some(Value::Day(date)),
+        Day::NoDay => Valued::None,
     }
 }
 
-fn operation_reading(a: Asked, f: Form, t: &[u8]) -> Reading
-    requires { ⌜ ofOperation a ≡ fieldValue f (now t) ⌝ }
-    ensures { λ r. ⌜ r ≡ readingOf f (now (t .entry)) ⌝ }
+fn of_operation(a: Asked) -> Valued
+    ensures { λ r. ⌜ r ≡ ofOperation a ⌝ }
 {
     match a {
-        Asked::Operazione(o) => Reading::Holds(Value::Operation(o)),
-        Asked::NoOperation => Reading::Breaks(cause_of(f, t)),
+        Asked::Operazione(o) => Valued::Some(Value::Operation(o)),
+        Asked::NoOperation => Valued::None,
     }
 }
 
-fn esito_reading(e: Esito, f: Form, t: &[u8]) -> Reading
-    requires { ⌜ ofEsito e ≡ fieldValue f (now t) ⌝ }
-    ensures { λ r. ⌜ r ≡ readingOf f (now (t .entry)) ⌝ }
+fn of_esito(e: Esito) -> Valued
+    ensures { λ r. ⌜ r ≡ ofEsito e ⌝ }
 {
     match e {
-        Esito::Accepted(o) => Reading::Holds(Value::Accepted(o)),
-        Esito::Refused(o) => Reading::Holds(Value::Refused(o)),
-        Esito::NoEsito => Reading::Breaks(cause_of(f, t)),
+        Esito::Accepted(o) => Valued::Some(Value::Accepted(o)),
+        Esito::Refused(o) => Valued::Some(Value::Refused(o)),
+        Esito::NoEsito => Valued::None,
     }
 }
 
-// A field's text, read by its form.
+// The value that a field's text says by its form. A text that breaks is not asked for its cause here, so that the reading of texts that stand stays
+// short enough to be compiled in place.
+pub fn value_of(f: Form, t: &[u8]) -> Valued
+    ensures { λ r. ⌜ r ≡ fieldValue f (now (t .entry)) ⌝ }
+{
+    match f {
+        Form::CodiceAbi => of_text(codes::codice_abi(t)),
+        Form::Identificativo => of_text(codes::identificativo_flusso(t)),
+        Form::DataOra => of_text(dates::data_ora(t)),
+        Form::CodiceEnte => of_text(codes::codice_ente(t)),
+        Form::Esercizio => of_number(digits::esercizio_of(t)),
+        Form::TipoOperazione => of_operation(codes::tipo_operazione(t)),
+        Form::Numero => of_number(digits::numero_of(t)),
+        Form::Data => of_day(dates::data_of(t)),
+        Form::Importo => of_number(digits::importo_of(t)),
+        Form::Progressivo => of_number(digits::progressivo_of(t)),
+        Form::Anagrafica => of_text(names::anagrafica_of(t)),
+        Form::DataOraZona => of_text(dates::data_ora_zona(t)),
+        Form::Testo => of_text(codes::sized_text(t, 1, 140)),
+        Form::EsitoOperazione => of_esito(codes::esito_operazione(t)),
+        Form::CodiceErrore => of_number(digits::codice_errore(t)),
+        Form::Descrizione => of_text(codes::sized_text(t, 1, 2)),
+        Form::Elemento => of_text(codes::sized_text(t, 1, 24)),
+    }
+}
+
+// A field's text, read by its form: its value, or what is wrong with it.
 pub fn field_of(f: Form, t: &[u8]) -> Reading
     ensures { λ r. ⌜ r ≡ readingOf f (now (t .entry)) ⌝ }
 {
-    match f {
-        Form::CodiceAbi => text_reading(codes::codice_abi(t), f, t),
-        Form::Identificativo => text_reading(codes::identificativo_flusso(t), f, t),
-        Form::DataOra => text_reading(dates::data_ora(t), f, t),
-        Form::CodiceEnte => text_reading(codes::codice_ente(t), f, t),
-        Form::Esercizio => number_reading(digits::esercizio_of(t), f, t),
-        Form::TipoOperazione => operation_reading(codes::tipo_operazione(t), f, t),
-        Form::Numero => number_reading(digits::numero_of(t), f, t),
-        Form::Data => day_reading(dates::data_of(t), f, t),
-        Form::Importo => number_reading(digits::importo_of(t), f, t),
-        Form::Progressivo => number_reading(digits::progressivo_of(t), f, t),
-        Form::Anagrafica => text_reading(names::anagrafica_of(t), f, t),
-        Form::DataOraZona => text_reading(dates::data_ora_zona(t), f, t),
-        Form::Testo => text_reading(codes::sized_text(t, 1, 140), f, t),
-        Form::EsitoOperazione => esito_reading(codes::esito_operazione(t), f, t),
-        Form::CodiceErrore => number_reading(digits::codice_errore(t), f, t),
-        Form::Descrizione => text_reading(codes::sized_text(t, 1, 2), f, t),
-        Form::Elemento => text_reading(codes::sized_text(t, 1, 24), f, t),
+    match value_of(f, t) {
+        Valued::Some(v) => Reading::Holds(v),
+        Valued::None => Reading::Breaks(cause_of(f, t)),
     }
 }
 
-// Whether a field's text has its form: its reading holds a value.
+// Whether a field's text has its form: it says a value.
 pub fn field_stands(f: Form, t: &[u8]) -> Judged
     ensures { λ r. ⌜ r ≡ fieldStands f (now (t .entry)) ⌝ }
 {
-    match field_of(f, t) {
-        Reading::Holds(_) => Judged::Stands,
-        Reading::Breaks(_) => Judged::Breaks,
+    match value_of(f, t) {
+        Valued::Some(_) => Judged::Stands,
+        Valued::None => Judged::Breaks,
     }
 }

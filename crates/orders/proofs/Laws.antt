@@ -12,11 +12,9 @@ use borrow.Author.Tests.{eq-eqb, ne-eqb, eqb-true}
 use Rattle.scan.specs.Bytes.{part, isWhite}
 use Rattle.scan.proofs.Laws.{both, run-within}
 use Rattle.tokens.specs.Tokens.{whiteAt}
-use Rattle.fields.specs.declared.Cause.{Cause}
 use Rattle.fields.specs.declared.Form.{Form}
 use Rattle.fields.specs.declared.Form.the-variants.{Esercizio, TipoOperazione, Numero, Data, Importo, Progressivo}
-use Rattle.fields.specs.Causes.{causeOf}
-use Rattle.fields.specs.Fields.{told, ofNumber, ofDay, ofOperation}
+use Rattle.fields.specs.Fields.{ofNumber, ofDay, ofOperation}
 use Rattle.codes.specs.declared.Asked.{Asked}
 use Rattle.codes.specs.declared.Asked.the-variants.{Operazione, NoOperation}
 use Rattle.digits.specs.declared.Number.{Number}
@@ -436,42 +434,42 @@ unfolding linesIn
 lines-same s ks js e = rw e
 
 -- WHAT A FIELD SAYS is the value of its form's text
-number-said : (c : Child) (x : Cause) (n : Number) → numberOf (readAt c (told x (ofNumber n))) ≡ valueOf n
-number-said c x (Value v) = refl
-number-said c x NoNumber = refl
+number-said : (c : Child) (n : Number) → numberOf (readAt c (ofNumber n)) ≡ valueOf n
+number-said c (Value v) = refl
+number-said c NoNumber = refl
 
-day-said : (c : Child) (x : Cause) (d : Day) → dateRead (readAt c (told x (ofDay d))) ≡ dateOf d
-day-said c x (On d) = refl
-day-said c x NoDay = refl
+day-said : (c : Child) (d : Day) → dateRead (readAt c (ofDay d)) ≡ dateOf d
+day-said c (On d) = refl
+day-said c NoDay = refl
 
-operation-said : (c : Child) (x : Cause) (a : Asked) → saidOperation (readAt c (told x (ofOperation a))) ≡ operationOf a
-operation-said c x (Operazione o) = refl
-operation-said c x NoOperation = refl
+operation-said : (c : Child) (a : Asked) → saidOperation (readAt c (ofOperation a)) ≡ operationOf a
+operation-said c (Operazione o) = refl
+operation-said c NoOperation = refl
 
 module _ (s : List ℕ) (c : Child) (t : List ℕ) (e : t ≡ part s (c .gt + 1) (c .to)) where
   pub says-progressivo : numberOf (fieldRead s Progressivo c) ≡ valueOf (progressivo t)
   unfolding fieldRead
-  says-progressivo = rw (← e) (number-said c (causeOf Progressivo t) (progressivo t))
+  says-progressivo = rw (← e) (number-said c (progressivo t))
 
   pub says-numero : numberOf (fieldRead s Numero c) ≡ valueOf (numero t)
   unfolding fieldRead
-  says-numero = rw (← e) (number-said c (causeOf Numero t) (numero t))
+  says-numero = rw (← e) (number-said c (numero t))
 
   pub says-importo : numberOf (fieldRead s Importo c) ≡ valueOf (importo t)
   unfolding fieldRead
-  says-importo = rw (← e) (number-said c (causeOf Importo t) (importo t))
+  says-importo = rw (← e) (number-said c (importo t))
 
   pub says-esercizio : numberOf (fieldRead s Esercizio c) ≡ valueOf (esercizio t)
   unfolding fieldRead
-  says-esercizio = rw (← e) (number-said c (causeOf Esercizio t) (esercizio t))
+  says-esercizio = rw (← e) (number-said c (esercizio t))
 
   pub says-data : dateRead (fieldRead s Data c) ≡ dateOf (dataOf t)
   unfolding fieldRead
-  says-data = rw (← e) (day-said c (causeOf Data t) (dataOf t))
+  says-data = rw (← e) (day-said c (dataOf t))
 
   pub says-operazione : saidOperation (fieldRead s TipoOperazione c) ≡ operationOf (tipoOperazione t)
   unfolding fieldRead
-  says-operazione = rw (← e) (operation-said c (causeOf TipoOperazione t) (tipoOperazione t))
+  says-operazione = rw (← e) (operation-said c (tipoOperazione t))
 
 -- THE LINE THAT A LINE NAMES
 module _ (p : Parent) (s : List ℕ) (i : ℕ) where

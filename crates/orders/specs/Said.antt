@@ -21,7 +21,7 @@ numberSaid (Refused o) = 0
 
 abbrev pub numberOf : FieldRead → ℕ
 numberOf (Said v i) = numberSaid v
-numberOf (Broken p x) = 0
+numberOf (Broken p) = 0
 
 abbrev pub daySaid : Value → Date
 daySaid Text = noDate
@@ -33,7 +33,7 @@ daySaid (Refused o) = noDate
 
 abbrev pub dateRead : FieldRead → Date
 dateRead (Said v i) = daySaid v
-dateRead (Broken p x) = noDate
+dateRead (Broken p) = noDate
 
 abbrev pub operationSaid : Value → Operazione
 operationSaid Text = Sostituzione
@@ -45,4 +45,4 @@ operationSaid (Refused o) = o
 
 abbrev pub saidOperation : FieldRead → Operazione
 saidOperation (Said v i) = operationSaid v
-saidOperation (Broken p x) = Sostituzione
+saidOperation (Broken p) = Sostituzione

@@ -48,7 +48,7 @@ pub fn number_of(r: FieldRead) -> u64
 {
     match r {
         FieldRead::Said(v, _) => number_said(v),
-        FieldRead::Broken(_, _) => 0,
+        FieldRead::Broken(_) => 0,
     }
 }
 
@@ -75,7 +75,7 @@ fn day_of(r: FieldRead) -> Date
 {
     match r {
         FieldRead::Said(v, _) => day_said(v),
-        FieldRead::Broken(_, _) => Date {
+        FieldRead::Broken(_) => Date {
             year: 0,
             month: 0,
             day: 0,
@@ -101,7 +101,7 @@ fn operation_of(r: FieldRead) -> Operation
 {
     match r {
         FieldRead::Said(v, _) => operation_said(v),
-        FieldRead::Broken(_, _) => Operation::Sostituzione,
+        FieldRead::Broken(_) => Operation::Sostituzione,
     }
 }
 

@@ -4,17 +4,17 @@ use mathlib.Core.List.{List}
 use Rattle.scan.specs.Bytes.{part}
 use Rattle.children.specs.declared.Child.{Child}
 use Rattle.fields.specs.declared.Form.{Form}
-use Rattle.fields.specs.declared.Reading.{Reading}
-use Rattle.fields.specs.declared.Reading.the-variants.{Holds, Breaks}
-use Rattle.fields.specs.Fields.{readingOf}
+use Rattle.fields.specs.declared.Valued.{Valued}
+use Rattle.fields.specs.declared.Valued.the-variants.{Some, None}
+use Rattle.fields.specs.Fields.{fieldValue}
 use Rattle.rows.specs.declared.FieldRead.{FieldRead}
 use Rattle.rows.specs.declared.FieldRead.the-variants.{Said, Broken}
 
-abbrev pub readAt : Child → Reading → FieldRead
-readAt c (Holds v) = Said v (c .after)
-readAt c (Breaks x) = Broken (c .lt) x
+abbrev pub readAt : Child → Valued → FieldRead
+readAt c (Some v) = Said v (c .after)
+readAt c None = Broken (c .lt)
 
--- the text of an element, read by a form: its value and the place after it, or the place of its < and what is wrong with it ("Every field reading
--- tells one", document 02, Req 03)
+-- the text of an element, read by a form: its value and the place after it, or the place of its <. (What is wrong with it, `readingOf`, is asked of the
+-- first that breaks alone)
 unfoldable pub fieldRead : List ℕ → Form → Child → FieldRead
-fieldRead s f c = readAt c (readingOf f (part s (c .gt + 1) (c .to)))
+fieldRead s f c = readAt c (fieldValue f (part s (c .gt + 1) (c .to)))

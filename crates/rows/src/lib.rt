@@ -1,10 +1,9 @@
 // The rows of document 01's structure table, and of outcome messages: which of an element's children its parent names.
 use children::Child;
 use children::Step;
-use fields::Cause;
 use fields::Form;
-use fields::Reading;
 use fields::Value;
+use fields::Valued;
 ghost use mathlib.Core.Path.{_≡_};
 ghost use mathlib.Core.Bool.{true};
 ghost use Prim.Native.Nat.{_+_, _≤_, _<_};
@@ -64,10 +63,10 @@ pub enum Next {
     Done,
 }
 
-// A field of the flow, read by its form: its value and the place after it, or the place of the `<` of one that breaks, and its cause.
+// A field of the flow, read by its form: its value and the place after it, or the place of the `<` of one that breaks.
 pub enum FieldRead {
     Said(Value, usize),
-    Broken(usize, Cause),
+    Broken(usize),
 }
 
 // Whether the name from a up to e is x.
@@ -581,8 +580,8 @@ pub fn read_field(s: &[u8], c: Child, f: Form) -> FieldRead
 {
     let from = c.gt + 1;
     let to = c.to;
-    match fields::field_of(f, &s[from..to]) {
-        Reading::Holds(v) => FieldRead::Said(v, c.after),
-        Reading::Breaks(x) => FieldRead::Broken(c.lt, x),
+    match fields::value_of(f, &s[from..to]) {
+        Valued::Some(v) => FieldRead::Said(v, c.after),
+        Valued::None => FieldRead::Broken(c.lt),
     }
 }

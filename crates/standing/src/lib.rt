@@ -1,7 +1,9 @@
-// What a flow's content comes to, in one walk: its structure breaks, or a field does, or it stands.
+// What a flow's content comes to: its structure breaks, or a field does, or it stands. One walk says which; only where a field breaks does a second one
+// say where, and why.
 use children::Child;
 use fields::Cause;
 use fields::Form;
+use fields::Reading;
 use rows::FieldRead;
 use rows::Holds;
 use rows::Next;
@@ -10,7 +12,8 @@ ghost use mathlib.Core.Path.{_≡_};
 ghost use Prim.Native.Nat.{_+_, _≤_, _<_};
 ghost use lib.ListN.{length};
 ghost use Rattle.markup.specs.Noted.{Noted};
-ghost use Rattle.standing.specs.Standing.{fieldStanding, standingAt, after, structured};
+ghost use Rattle.standing.specs.Readings.{fieldsAt, firstBad};
+ghost use Rattle.standing.specs.Standing.{standingByFields, standingAt, forget, badAt, fieldBreaking, structured, after, sound};
 
 // What content comes to; a field that breaks is named by its `<`, with its cause.
 pub enum Standing {
@@ -19,87 +22,161 @@ pub enum Standing {
     Stands,
 }
 
+// What breaks in content. It has no place and no cause, which content that stands would pay for.
+enum Breaking {
+    Structure,
+    Field,
+    Nothing,
+}
+
 // Whether the structure stands.
-fn has_structure(w: Standing) -> bool
-    ensures { λ r. ⌜ r ≡ structured w ⌝ }
+fn has_structure(b: Breaking) -> bool
+    ensures { λ r. ⌜ r ≡ structured b ⌝ }
 {
-    match w {
-        Standing::StructureBreaks => false,
-        Standing::FieldBreaks(_, _) => true,
-        Standing::Stands => true,
+    match b {
+        Breaking::Structure => false,
+        Breaking::Field => true,
+        Breaking::Nothing => true,
     }
 }
 
-// One part after the other: the structure of either is said first, then the first field.
-fn then(first: Standing, next: Standing) -> Standing
+// One part and another: the structure of either is said first, then a field.
+fn then(first: Breaking, next: Breaking) -> Breaking
     ensures { λ r. ⌜ r ≡ after first next ⌝ }
 {
     match first {
-        Standing::StructureBreaks => Standing::StructureBreaks,
-        Standing::FieldBreaks(p, x) => {
+        Breaking::Structure => Breaking::Structure,
+        Breaking::Field => {
             if has_structure(next) {
-                Standing::FieldBreaks(p, x)
+                Breaking::Field
             } else {
-                Standing::StructureBreaks
+                Breaking::Structure
             }
         }
-        Standing::Stands => next,
+        Breaking::Nothing => next,
     }
 }
 
 // A field: it holds no element, and has its form.
-fn field_standing(s: &[u8], c: Child, f: Form, past: &[u32]) -> Standing
+fn field_breaking(s: &[u8], c: Child, f: Form, past: &[u32]) -> Breaking
     requires { ⌜ (c .gt + 1 ≤ c .to) × (c .to ≤ length (now s)) × Noted (now s) (now past) ⌝ }
-    ensures { λ r. ⌜ r ≡ fieldStanding (now (s .entry)) f c ⌝ }
+    ensures { λ r. ⌜ r ≡ fieldBreaking (now (s .entry)) f c ⌝ }
 {
     if !structure::text_only(s, c.gt + 1, past) {
-        return Standing::StructureBreaks;
+        return Breaking::Structure;
     }
     match rows::read_field(s, c, f) {
-        FieldRead::Said(_, _) => Standing::Stands,
-        FieldRead::Broken(p, x) => Standing::FieldBreaks(p, x),
+        FieldRead::Said(_, _) => Breaking::Nothing,
+        FieldRead::Broken(_) => Breaking::Field,
     }
 }
 
 // The content at a place, of at most d levels: of the children walked, n stand in `row` and none after it. A field that breaks is kept while the
 // structure of the others is looked at, so that all is walked once.
-pub fn judge(s: &[u8], at: usize, parent: Parent, d: usize, past: &[u32]) -> Standing
+fn walk(s: &[u8], at: usize, parent: Parent, d: usize, past: &[u32]) -> Breaking
     requires { ⌜ (at ≤ length (now s)) × Noted (now s) (now past) ⌝ }
-    ensures { λ r. ⌜ r ≡ standingAt d parent (now (s .entry)) at ⌝ }
+    ensures { λ r. ⌜ r ≡ forget (standingAt d parent (now (s .entry)) at) ⌝ }
 {
     if d == 0 {
-        return Standing::StructureBreaks;
+        return Breaking::Structure;
     }
     let mut i = scan::white_end(s, at);
     let mut row: usize = 0;
     let mut n: usize = 0;
-    let mut so_far = Standing::Stands;
+    let mut so_far = Breaking::Nothing;
     while has_structure(so_far) {
         let Next::Named(k) = rows::next_named(s, i, parent, past) else {
             if structure::filled(parent, row, n, structure::rows(parent)) {
                 return so_far;
             }
-            return Standing::StructureBreaks;
+            return Breaking::Structure;
         };
         let c = k.child;
         let h = k.holds;
         let next = k.row;
         if !structure::filled(parent, row, n, next) {
-            return Standing::StructureBreaks;
+            return Breaking::Structure;
         }
         n = structure::counted(row, n, next);
         row = next;
         i = c.after;
         match h {
             Holds::Text(f) => {
-                so_far = then(so_far, field_standing(s, c, f, past));
+                so_far = then(so_far, field_breaking(s, c, f, past));
             }
             Holds::Rows(q) => {
                 let inner = c.gt + 1;
                 let p = rows::rows_for(s, inner, q, past);
-                so_far = then(so_far, judge(s, inner, p, d - 1, past));
+                so_far = then(so_far, walk(s, inner, p, d - 1, past));
             }
         }
     }
-    Standing::StructureBreaks
+    Breaking::Structure
+}
+
+// Whether no field has been found.
+fn is_sound(found: Standing) -> bool
+    ensures { λ r. ⌜ r ≡ sound found ⌝ }
+{
+    match found {
+        Standing::StructureBreaks => false,
+        Standing::FieldBreaks(_, _) => false,
+        Standing::Stands => true,
+    }
+}
+
+// A field's reading, with its cause.
+fn field_found(s: &[u8], c: Child, f: Form) -> Standing
+    requires { ⌜ (c .gt + 1 ≤ c .to) × (c .to ≤ length (now s)) ⌝ }
+    ensures { λ r. ⌜ r ≡ standingByFields (badAt (now (s .entry)) f c) ⌝ }
+{
+    let from = c.gt + 1;
+    let to = c.to;
+    match fields::field_of(f, &s[from..to]) {
+        Reading::Holds(_) => Standing::Stands,
+        Reading::Breaks(x) => Standing::FieldBreaks(c.lt, x),
+    }
+}
+
+// The first field that breaks in the content at a place, of at most d levels, whatever its structure.
+fn first_bad(s: &[u8], at: usize, parent: Parent, d: usize, past: &[u32]) -> Standing
+    requires { ⌜ (at ≤ length (now s)) × Noted (now s) (now past) ⌝ }
+    ensures { λ r. ⌜ r ≡ standingByFields (firstBad (fieldsAt d parent (now (s .entry)) at)) ⌝ }
+{
+    if d == 0 {
+        return Standing::Stands;
+    }
+    let mut i = scan::white_end(s, at);
+    let mut found = Standing::Stands;
+    while is_sound(found) {
+        let Next::Named(k) = rows::next_named(s, i, parent, past) else {
+            return Standing::Stands;
+        };
+        let c = k.child;
+        let h = k.holds;
+        i = c.after;
+        match h {
+            Holds::Text(f) => {
+                found = field_found(s, c, f);
+            }
+            Holds::Rows(q) => {
+                let inner = c.gt + 1;
+                let deeper = rows::rows_for(s, inner, q, past);
+                found = first_bad(s, inner, deeper, d - 1, past);
+            }
+        }
+    }
+    found
+}
+
+// What the content at a place comes to, of at most d levels.
+pub fn judge(s: &[u8], at: usize, parent: Parent, d: usize, past: &[u32]) -> Standing
+    requires { ⌜ (at ≤ length (now s)) × Noted (now s) (now past) ⌝ }
+    ensures { λ r. ⌜ r ≡ standingAt d parent (now (s .entry)) at ⌝ }
+{
+    match walk(s, at, parent, d, past) {
+        Breaking::Structure => Standing::StructureBreaks,
+        Breaking::Field => first_bad(s, at, parent, d, past),
+        Breaking::Nothing => Standing::Stands,
+    }
 }

@@ -7,42 +7,42 @@ use Rattle.rows.proofs.read_field.Tie as tie
 add-from : tie.Need-add-from
 add-from c = search needs
 
-sub-field-of : tie.Need-sub-field-of
-sub-field-of c = search needs
+sub-value-of : tie.Need-sub-value-of
+sub-value-of c = search needs
 
-part-field-of-start : tie.Need-part-field-of-start
-part-field-of-start c = search needs
+part-value-of-start : tie.Need-part-value-of-start
+part-value-of-start c = search needs
 
-part-field-of-end : tie.Need-part-field-of-end
-part-field-of-end c = search needs
+part-value-of-end : tie.Need-part-value-of-end
+part-value-of-end c = search needs
 
-field-of-requires : tie.Need-field-of-requires
-field-of-requires c κs = search needs
+value-of-requires : tie.Need-value-of-requires
+value-of-requires c κs = search needs
 
 enum-known-v : tie.Need-enum-known-v
 enum-known-v c = search needs
 
-enum-known-x : tie.Need-enum-known-x
-enum-known-x c = search needs
+enum-told : tie.Need-enum-told
+enum-told c = search needs
 
 returns : tie.Need-returns
 unfolding fieldRead
-returns c = ap (readAt (c .before .before .before .before .before .before .before .args .c)) (sym (c .before .v .given .1) ∙ c .before .before .before .field-of .ensures)
+returns c = ap (readAt (c .before .before .before .before .before .before .before .args .c)) (sym (c .before .v .given .1) ∙ c .before .before .before .value-of .ensures)
 
 returns-2 : tie.Need-returns-2
 unfolding fieldRead
-returns-2 c = ap (readAt (c .before .before .before .before .before .before .before .args .c)) (sym (c .before .x .given .1) ∙ c .before .before .before .field-of .ensures)
+returns-2 c = ap (readAt (c .before .before .before .before .before .before .args .c)) (sym (c .enum-told .given .1) ∙ c .before .before .value-of .ensures)
 
 pub read-field-spec : {M : Type 1} → statement M
 read-field-spec =
     tie.close
     (tie.spec
     add-from
-    sub-field-of
-    part-field-of-start
-    part-field-of-end
-    field-of-requires
+    sub-value-of
+    part-value-of-start
+    part-value-of-end
+    value-of-requires
     enum-known-v
-    enum-known-x
+    enum-told
     returns
     returns-2)

@@ -5,8 +5,8 @@ use borrow.Author.Tests.{not-true, not-false}
 use Rattle.structure.specs.Structure.{textOnly}
 use Rattle.standing.proofs.Laws.{field-other, field-judged}
 use borrow.Author.Needs.{needs}
-use Rattle.standing.proofs.field_standing.Statement.{statement}
-use Rattle.standing.proofs.field_standing.Tie as tie
+use Rattle.standing.proofs.field_breaking.Statement.{statement}
+use Rattle.standing.proofs.field_breaking.Tie as tie
 
 add-text-only : tie.Need-add-text-only
 add-text-only c = search needs
@@ -23,8 +23,8 @@ read-field-requires c κs = search needs
 enum-told : tie.Need-enum-told
 enum-told c = search needs
 
-enum-known-p : tie.Need-enum-known-p
-enum-known-p c = search needs
+enum-told-2 : tie.Need-enum-told-2
+enum-told-2 c = search needs
 
 returns-2 : tie.Need-returns-2
 returns-2 c =
@@ -33,11 +33,11 @@ returns-2 c =
 
 returns-3 : tie.Need-returns-3
 returns-3 c =
-    let o : textOnly (c .before .before .before .before .before .before .before .before .before .args .s .now) (c .before .before .before .before .before .before .before .before .before .args .c .gt + 1) ≡ true = sym (c .before .before .before .before .before .text-only .ensures) ∙ not-false _ (c .before .before .before .before .if1 .left) in
-    field-judged (c .before .before .before .before .before .before .before .before .before .args .s .now) (c .before .before .before .before .before .before .before .before .before .args .f) (c .before .before .before .before .before .before .before .before .before .args .c) _ o (sym (c .before .before .before .read-field .ensures) ∙ c .before .p .given .1)
+    let o : textOnly (c .before .before .before .before .before .before .before .before .args .s .now) (c .before .before .before .before .before .before .before .before .args .c .gt + 1) ≡ true = sym (c .before .before .before .before .text-only .ensures) ∙ not-false _ (c .before .before .before .if1 .left) in
+    field-judged (c .before .before .before .before .before .before .before .before .args .s .now) (c .before .before .before .before .before .before .before .before .args .f) (c .before .before .before .before .before .before .before .before .args .c) _ o (sym (c .before .before .read-field .ensures) ∙ c .enum-told2 .given .1)
 
-pub field-standing-spec : {M : Type 1} → statement M
-field-standing-spec =
+pub field-breaking-spec : {M : Type 1} → statement M
+field-breaking-spec =
     tie.close
     (tie.spec
     add-text-only
@@ -45,6 +45,6 @@ field-standing-spec =
     returns
     read-field-requires
     enum-told
-    enum-known-p
+    enum-told-2
     returns-2
     returns-3)

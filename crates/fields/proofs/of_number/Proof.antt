@@ -1,0 +1,18 @@
+use borrow.Author.Needs.{needs}
+use Rattle.fields.proofs.of_number.Statement.{statement}
+use Rattle.fields.proofs.of_number.Tie as tie
+
+enum-known-n : tie.Need-enum-known-n
+enum-known-n c = search needs
+
+enum-told : tie.Need-enum-told
+enum-told c = search needs
+
+returns : tie.Need-returns
+returns c = rw (c .before .n .given .1)
+
+returns-2 : tie.Need-returns-2
+returns-2 c = search needs
+
+pub of-number-spec : {M : Type 1} → statement M
+of-number-spec = tie.close (tie.spec enum-known-n enum-told returns returns-2)
