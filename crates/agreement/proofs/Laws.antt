@@ -13,8 +13,8 @@ use Rattle.tokens.specs.Tokens.{whiteAt}
 use Rattle.codes.specs.declared.Esito.{Esito}
 use Rattle.codes.specs.Codes.{esitoOperazione}
 use Rattle.digits.specs.Digits.{codiceErrore}
-use Rattle.rows.specs.declared.Parent.{Parent}
-use Rattle.rows.specs.declared.Parent.the-variants.{MessaggiEsito}
+use Rattle.schema.specs.declared.Parent.{Parent}
+use Rattle.schema.specs.declared.Parent.the-variants.{MessaggiEsito}
 use Rattle.rows.specs.declared.Kept.{Kept}
 use Rattle.rows.specs.declared.Next.{Next}
 use Rattle.rows.specs.declared.Next.the-variants.{Named, Done}
@@ -26,7 +26,7 @@ use Rattle.parts.specs.Parts.{noSpan, spanOfNext, spanIn, partsIn}
 use Rattle.parts.proofs.Laws.{row-at, row-end, at-span, at-text, There, absent, present, there}
 use Rattle.tree.specs.Orders.{Words}
 use Rattle.message.specs.Message.{numberName, totalName, progressivoName, elementName}
-use Rattle.rows.specs.declared.Holds.the-variants.{Rows}
+use Rattle.schema.specs.declared.Holds.the-variants.{Rows}
 use Rattle.agreement.specs.declared.EntryKind.{EntryKind}
 use Rattle.agreement.specs.declared.Off.{Off}
 use Rattle.agreement.specs.declared.Off.the-variants.{At, Nowhere}

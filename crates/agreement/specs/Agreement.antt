@@ -8,8 +8,8 @@ use Rattle.codes.specs.declared.Esito.{Esito}
 use Rattle.codes.specs.declared.Esito.the-variants.{Accepted, Refused, NoEsito}
 use Rattle.codes.specs.Codes.{esitoOperazione}
 use Rattle.digits.specs.Digits.{codiceErrore}
-use Rattle.rows.specs.declared.Parent.{Parent}
-use Rattle.rows.specs.declared.Parent.the-variants.{MessaggiEsito, EsitoReversali, EsitoMandati, ErroriReversali, ErroriMandati}
+use Rattle.schema.specs.declared.Parent.{Parent}
+use Rattle.schema.specs.declared.Parent.the-variants.{MessaggiEsito, EsitoReversali, EsitoMandati, ErroriReversali, ErroriMandati}
 use Rattle.rows.specs.declared.Kept.{Kept}
 use Rattle.rows.specs.declared.Next.{Next}
 use Rattle.rows.specs.declared.Next.the-variants.{Named, Done}
@@ -18,7 +18,7 @@ use Rattle.orders.specs.Orders.{inRow, textIn, valueOf, insideOf}
 use Rattle.parts.specs.Parts.{spanIn}
 use Rattle.tree.specs.Orders.{Words, mandatoWords, reversaleWords}
 use Rattle.message.specs.Message.{elementName}
-use Rattle.rows.specs.declared.Holds.the-variants.{Rows}
+use Rattle.schema.specs.declared.Holds.the-variants.{Rows}
 use Rattle.agreement.specs.declared.EntryKind.{EntryKind}
 use Rattle.agreement.specs.declared.EntryKind.the-variants.{Reversale, Mandato}
 use Rattle.agreement.specs.declared.Off.{Off}

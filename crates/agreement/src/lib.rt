@@ -2,13 +2,13 @@
 use codes::Esito;
 use digits::Number;
 use rows::Next;
-use rows::Parent;
+use schema::Parent;
 ghost use mathlib.Core.Path.{_≡_};
 ghost use Prim.Native.Nat.{_≤_};
 ghost use lib.ListN.{length};
 ghost use Rattle.scan.specs.Bytes.{bytes, textIs};
 ghost use Rattle.markup.specs.Noted.{Noted};
-ghost use Rattle.rows.specs.declared.Parent.the-variants.{MessaggiEsito};
+ghost use Rattle.schema.specs.declared.Parent.the-variants.{MessaggiEsito};
 ghost use Rattle.rows.specs.Kept.{keptFrom};
 ghost use Rattle.orders.specs.Orders.{valueOf, inRow};
 ghost use Rattle.tree.specs.Orders.{mandatoWords, reversaleWords};

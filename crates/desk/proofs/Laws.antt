@@ -12,7 +12,7 @@ use Rattle.scan.proofs.Laws.{run-within}
 use Rattle.tokens.specs.Tokens.{whiteAt}
 use Rattle.words.specs.Numbers.{put}
 use Rattle.markup.specs.Noted.{Noted}
-use Rattle.rows.specs.declared.Parent.{Parent}
+use Rattle.schema.specs.declared.Parent.{Parent}
 use Rattle.editions.specs.declared.Edition.{Edition}
 use Rattle.editions.specs.declared.Edited.the-variants.{By, NoEdition}
 use Rattle.editions.specs.Editions.{editionOf}

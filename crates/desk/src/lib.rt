@@ -6,7 +6,7 @@ use editions::Edition;
 use fields::Cause;
 use flow::Verdict;
 use header::Heading;
-use rows::Parent;
+use schema::Parent;
 ghost use mathlib.Core.Path.{_≡_};
 ghost use mathlib.Core.Bool.{true};
 ghost use Prim.Native.Nat.{ℕ, _+_, _*_, _≤_, _<_};

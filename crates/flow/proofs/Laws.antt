@@ -11,8 +11,8 @@ use Rattle.markup.specs.declared.Markup.the-variants.{Root, Breaks}
 use Rattle.markup.specs.Markup.{markupOf}
 use Rattle.markup.proofs.Laws.{markup-parts, root-placed}
 use Rattle.fields.specs.declared.Cause.{Cause}
-use Rattle.rows.specs.declared.Parent.{Parent}
-use Rattle.rows.specs.Table.{nameIs}
+use Rattle.schema.specs.declared.Parent.{Parent}
+use Rattle.schema.specs.Table.{nameIs}
 use Rattle.structure.specs.Structure.{fitsAt}
 use Rattle.editions.specs.declared.Edition.{Edition}
 use Rattle.header.specs.Header.{rootOf}

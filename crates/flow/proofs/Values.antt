@@ -30,14 +30,14 @@ use Rattle.fields.specs.Fields.{readingOf, judged, isNumber, isDay, fieldStands
 use Rattle.fields.proofs.Laws.{stands-holds}
 use Rattle.digits.proofs.Laws.{esercizio-range, numero-range, importo-range}
 use Rattle.dates.proofs.Laws.{data-real}
-use Rattle.rows.specs.declared.Parent.{Parent}
-use Rattle.rows.specs.declared.Parent.the-variants.{FlussoOrdinativi, Mandato, Reversale, InformazioniBeneficiario, InformazioniVersante, FlussoOpi, TestataFlusso}
-use Rattle.rows.specs.declared.Holds.{Holds}
-use Rattle.rows.specs.declared.Holds.the-variants.{Text, Rows}
+use Rattle.schema.specs.declared.Parent.{Parent}
+use Rattle.schema.specs.declared.Parent.the-variants.{FlussoOrdinativi, Mandato, Reversale, InformazioniBeneficiario, InformazioniVersante, FlussoOpi, TestataFlusso}
+use Rattle.schema.specs.declared.Holds.{Holds}
+use Rattle.schema.specs.declared.Holds.the-variants.{Text, Rows}
 use Rattle.rows.specs.declared.Kept.{Kept}
 use Rattle.rows.specs.declared.Next.{Next}
 use Rattle.rows.specs.declared.Next.the-variants.{Named, Done}
-use Rattle.rows.specs.Table.{table}
+use Rattle.schema.specs.Table.{table}
 use Rattle.rows.specs.Kept.{keptFrom, nextOf}
 use Rattle.rows.specs.Replaces.{replaces, rowsFor}
 use Rattle.children.proofs.Laws.{Lies}

@@ -8,9 +8,9 @@ use Rattle.tokens.specs.Tokens.{whiteAt}
 use Rattle.markup.specs.declared.Markup.{Markup}
 use Rattle.markup.specs.declared.Markup.the-variants.{Root, Breaks}
 use Rattle.markup.specs.Markup.{markupOf}
-use Rattle.rows.specs.declared.Parent.{Parent}
+use Rattle.schema.specs.declared.Parent.{Parent}
 use Rattle.rows.specs.declared.Kept.{Kept}
-use Rattle.rows.specs.Table.{nameIs}
+use Rattle.schema.specs.Table.{nameIs}
 use Rattle.rows.specs.Kept.{keptFrom}
 use Rattle.structure.specs.Structure.{fitsAt, levels}
 use Rattle.standing.specs.Readings.{Bad, Place, Nowhere, fieldsAt, firstBad}

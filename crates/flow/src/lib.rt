@@ -2,7 +2,7 @@
 use editions::Edition;
 use fields::Cause;
 use markup::Markup;
-use rows::Parent;
+use schema::Parent;
 use standing::Standing;
 ghost use mathlib.Core.Path.{_≡_};
 ghost use Prim.Native.Nat.{_+_, _≤_};
@@ -31,7 +31,7 @@ fn verdict_at(
     requires { ⌜ (lt + 1 ≤ e) × (e ≤ length (now s)) × (at ≤ length (now s)) × Noted (now s) (now past) ⌝ }
     ensures { λ r. ⌜ r ≡ byRoot (now (name .entry)) root (now (s .entry)) lt e at ⌝ }
 {
-    if !rows::is(s, lt + 1, e, name) {
+    if !schema::is(s, lt + 1, e, name) {
         return Verdict::StructureBreaks;
     }
     match standing::judge(s, at, root, 4, past) {

@@ -4,11 +4,11 @@ use mathlib.Core.Path.{_≡_}
 use mathlib.Core.List.{List, _∷_}
 use lib.ListN.{length}
 use Rattle.scan.specs.Bytes.{part}
-use Rattle.rows.specs.declared.Parent.{Parent}
+use Rattle.schema.specs.declared.Parent.{Parent}
 use Rattle.rows.specs.declared.Kept.{Kept}
 use Rattle.rows.specs.declared.Next.{Next}
 use Rattle.rows.specs.declared.Next.the-variants.{Named, Done}
-use Rattle.rows.specs.Table.{table}
+use Rattle.schema.specs.Table.{table}
 use Rattle.rows.specs.Kept.{keptFrom, nextOf}
 use Rattle.structure.specs.Structure.{Range, ranges}
 use Rattle.orders.specs.Shape.{Filled}

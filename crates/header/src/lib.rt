@@ -3,7 +3,7 @@
 use children::Child;
 use editions::Edition;
 use fields::Form;
-use rows::Parent;
+use schema::Parent;
 ghost use mathlib.Core.Path.{_≡_};
 ghost use Prim.Native.Nat.{_+_, _≤_};
 ghost use lib.ListN.{length};

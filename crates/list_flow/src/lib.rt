@@ -1,6 +1,6 @@
 // A flow's orders taken on one body's plain list, one after another, each on the list that the one before left, and their outcomes written.
 use rows::Next;
-use rows::Parent;
+use schema::Parent;
 use training::Book;
 ghost use Prim.Native.Nat.{_*_, _≤_};
 ghost use lib.ListN.{length};

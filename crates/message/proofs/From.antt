@@ -15,11 +15,11 @@ use Rattle.tokens.specs.Tokens.{whiteAt}
 use Rattle.grammar.specs.Grammar.{contentPlace}
 use Rattle.codes.specs.Codes.{operationNumber}
 use Rattle.fields.specs.declared.Form.the-variants.{CodiceAbi, Identificativo, CodiceEnte, DataOraZona}
-use Rattle.rows.specs.declared.Parent.{Parent}
-use Rattle.rows.specs.declared.Parent.the-variants.{FlussoOrdinativi, FlussoOpi, TestataFlusso}
-use Rattle.rows.specs.declared.Holds.the-variants.{Text, Rows}
+use Rattle.schema.specs.declared.Parent.{Parent}
+use Rattle.schema.specs.declared.Parent.the-variants.{FlussoOrdinativi, FlussoOpi, TestataFlusso}
+use Rattle.schema.specs.declared.Holds.the-variants.{Text, Rows}
 use Rattle.rows.specs.declared.Kept.{Kept}
-use Rattle.rows.specs.Table.{_is_, once}
+use Rattle.schema.specs.Table.{_is_, once}
 use Rattle.rows.specs.Kept.{keptFrom, nextOf}
 use Rattle.rows.specs.Replaces.{rowsFor}
 use Rattle.structure.specs.Structure.{levels}

@@ -14,13 +14,13 @@ use Rattle.fields.specs.declared.Form.{Form}
 use Rattle.fields.specs.declared.Judged.{Judged}
 use Rattle.fields.specs.declared.Judged.the-variants as judged
 use Rattle.fields.specs.Fields.{fieldStands}
-use Rattle.rows.specs.declared.Parent.{Parent}
+use Rattle.schema.specs.declared.Parent.{Parent}
 use Rattle.tree.specs.Structure.{replacesIn, rowsIn}
 use Rattle.tree.proofs.ByName.{Fixed}
-use Rattle.rows.specs.declared.Holds.{Holds}
-use Rattle.rows.specs.declared.Holds.the-variants.{Text as TextOf, Rows}
-use Rattle.rows.specs.declared.Spot.the-variants as spot
-use Rattle.rows.specs.Table.{_is_, table, many}
+use Rattle.schema.specs.declared.Holds.{Holds}
+use Rattle.schema.specs.declared.Holds.the-variants.{Text as TextOf, Rows}
+use Rattle.schema.specs.declared.Spot.the-variants as spot
+use Rattle.schema.specs.Table.{_is_, table, many}
 use Rattle.tree.specs.Tree.{Tree, tree, Trees, nameOf, heldOf, kidsIn}
 use Rattle.tree.specs.Orders.{childrenNamed, heldText, firstText, textNamed}
 use Rattle.tree.specs.Written.{Good, good, good-text, good-trees, GoodTrees, good-last, good-next}

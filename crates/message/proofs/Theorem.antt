@@ -19,9 +19,9 @@ use Rattle.codes.specs.declared.Esito.the-variants.{Accepted, Refused, NoEsito}
 use Rattle.codes.specs.Codes.{esitoOperazione}
 use Rattle.digits.specs.Digits.{codiceErrore}
 use Rattle.orders.specs.Orders.{valueOf}
-use Rattle.rows.specs.declared.Parent.{Parent}
-use Rattle.rows.specs.declared.Parent.the-variants.{MessaggiEsito, EsitoReversali, EsitoMandati}
-use Rattle.rows.specs.declared.Holds.the-variants.{Rows}
+use Rattle.schema.specs.declared.Parent.{Parent}
+use Rattle.schema.specs.declared.Parent.the-variants.{MessaggiEsito, EsitoReversali, EsitoMandati}
+use Rattle.schema.specs.declared.Holds.the-variants.{Rows}
 use Rattle.fields.specs.declared.Cause.{Cause}
 use Rattle.standing.specs.Readings.{Bad, Place, Nowhere, firstBad}
 use Rattle.editions.specs.declared.Edition.{Edition}

@@ -19,11 +19,11 @@ use Rattle.dates.proofs.Laws.{data-real}
 use Rattle.fields.specs.declared.Form.the-variants.{Identificativo, Esercizio, Numero, Data, Importo, DataOraZona, EsitoOperazione, CodiceErrore, Descrizione, Elemento}
 use Rattle.fields.specs.Fields.{fieldStands}
 use Rattle.orders.specs.Orders.{valueOf, dateOf}
-use Rattle.rows.specs.declared.Parent.{Parent}
+use Rattle.schema.specs.declared.Parent.{Parent}
 use Rattle.tree.proofs.ByName.{Fixed}
-use Rattle.rows.specs.declared.Parent.the-variants.{MessaggiEsito, TestataMessaggio, EsitoReversali, EsitoMandati, ErroriReversali, ErroriMandati}
-use Rattle.rows.specs.declared.Holds.the-variants.{Text as TextOf, Rows}
-use Rattle.rows.specs.Table.{table, entryRows, errorRows}
+use Rattle.schema.specs.declared.Parent.the-variants.{MessaggiEsito, TestataMessaggio, EsitoReversali, EsitoMandati, ErroriReversali, ErroriMandati}
+use Rattle.schema.specs.declared.Holds.the-variants.{Text as TextOf, Rows}
+use Rattle.schema.specs.Table.{table, entryRows, errorRows}
 use Rattle.tree.specs.Tree.{Tree, Trees, heldOf, kidsIn}
 use Rattle.tree.specs.Orders.{childrenNamed, Words, mandatoWords, reversaleWords, textNamed}
 use Rattle.tree.proofs.Values.{number-there, day-there}

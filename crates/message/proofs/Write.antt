@@ -27,11 +27,11 @@ use Rattle.fields.specs.declared.Judged.the-variants as judged
 use Rattle.fields.specs.declared.Judged.the-variants.{Stands}
 use Rattle.fields.specs.Fields.{fieldStands}
 use Rattle.orders.specs.Orders.{valueOf, dateOf}
-use Rattle.rows.specs.declared.Parent.{Parent}
-use Rattle.rows.specs.declared.Parent.the-variants.{MessaggiEsito, TestataMessaggio, EsitoReversali, EsitoMandati, ErroriReversali, ErroriMandati}
-use Rattle.rows.specs.declared.Spot.the-variants as spot
-use Rattle.rows.specs.declared.Holds.the-variants.{Text as TextOf, Rows}
-use Rattle.rows.specs.Table.{Named, _is_, Row, once, optional, table, entryRows, errorRows}
+use Rattle.schema.specs.declared.Parent.{Parent}
+use Rattle.schema.specs.declared.Parent.the-variants.{MessaggiEsito, TestataMessaggio, EsitoReversali, EsitoMandati, ErroriReversali, ErroriMandati}
+use Rattle.schema.specs.declared.Spot.the-variants as spot
+use Rattle.schema.specs.declared.Holds.the-variants.{Text as TextOf, Rows}
+use Rattle.schema.specs.Table.{Named, _is_, Row, once, optional, table, entryRows, errorRows}
 use Rattle.tree.specs.Tree.{Tree, Trees, none, more}
 use Rattle.tree.specs.Orders.{childrenNamed, Words, mandatoWords, reversaleWords, firstText, textNamed}
 use Rattle.tree.specs.Written.{leaf, node, Good, good, good-text, good-trees, GoodTrees, good-last, good-next}

@@ -18,8 +18,8 @@ use Rattle.fields.specs.declared.Cause.{Cause}
 use Rattle.fields.specs.declared.Cause.the-variants.{Misformed}
 use Rattle.fields.specs.Causes.{causeNumber}
 use Rattle.orders.specs.Orders.{valueOf, dateOf}
-use Rattle.rows.specs.declared.Parent.the-variants.{MessaggiEsito}
-use Rattle.rows.specs.declared.Holds.the-variants.{Rows}
+use Rattle.schema.specs.declared.Parent.the-variants.{MessaggiEsito}
+use Rattle.schema.specs.declared.Holds.the-variants.{Rows}
 use Rattle.standing.specs.Readings.{Bad, Place, Nowhere, firstBad}
 use Rattle.editions.specs.declared.Edition.{Edition}
 use Rattle.flow.specs.Flow.{idAllowed}

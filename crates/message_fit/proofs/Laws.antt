@@ -19,7 +19,7 @@ use Rattle.dates.specs.Dates.{dataOraZona}
 use Rattle.fields.specs.declared.Form.the-variants.{DataOraZona, Testo}
 use Rattle.fields.specs.declared.Judged.the-variants.{Stands}
 use Rattle.fields.specs.Fields.{judged, fieldStands}
-use Rattle.rows.specs.declared.Parent.{Parent}
+use Rattle.schema.specs.declared.Parent.{Parent}
 use Rattle.rows.specs.declared.Kept.{Kept}
 use Rattle.rows.specs.declared.Next.the-variants.{Named, Done}
 use Rattle.rows.specs.Kept.{keptFrom, nextOf}

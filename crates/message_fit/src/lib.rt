@@ -1,7 +1,7 @@
 // Whether a message can be written: the outcome bytes are this flow's, and the caller's values have their forms.
 use order::Order;
 use rows::Next;
-use rows::Parent;
+use schema::Parent;
 ghost use mathlib.Core.Path.{_≡_};
 ghost use Prim.Native.Nat.{_+_, _≤_, _<_};
 ghost use lib.ListN.{length, drop};

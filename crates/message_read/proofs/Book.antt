@@ -20,10 +20,10 @@ use Rattle.fields.specs.declared.Cause.{Cause}
 use Rattle.fields.specs.declared.Cause.the-variants.{Misformed}
 use Rattle.fields.specs.Causes.{causeNumber}
 use Rattle.words.specs.Numbers.{put}
-use Rattle.rows.specs.declared.Parent.the-variants.{MessaggiEsito, TestataMessaggio, EsitoReversali, EsitoMandati}
-use Rattle.rows.specs.declared.Holds.the-variants.{Text, Rows}
+use Rattle.schema.specs.declared.Parent.the-variants.{MessaggiEsito, TestataMessaggio, EsitoReversali, EsitoMandati}
+use Rattle.schema.specs.declared.Holds.the-variants.{Text, Rows}
 use Rattle.rows.specs.declared.Kept.{Kept}
-use Rattle.rows.specs.Table.{table, nameIs}
+use Rattle.schema.specs.Table.{table, nameIs}
 use Rattle.rows.specs.Kept.{keptFrom, nextOf}
 use Rattle.structure.specs.Structure.{fitsAt}
 use Rattle.standing.specs.Readings.{Bad, Place, Nowhere, fieldsAt, firstBad}

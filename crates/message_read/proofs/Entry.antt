@@ -18,8 +18,8 @@ use Rattle.dates.specs.Dates.{dataOf}
 use Rattle.fields.specs.declared.Form.the-variants.{Identificativo, Esercizio, Numero, Data, Importo, DataOraZona, EsitoOperazione, CodiceErrore, Descrizione, Elemento}
 use Rattle.fields.specs.declared.Cause.the-variants.{Misformed}
 use Rattle.words.specs.Numbers.{bytes8}
-use Rattle.rows.specs.declared.Parent.{Parent}
-use Rattle.rows.specs.declared.Holds.the-variants.{Rows}
+use Rattle.schema.specs.declared.Parent.{Parent}
+use Rattle.schema.specs.declared.Holds.the-variants.{Rows}
 use Rattle.rows.specs.declared.Kept.{Kept}
 use Rattle.rows.specs.declared.Next.the-variants.{Named, Done}
 use Rattle.rows.specs.Kept.{keptFrom, nextOf}

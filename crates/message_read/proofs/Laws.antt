@@ -14,10 +14,10 @@ use Rattle.fields.specs.declared.Cause.{Cause}
 use Rattle.fields.specs.declared.Cause.the-variants.{Misformed}
 use Rattle.words.specs.Numbers.{put}
 use Rattle.words.proofs.Laws.{length-put, put-put}
-use Rattle.rows.specs.declared.Parent.the-variants.{MessaggiEsito, TestataMessaggio}
+use Rattle.schema.specs.declared.Parent.the-variants.{MessaggiEsito, TestataMessaggio}
 use Rattle.rows.specs.declared.Kept.{Kept}
 use Rattle.rows.specs.declared.Next.the-variants.{Named, Done}
-use Rattle.rows.specs.Table.{nameIs}
+use Rattle.schema.specs.Table.{nameIs}
 use Rattle.rows.specs.Kept.{keptFrom, nextOf}
 use Rattle.children.proofs.Laws.{Lies}
 use Rattle.orders.specs.Orders.{inRow, insideOf}
@@ -34,7 +34,7 @@ use Rattle.agreement.specs.Agreement.{entryParent, entryRow, entriesOf, offFrom
 use Rattle.message.specs.Message.{countOk}
 use Rattle.message_values.specs.Values.{spanBytes, spansBytes, entryAt, entriesAt, headAt, valuesFrom}
 use Rattle.message_values.proofs.Laws.{entry-length, spans-length}
-use Rattle.rows.specs.declared.Holds.the-variants.{Rows}
+use Rattle.schema.specs.declared.Holds.the-variants.{Rows}
 use Rattle.message_read.specs.declared.MessageStanding.{MessageStanding}
 use Rattle.message_read.specs.declared.MessageStanding.the-variants.{Structure, Field, Stands}
 use Rattle.message_read.specs.declared.Reply.{Reply}

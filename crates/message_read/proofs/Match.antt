@@ -15,13 +15,13 @@ use Rattle.words.specs.Numbers.{bytes4}
 use Rattle.children.specs.declared.Child.{Child}
 use Rattle.children.specs.Child.{childrenFrom}
 use Rattle.children.proofs.Laws.{Lies}
-use Rattle.rows.specs.declared.Parent.{Parent}
-use Rattle.rows.specs.declared.Holds.{Holds}
-use Rattle.rows.specs.declared.Holds.the-variants.{Text, Rows}
+use Rattle.schema.specs.declared.Parent.{Parent}
+use Rattle.schema.specs.declared.Holds.{Holds}
+use Rattle.schema.specs.declared.Holds.the-variants.{Text, Rows}
 use Rattle.rows.specs.declared.Kept.{Kept}
 use Rattle.rows.specs.declared.Next.{Next}
 use Rattle.rows.specs.declared.Next.the-variants.{Named, Done}
-use Rattle.rows.specs.Table.{_is_, many}
+use Rattle.schema.specs.Table.{_is_, many}
 use Rattle.rows.specs.Kept.{keptFrom, nextOf}
 use Rattle.structure.specs.Structure.{textOnly}
 use Rattle.orders.specs.Orders.{inRow, textIn}

@@ -11,8 +11,8 @@ use Rattle.words.specs.Numbers.{put}
 use Rattle.fields.specs.declared.Cause.{Cause}
 use Rattle.fields.specs.declared.Cause.the-variants.{Misformed}
 use Rattle.fields.specs.Causes.{causeNumber}
-use Rattle.rows.specs.declared.Parent.the-variants.{MessaggiEsito}
-use Rattle.rows.specs.Table.{nameIs}
+use Rattle.schema.specs.declared.Parent.the-variants.{MessaggiEsito}
+use Rattle.schema.specs.Table.{nameIs}
 use Rattle.standing.specs.declared.Standing.{Standing}
 use Rattle.standing.specs.declared.Standing.the-variants as standing
 use Rattle.standing.specs.Standing.{standingAt}

@@ -7,7 +7,7 @@ use editions::Edition;
 use fields::Cause;
 use markup::Markup;
 use rows::Next;
-use rows::Parent;
+use schema::Parent;
 use standing::Standing;
 ghost use mathlib.Core.Path.{_≡_};
 ghost use Prim.Native.Nat.{_+_, _≤_};
@@ -175,7 +175,7 @@ fn read_root(s: &[u8], lt: usize, e: usize, at: usize, values: &mut [u8], past: 
     ensures { λ r. ⌜ ReadGives (now (s .entry)) (now (values .entry)) (whiteAt (now (s .entry)) at) (judgedOf (now (s .entry)) lt e at) r
         (now (values .exit)) ⌝ }
 {
-    if !rows::is(s, lt + 1, e, b"messaggi_esito_applicativo") {
+    if !schema::is(s, lt + 1, e, b"messaggi_esito_applicativo") {
         return refusal(4, 0, 0);
     }
     read_content(s, at, values, past)

@@ -20,7 +20,7 @@ use Rattle.digits.specs.Digits.{digits, within, esercizio, numero, importo, cod
 use Rattle.dates.specs.Dates.{dataOf}
 use Rattle.words.specs.Numbers.{put, bytes4, bytes8}
 use Rattle.words.proofs.Laws.{length-put, put-nil, put-put}
-use Rattle.rows.specs.declared.Parent.the-variants.{MessaggiEsito, TestataMessaggio}
+use Rattle.schema.specs.declared.Parent.the-variants.{MessaggiEsito, TestataMessaggio}
 use Rattle.rows.specs.declared.Kept.{Kept}
 use Rattle.rows.specs.declared.Next.the-variants.{Named, Done}
 use Rattle.rows.specs.Kept.{keptFrom, nextOf}
@@ -32,7 +32,7 @@ use Rattle.parts.proofs.Laws.{row-at, row-end, at-span, at-text}
 use Rattle.message.specs.Read.{operationIn}
 use Rattle.agreement.specs.declared.EntryKind.{EntryKind}
 use Rattle.agreement.specs.Agreement.{entryParent, errorsParent, entryRow, entriesOf}
-use Rattle.rows.specs.declared.Holds.the-variants.{Rows}
+use Rattle.schema.specs.declared.Holds.the-variants.{Rows}
 use Rattle.message_values.specs.declared.Facts.{Facts}
 use Rattle.message_values.specs.Values.{kindNumber, spanBytes, spansBytes, factsBytes, errorCodeAt, factsAt, partsBytes, entryBy, entryAt, entriesAt, headAt}
 

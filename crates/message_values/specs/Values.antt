@@ -10,7 +10,7 @@ use Rattle.digits.specs.Digits.{esercizio, numero, importo, codiceErrore}
 use Rattle.dates.specs.Dates.{dataOf}
 use Rattle.words.specs.Numbers.{bytes2, bytes4, bytes8}
 use Rattle.record.specs.Slot.{mandatoKind, reversaleKind}
-use Rattle.rows.specs.declared.Parent.the-variants.{MessaggiEsito, TestataMessaggio}
+use Rattle.schema.specs.declared.Parent.the-variants.{MessaggiEsito, TestataMessaggio}
 use Rattle.rows.specs.declared.Kept.{Kept}
 use Rattle.rows.specs.Kept.{keptFrom}
 use Rattle.orders.specs.Orders.{textIn, valueOf, dateOf, insideOf}
@@ -20,7 +20,7 @@ use Rattle.message.specs.Read.{operationIn}
 use Rattle.agreement.specs.declared.EntryKind.{EntryKind}
 use Rattle.agreement.specs.declared.EntryKind.the-variants.{Reversale, Mandato}
 use Rattle.agreement.specs.Agreement.{entryParent, errorsParent, entriesOf}
-use Rattle.rows.specs.declared.Holds.the-variants.{Rows}
+use Rattle.schema.specs.declared.Holds.the-variants.{Rows}
 use Rattle.message_values.specs.declared.Facts.{Facts}
 
 abbrev pub entryRoom : ℕ

@@ -8,7 +8,7 @@ use dates::Day;
 use digits::Number;
 use parts::Span;
 use rows::Next;
-use rows::Parent;
+use schema::Parent;
 ghost use mathlib.Core.Path.{_≡_};
 ghost use Prim.Native.Nat.{ℕ, _+_, _*_, _≤_, _<_};
 ghost use lib.ListN.{length, getD};
@@ -18,7 +18,7 @@ ghost use Rattle.digits.specs.Digits.{esercizio, numero, importo, codiceErrore}
 ghost use Rattle.dates.specs.Dates.{dataOf};
 ghost use Rattle.markup.specs.Noted.{Noted};
 ghost use Rattle.words.specs.Numbers.{put};
-ghost use Rattle.rows.specs.declared.Parent.the-variants.{MessaggiEsito};
+ghost use Rattle.schema.specs.declared.Parent.the-variants.{MessaggiEsito};
 ghost use Rattle.rows.specs.Kept.{keptFrom};
 ghost use Rattle.orders.specs.Orders.{valueOf, dateOf};
 ghost use Rattle.parts.specs.Parts.{noSpan, AllWithin};

@@ -6,7 +6,7 @@ use mathlib.Core.Bool.{true, cond}
 use lib.ListN.{length}
 use lib.Dec.{eqb}
 use Rattle.scan.specs.Bytes.{byteAt, part}
-use Rattle.rows.specs.declared.Parent.{Parent}
+use Rattle.schema.specs.declared.Parent.{Parent}
 use Rattle.rows.specs.declared.Kept.{Kept}
 use Rattle.rows.specs.Kept.{keptFrom}
 use Rattle.record.specs.Slot.{mandatoKind, reversaleKind}

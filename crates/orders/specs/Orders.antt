@@ -18,9 +18,9 @@ use Rattle.codes.specs.declared.Asked.the-variants.{Operazione, NoOperation}
 use Rattle.codes.specs.Codes.{tipoOperazione}
 use Rattle.digits.specs.Digits.{numero, importo, progressivo, esercizio}
 use Rattle.dates.specs.Dates.{dataOf}
-use Rattle.rows.specs.declared.Parent.the-variants.{FlussoOrdinativi, Mandato, Reversale, InformazioniBeneficiario, InformazioniVersante, SostituzioneMandato, SostituzioneReversale, Beneficiario, Versante, MessaggiEsito, TestataMessaggio, EsitoReversali, EsitoMandati, ErroriReversali, ErroriMandati, FlussoOpi, TestataFlusso}
-use Rattle.rows.specs.declared.Holds.{Holds}
-use Rattle.rows.specs.declared.Holds.the-variants.{Text, Rows}
+use Rattle.schema.specs.declared.Parent.the-variants.{FlussoOrdinativi, Mandato, Reversale, InformazioniBeneficiario, InformazioniVersante, SostituzioneMandato, SostituzioneReversale, Beneficiario, Versante, MessaggiEsito, TestataMessaggio, EsitoReversali, EsitoMandati, ErroriReversali, ErroriMandati, FlussoOpi, TestataFlusso}
+use Rattle.schema.specs.declared.Holds.{Holds}
+use Rattle.schema.specs.declared.Holds.the-variants.{Text, Rows}
 use Rattle.rows.specs.declared.Kept.{Kept}
 use Rattle.rows.specs.declared.Next.{Next}
 use Rattle.rows.specs.declared.Next.the-variants.{Named, Done}

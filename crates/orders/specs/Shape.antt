@@ -4,12 +4,12 @@ use mathlib.Core.Path.{_≡_}
 use mathlib.Core.List.{List, []}
 use mathlib.Core.Bool.{Bool, true, false}
 use lib.ListN.{length}
-use Rattle.rows.specs.declared.Parent.{Parent}
-use Rattle.rows.specs.declared.Parent.the-variants.{FlussoOrdinativi, Mandato, Reversale, InformazioniBeneficiario, InformazioniVersante, SostituzioneMandato, SostituzioneReversale, Beneficiario, Versante, MessaggiEsito, TestataMessaggio, EsitoReversali, EsitoMandati, ErroriReversali, ErroriMandati, FlussoOpi, TestataFlusso}
-use Rattle.rows.specs.declared.Holds.{Holds}
-use Rattle.rows.specs.declared.Holds.the-variants.{Text, Rows}
+use Rattle.schema.specs.declared.Parent.{Parent}
+use Rattle.schema.specs.declared.Parent.the-variants.{FlussoOrdinativi, Mandato, Reversale, InformazioniBeneficiario, InformazioniVersante, SostituzioneMandato, SostituzioneReversale, Beneficiario, Versante, MessaggiEsito, TestataMessaggio, EsitoReversali, EsitoMandati, ErroriReversali, ErroriMandati, FlussoOpi, TestataFlusso}
+use Rattle.schema.specs.declared.Holds.{Holds}
+use Rattle.schema.specs.declared.Holds.the-variants.{Text, Rows}
 use Rattle.rows.specs.declared.Kept.{Kept}
-use Rattle.rows.specs.Table.{table}
+use Rattle.schema.specs.Table.{table}
 use Rattle.rows.specs.Kept.{keptFrom}
 use Rattle.structure.specs.Structure.{Range, ranges, rowsOf, inOrder, allKept, keptHolds, fitsAt}
 

@@ -10,7 +10,7 @@ use lib.Seq.{getD-set-same, getD-set-other}
 use lib.Dec.{eqb}
 use borrow.Author.Tests.{eqb-true, eqb-false}
 use Rattle.scan.specs.Bytes.{part}
-use Rattle.rows.specs.declared.Parent.{Parent}
+use Rattle.schema.specs.declared.Parent.{Parent}
 use Rattle.rows.specs.declared.Kept.{Kept}
 use Rattle.rows.specs.declared.Next.{Next}
 use Rattle.rows.specs.declared.Next.the-variants.{Named, Done}

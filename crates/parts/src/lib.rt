@@ -1,6 +1,6 @@
 // The parts of an element, in one walk over its named children: for each row of its table where the first child there stands.
 use rows::Next;
-use rows::Parent;
+use schema::Parent;
 ghost use mathlib.Core.Path.{_≡_};
 ghost use Prim.Native.Nat.{_≤_};
 ghost use lib.ListN.{length};

@@ -5,9 +5,9 @@ use fields::Longest;
 use markup::Markup;
 use printing::say;
 use printing::say_number;
-use rows::Holds;
-use rows::Parent;
-use rows::Spot;
+use schema::Holds;
+use schema::Parent;
+use schema::Spot;
 ghost use lib.ListN.{length};
 ghost use Rattle.io.specs.Counts.{Counts};
 

@@ -7,7 +7,7 @@ use flow::Verdict;
 use header::Heading;
 use ranges::Found;
 use room::Room;
-use rows::Parent;
+use schema::Parent;
 ghost use mathlib.Core.Path.{_≡_};
 ghost use Prim.Native.Nat.{_≤_, _<_};
 ghost use lib.ListN.{length};

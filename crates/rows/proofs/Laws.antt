@@ -1,7 +1,7 @@
 -- Laws of the named children.
 use mathlib.Core.Path.{_≡_, refl, sym, ap, _∙_}
 use mathlib.Core.List.{List, [], _∷_}
-use mathlib.Core.Bool.{Bool, true, false}
+use mathlib.Core.Bool.{Bool, false}
 use Prim.Native.Nat.{ℕ, zero, suc, _+_, _-_, _<_}
 use native.Mathlib.Omega.{arith}
 use lib.ListN.{length}
@@ -10,21 +10,18 @@ use Rattle.children.specs.declared.Step.{Step}
 use Rattle.children.specs.declared.Step.the-variants.{One, End}
 use Rattle.children.specs.Child.{childAt}
 use Rattle.children.proofs.Laws.{Lies, child-lies, children-end, children-one}
-use Rattle.rows.specs.declared.Parent.{Parent}
-use Rattle.rows.specs.declared.Spot.{Spot}
-use Rattle.rows.specs.declared.Spot.the-variants.{At, Passed}
-use Rattle.rows.specs.declared.Holds.{Holds}
+use Rattle.schema.specs.declared.Parent.{Parent}
+use Rattle.schema.specs.declared.Spot.{Spot}
+use Rattle.schema.specs.declared.Spot.the-variants.{At, Passed}
+use Rattle.schema.specs.declared.Holds.{Holds}
 use Rattle.rows.specs.declared.Kept.{Kept}
 use Rattle.rows.specs.declared.Next.the-variants.{Named, Done}
-use Rattle.rows.specs.Table.{nameIs, table, spotIn}
+use Rattle.schema.specs.Table.{nameIs, table, spotIn}
 use Rattle.rows.specs.Kept.{keep, keptFrom, nextOf}
 use Rattle.rows.specs.Replaces.{replaces, asReplacing, rowsFor}
 use Rattle.tokens.specs.Tokens.{whiteAt}
 use Rattle.scan.specs.Bytes.{bytes}
 use borrow.Author.Tests.{eq-eqb, ne-eqb}
-
-pub not-both : {A : Type 0} → _≡_ {A = Bool} false true → A
-not-both e = let z : _≡_ {A = ℕ} 0 1 = cc in absurd (omega arith)
 
 module _ (p : Parent) (s : List ℕ) (i : ℕ) where
   pub kept-end : childAt s i ≡ End → keptFrom p s i ≡ []

@@ -2,14 +2,14 @@
 use Prim.Native.Nat.{ℕ, _+_}
 use mathlib.Core.List.{List, [], _∷_}
 use Rattle.children.specs.declared.Child.{Child}
-use Rattle.rows.specs.declared.Parent.{Parent}
-use Rattle.rows.specs.declared.Spot.{Spot}
-use Rattle.rows.specs.declared.Spot.the-variants.{At, Passed}
+use Rattle.schema.specs.declared.Parent.{Parent}
+use Rattle.schema.specs.declared.Spot.{Spot}
+use Rattle.schema.specs.declared.Spot.the-variants.{At, Passed}
 use Rattle.rows.specs.declared.Kept.{Kept}
 use Rattle.rows.specs.declared.Next.{Next}
 use Rattle.rows.specs.declared.Next.the-variants.{Named, Done}
 use Rattle.children.specs.Child.{childrenFrom}
-use Rattle.rows.specs.Table.{table, spotIn}
+use Rattle.schema.specs.Table.{table, spotIn}
 
 abbrev pub keepOne : Spot → Child → List Kept → List Kept
 keepOne (At n h) c ks = record { child = c; row = n; holds = h } ∷ ks

@@ -1,5 +1,3 @@
-pub mod Table
 pub mod Kept
 pub mod Read
-pub mod Inner
 pub mod Replaces

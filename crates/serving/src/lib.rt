@@ -1,7 +1,7 @@
 // A flow's orders served one after another, each on the table that the one before left, and its outcome written.
 use rows::Next;
-use rows::Parent;
 use rules::Ruling;
+use schema::Parent;
 ghost use mathlib.Core.Path.{_≡_};
 ghost use mathlib.Core.Bool.{cond};
 ghost use Prim.Native.Nat.{_+_, _*_, _≤_};

@@ -16,14 +16,14 @@ use Rattle.fields.specs.Fields.{told, fieldValue}
 use Rattle.rows.specs.declared.FieldRead.{FieldRead}
 use Rattle.rows.specs.declared.FieldRead.the-variants.{Said, Broken}
 use Rattle.rows.specs.Read.{readAt, fieldRead}
-use Rattle.rows.specs.declared.Parent.{Parent}
-use Rattle.rows.specs.declared.Holds as held
-use Rattle.rows.specs.declared.Holds.the-variants.{Text, Rows}
+use Rattle.schema.specs.declared.Parent.{Parent}
+use Rattle.schema.specs.declared.Holds as held
+use Rattle.schema.specs.declared.Holds.the-variants.{Text, Rows}
 use Rattle.rows.specs.declared.Kept.{Kept}
 use Rattle.rows.specs.declared.Next.the-variants.{Named, Done}
 use Rattle.children.specs.declared.Child.{Child}
 use Rattle.children.proofs.Laws.{Lies}
-use Rattle.rows.specs.Table.{table}
+use Rattle.schema.specs.Table.{table}
 use Rattle.rows.specs.Kept.{keptFrom, nextOf}
 use Rattle.rows.specs.Replaces.{rowsFor}
 use Rattle.rows.proofs.Laws.{next-at, next-done}

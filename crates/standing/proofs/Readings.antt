@@ -8,7 +8,7 @@ use Rattle.fields.specs.declared.Cause.{Cause}
 use Rattle.fields.specs.declared.Reading.{Reading}
 use Rattle.fields.specs.declared.Reading.the-variants as reading
 use Rattle.fields.specs.Fields.{readingOf}
-use Rattle.rows.specs.declared.Parent.{Parent}
+use Rattle.schema.specs.declared.Parent.{Parent}
 use Rattle.rows.specs.Kept.{keptFrom}
 use Rattle.standing.specs.Readings.{Field, Bad, Place, Nowhere, fieldsBy, fieldsAt, badOr, firstBad}
 

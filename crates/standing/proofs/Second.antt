@@ -8,9 +8,9 @@ use lib.ListN.{length}
 use Rattle.tokens.specs.Tokens.{whiteAt}
 use Rattle.children.specs.declared.Child.{Child}
 use Rattle.fields.specs.declared.Reading.{Reading}
-use Rattle.rows.specs.declared.Parent.{Parent}
-use Rattle.rows.specs.declared.Holds as held
-use Rattle.rows.specs.declared.Holds.the-variants.{Text, Rows}
+use Rattle.schema.specs.declared.Parent.{Parent}
+use Rattle.schema.specs.declared.Holds as held
+use Rattle.schema.specs.declared.Holds.the-variants.{Text, Rows}
 use Rattle.rows.specs.declared.Kept.{Kept}
 use Rattle.rows.specs.declared.Next.the-variants.{Named, Done}
 use Rattle.rows.specs.Kept.{keptFrom, nextOf}

@@ -19,13 +19,13 @@ use Rattle.fields.specs.declared.Reading.the-variants as reading
 use Rattle.fields.specs.Causes.{causeOf}
 use Rattle.fields.specs.Fields.{readingOf, fieldStands}
 use Rattle.fields.proofs.Told.{breaks}
-use Rattle.rows.specs.declared.Parent.{Parent}
-use Rattle.rows.specs.declared.Holds.{Holds}
-use Rattle.rows.specs.declared.Holds.the-variants.{Text, Rows}
-use Rattle.rows.specs.declared.Spot.{Spot}
-use Rattle.rows.specs.declared.Spot.the-variants.{At, Passed}
+use Rattle.schema.specs.declared.Parent.{Parent}
+use Rattle.schema.specs.declared.Holds.{Holds}
+use Rattle.schema.specs.declared.Holds.the-variants.{Text, Rows}
+use Rattle.schema.specs.declared.Spot.{Spot}
+use Rattle.schema.specs.declared.Spot.the-variants.{At, Passed}
 use Rattle.rows.specs.declared.Kept.{Kept}
-use Rattle.rows.specs.Table.{table, spotIn}
+use Rattle.schema.specs.Table.{table, spotIn}
 use Rattle.rows.specs.Kept.{keepOne, keep, keptFrom}
 use Rattle.rows.specs.Replaces.{rowsFor}
 use Rattle.standing.specs.Readings.{Field, Bad, Place, Nowhere, textOf, fieldsIn, fieldsBy, fieldsAt, badOr, firstBad}

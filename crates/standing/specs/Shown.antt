@@ -8,10 +8,10 @@ use Rattle.fields.specs.declared.Form.{Form}
 use Rattle.fields.specs.declared.Judged.the-variants.{Breaks}
 use Rattle.fields.specs.Causes.{causeOf}
 use Rattle.fields.specs.Fields.{fieldStands}
-use Rattle.rows.specs.declared.Parent.{Parent}
-use Rattle.rows.specs.declared.Holds.the-variants.{Text}
-use Rattle.rows.specs.declared.Spot.the-variants.{At}
-use Rattle.rows.specs.Table.{table, spotIn}
+use Rattle.schema.specs.declared.Parent.{Parent}
+use Rattle.schema.specs.declared.Holds.the-variants.{Text}
+use Rattle.schema.specs.declared.Spot.the-variants.{At}
+use Rattle.schema.specs.Table.{table, spotIn}
 
 -- the name that stands where `field_at` says is one of a parent's table, of this form, and the text that stands where it says breaks the form
 pub record Shown (s : List ℕ) (place : ℕ) (cause : Cause) : Type 0 where

@@ -6,7 +6,7 @@ use Rattle.scan.specs.Bytes.{part}
 use Rattle.children.specs.declared.Child.{Child}
 use Rattle.fields.specs.declared.Form.{Form}
 use Rattle.fields.specs.Fields.{readingOf}
-use Rattle.rows.specs.declared.Parent.{Parent}
+use Rattle.schema.specs.declared.Parent.{Parent}
 use Rattle.structure.specs.Structure.{textOnly, fitsAt}
 use Rattle.standing.specs.declared.Standing.{Standing}
 use Rattle.standing.specs.declared.Standing.the-variants.{StructureBreaks, FieldBreaks, Stands}

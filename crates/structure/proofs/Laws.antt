@@ -12,15 +12,15 @@ use Rattle.scan.specs.Bytes.{bytes, run}
 use Rattle.scan.proofs.Laws.{both}
 use Rattle.tokens.specs.Tokens.{whiteAt}
 use Rattle.children.specs.declared.Child.{Child}
-use Rattle.rows.specs.declared.Parent.{Parent}
-use Rattle.rows.specs.declared.Parent.the-variants.{InformazioniBeneficiario, InformazioniVersante}
-use Rattle.rows.specs.declared.Holds.{Holds}
-use Rattle.rows.specs.declared.Spot.{Spot}
-use Rattle.rows.specs.declared.Spot.the-variants.{At, Passed}
+use Rattle.schema.specs.declared.Parent.{Parent}
+use Rattle.schema.specs.declared.Parent.the-variants.{InformazioniBeneficiario, InformazioniVersante}
+use Rattle.schema.specs.declared.Holds.{Holds}
+use Rattle.schema.specs.declared.Spot.{Spot}
+use Rattle.schema.specs.declared.Spot.the-variants.{At, Passed}
 use Rattle.rows.specs.declared.Kept.{Kept}
 use Rattle.rows.specs.declared.Next.the-variants as next
 use Rattle.children.specs.Child.{childrenFrom}
-use Rattle.rows.specs.Table.{Named, _is_, Row, table, nameIs, among, spotIn}
+use Rattle.schema.specs.Table.{Named, _is_, Row, table, nameIs, among, spotIn}
 use Rattle.rows.specs.Kept.{keepOne, keep, keptFrom, nextOf}
 use Rattle.rows.proofs.Laws.{next-at, next-done}
 use Rattle.structure.specs.Structure.{isNil, allKept, Range, ranges, takes, rowsOf, isRow, inOrder, keptHolds, fitBy, fitsAt}

@@ -12,12 +12,12 @@ use borrow.Author.Tests.{eq-eqb, ne-eqb, le-leb, lt-leb, leb-true, leb-false}
 use Rattle.scan.specs.Bytes.{between, run}
 use Rattle.tokens.specs.Tokens.{whiteAt}
 use Rattle.children.specs.declared.Child.{Child}
-use Rattle.rows.specs.declared.Parent.{Parent}
-use Rattle.rows.specs.declared.Parent.the-variants.{FlussoOrdinativi, Mandato, Reversale, InformazioniBeneficiario, InformazioniVersante, SostituzioneMandato, SostituzioneReversale, Beneficiario, Versante, MessaggiEsito, TestataMessaggio, EsitoReversali, EsitoMandati, ErroriReversali, ErroriMandati, FlussoOpi, TestataFlusso}
+use Rattle.schema.specs.declared.Parent.{Parent}
+use Rattle.schema.specs.declared.Parent.the-variants.{FlussoOrdinativi, Mandato, Reversale, InformazioniBeneficiario, InformazioniVersante, SostituzioneMandato, SostituzioneReversale, Beneficiario, Versante, MessaggiEsito, TestataMessaggio, EsitoReversali, EsitoMandati, ErroriReversali, ErroriMandati, FlussoOpi, TestataFlusso}
 use Rattle.children.specs.declared.Step.the-variants.{One, End}
 use Rattle.rows.specs.declared.Kept.{Kept}
 use Rattle.children.specs.Child.{childAt}
-use Rattle.rows.specs.Table.{table}
+use Rattle.schema.specs.Table.{table}
 use Rattle.rows.specs.declared.Next.the-variants.{Named, Done}
 use Rattle.rows.specs.Kept.{keptFrom, nextOf}
 use Rattle.rows.proofs.Laws.{next-at, next-done}

@@ -6,12 +6,12 @@ use lib.ListN.{drop}
 use lib.Dec.{eqb}
 use Rattle.scan.specs.Bytes.{between, run}
 use Rattle.tokens.specs.Tokens.{whiteAt}
-use Rattle.rows.specs.declared.Parent.{Parent}
-use Rattle.rows.specs.declared.Holds.{Holds}
-use Rattle.rows.specs.declared.Holds.the-variants.{Text, Rows}
+use Rattle.schema.specs.declared.Parent.{Parent}
+use Rattle.schema.specs.declared.Holds.{Holds}
+use Rattle.schema.specs.declared.Holds.the-variants.{Text, Rows}
 use Rattle.rows.specs.declared.Kept.{Kept}
 use Rattle.children.specs.Child.{childrenFrom}
-use Rattle.rows.specs.Table.{Row, table}
+use Rattle.schema.specs.Table.{Row, table}
 use Rattle.rows.specs.Kept.{keptFrom}
 use Rattle.rows.specs.Replaces.{rowsFor}
 

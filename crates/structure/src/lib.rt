@@ -1,11 +1,11 @@
 // The structure of a flow, as its walk asks it: which number of elements a row takes, and that a field holds no element.
 use children::Step;
-use rows::Parent;
+use schema::Parent;
 ghost use mathlib.Core.Path.{_≡_};
 ghost use Prim.Native.Nat.{_+_, _≤_, _<_};
 ghost use lib.ListN.{length};
 ghost use Rattle.markup.specs.Noted.{Noted};
-ghost use Rattle.rows.specs.Table.{table};
+ghost use Rattle.schema.specs.Table.{table};
 ghost use Rattle.structure.specs.Structure.{ranges, allows, textOnly};
 ghost use Rattle.structure.specs.Walk.{paired, filledFrom, countedOf};
 

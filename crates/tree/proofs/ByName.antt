@@ -9,13 +9,13 @@ use lib.Dec.{eqb, leb}
 use borrow.Author.Tests.{leb-true, ne-eqb}
 use Rattle.scan.specs.Bytes.{bytes, between, run, textIs}
 use Rattle.scan.proofs.Laws.{both}
-use Rattle.rows.specs.declared.Parent.{Parent}
-use Rattle.rows.specs.declared.Parent.the-variants.{FlussoOrdinativi, Mandato, Reversale, InformazioniBeneficiario, InformazioniVersante, SostituzioneMandato, SostituzioneReversale, Beneficiario, Versante, MessaggiEsito, TestataMessaggio, EsitoReversali, EsitoMandati, ErroriReversali, ErroriMandati, FlussoOpi, TestataFlusso}
-use Rattle.rows.specs.declared.Holds.{Holds}
-use Rattle.rows.specs.declared.Holds.the-variants.{Text, Rows}
-use Rattle.rows.specs.declared.Spot.{Spot}
-use Rattle.rows.specs.declared.Spot.the-variants.{At, Passed}
-use Rattle.rows.specs.Table.{Named, _is_, Row, table}
+use Rattle.schema.specs.declared.Parent.{Parent}
+use Rattle.schema.specs.declared.Parent.the-variants.{FlussoOrdinativi, Mandato, Reversale, InformazioniBeneficiario, InformazioniVersante, SostituzioneMandato, SostituzioneReversale, Beneficiario, Versante, MessaggiEsito, TestataMessaggio, EsitoReversali, EsitoMandati, ErroriReversali, ErroriMandati, FlussoOpi, TestataFlusso}
+use Rattle.schema.specs.declared.Holds.{Holds}
+use Rattle.schema.specs.declared.Holds.the-variants.{Text, Rows}
+use Rattle.schema.specs.declared.Spot.{Spot}
+use Rattle.schema.specs.declared.Spot.the-variants.{At, Passed}
+use Rattle.schema.specs.Table.{Named, _is_, Row, table}
 use Rattle.rows.specs.Replaces.{asReplacing}
 use Rattle.structure.specs.Structure.{ranges, isRow, inOrder, levels}
 use Rattle.tree.specs.Tree.{tree, Held, says, holds, Trees, none, more, nameOf, kidsIn}

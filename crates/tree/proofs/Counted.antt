@@ -22,8 +22,8 @@ use Rattle.names.proofs.Laws.{none-left, past-char, past-ref}
 use Rattle.fields.specs.declared.Form.the-variants.{Anagrafica}
 use Rattle.fields.specs.declared.Judged.the-variants.{Stands}
 use Rattle.fields.specs.Fields.{judged, fieldStands}
-use Rattle.rows.specs.declared.Parent.{Parent}
-use Rattle.rows.specs.declared.Holds.the-variants as holds
+use Rattle.schema.specs.declared.Parent.{Parent}
+use Rattle.schema.specs.declared.Holds.the-variants as holds
 use Rattle.standing.specs.Readings.{Field}
 use Rattle.tree.specs.Tree.{Tree, Held, Trees, ReadsAs}
 use Rattle.tree.specs.Structure.{Said, named, passed, rowsIn}

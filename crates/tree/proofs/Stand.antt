@@ -12,7 +12,7 @@ use Rattle.fields.specs.declared.Reading.{Reading}
 use Rattle.fields.specs.declared.Reading.the-variants as reading
 use Rattle.fields.specs.Fields.{readingOf, fieldStands}
 use Rattle.fields.proofs.Laws.{stands-holds, holds-value}
-use Rattle.rows.specs.declared.Parent.{Parent}
+use Rattle.schema.specs.declared.Parent.{Parent}
 use Rattle.standing.specs.Readings.{Field, firstBad, badOr, Place, Nowhere}
 use Rattle.tree.specs.Tree.{Trees}
 use Rattle.tree.specs.Fields.{AllStand, all-none, all-next, FirstBreaks, here, later}

@@ -6,9 +6,9 @@ use Rattle.fields.specs.declared.Cause.{Cause}
 use Rattle.fields.specs.declared.Judged.the-variants.{Stands}
 use Rattle.fields.specs.declared.Reading.the-variants.{Breaks}
 use Rattle.fields.specs.Fields.{readingOf, fieldStands}
-use Rattle.rows.specs.declared.Parent.{Parent}
-use Rattle.rows.specs.declared.Holds.the-variants.{Text, Rows}
-use Rattle.rows.specs.Table.{table}
+use Rattle.schema.specs.declared.Parent.{Parent}
+use Rattle.schema.specs.declared.Holds.the-variants.{Text, Rows}
+use Rattle.schema.specs.Table.{table}
 use Rattle.standing.specs.Readings.{Field}
 use Rattle.tree.specs.Tree.{Tree, tree, Held, says, holds, Trees, none, more}
 use Rattle.tree.specs.Structure.{Said, named, passed, said, rowsIn}

@@ -8,8 +8,8 @@ use mathlib.Core.Bool.{true}
 use Rattle.scan.specs.Bytes.{bytes}
 use Rattle.grammar.specs.Grammar.{contentPlace}
 use Rattle.fields.specs.declared.Cause.{Cause}
-use Rattle.rows.specs.declared.Parent.{Parent}
-use Rattle.rows.specs.declared.Holds.the-variants.{Rows}
+use Rattle.schema.specs.declared.Parent.{Parent}
+use Rattle.schema.specs.declared.Holds.the-variants.{Rows}
 use Rattle.standing.specs.Readings.{Field}
 use Rattle.order.specs.Ordinativo.{Ordinativo}
 use Rattle.editions.specs.declared.Edition.{Edition}

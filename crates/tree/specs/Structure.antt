@@ -1,14 +1,14 @@
--- Document 01, "The structure", said of a tree: "named children, in this order". The schema is its table as data (crates/rows/specs/Table.antt).
+-- Document 01, "The structure", said of a tree: "named children, in this order". The schema is its table as data (crates/schema/specs/Table.antt).
 use Prim.Native.Nat.{ℕ, suc}
 use mathlib.Core.List.{List, [], _∷_}
 use mathlib.Core.Bool.{Bool, true, false, cond, _&&_, _||_}
 use lib.ListN.{length, drop}
 use lib.Dec.{eqb}
 use Rattle.scan.specs.Bytes.{bytes, between, textIs}
-use Rattle.rows.specs.declared.Parent.{Parent}
-use Rattle.rows.specs.declared.Holds.{Holds}
-use Rattle.rows.specs.declared.Holds.the-variants.{Text, Rows}
-use Rattle.rows.specs.Table.{Named, _is_, Row, table}
+use Rattle.schema.specs.declared.Parent.{Parent}
+use Rattle.schema.specs.declared.Holds.{Holds}
+use Rattle.schema.specs.declared.Holds.the-variants.{Text, Rows}
+use Rattle.schema.specs.Table.{Named, _is_, Row, table}
 use Rattle.rows.specs.Replaces.{asReplacing}
 use Rattle.tree.specs.Tree.{Tree, tree, Held, says, holds, Trees, none, more, nameOf}
 use Rattle.tree.specs.Orders.{textNamed}

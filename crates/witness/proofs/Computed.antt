@@ -32,7 +32,7 @@ use Rattle.markup.specs.Markup.{elementBy, childBy, childrenBy, contentBy, elem
 use Rattle.children.specs.Child.{childAt, childrenUpTo, childrenFrom}
 use Rattle.rows.specs.Kept.{keep, keptFrom}
 use Rattle.rows.specs.Replaces.{replaces, rowsFor}
-use Rattle.rows.specs.Table.{nameIs}
+use Rattle.schema.specs.Table.{nameIs}
 use Rattle.structure.specs.Structure.{allKept, rowsOf, inOrder, textOnly, fitBy, fitsAt}
 use Rattle.standing.specs.Readings.{fieldsBy, fieldsAt, firstBad}
 

@@ -8,7 +8,7 @@ use borrow.Author.Tests.{not-true, not-false}
 use Rattle.scan.specs.Bytes.{isWhite}
 use Rattle.scan.proofs.Laws.{run-within}
 use Rattle.codes.specs.declared.Esito.{Esito}
-use Rattle.rows.specs.declared.Parent.{Parent}
+use Rattle.schema.specs.declared.Parent.{Parent}
 use Rattle.rows.specs.Kept.{keptFrom}
 use Rattle.parts.specs.Parts.{noSpan, partsIn}
 use Rattle.parts.proofs.Laws.{at-within}

@@ -1,6 +1,6 @@
 use mathlib.Core.Path.{_≡_, refl, sym, ap, _∙_}
 use native.Mathlib.Omega.{arith}
-use Rattle.rows.specs.declared.Parent.the-variants.{FlussoOpi, TestataFlusso}
+use Rattle.schema.specs.declared.Parent.the-variants.{FlussoOpi, TestataFlusso}
 use Rattle.rows.specs.declared.Next.the-variants.{Named}
 use Rattle.rows.specs.Kept.{keptFrom, nextOf}
 use Rattle.orders.specs.Said.{numberOf}

@@ -3,7 +3,7 @@ use Prim.Native.Nat.{_+_, _-_}
 use native.Mathlib.Omega.{arith}
 use lib.ListN.{length}
 use borrow.Author.Needs.{needs}
-use Rattle.rows.specs.declared.Parent.the-variants.{MessaggiEsito}
+use Rattle.schema.specs.declared.Parent.the-variants.{MessaggiEsito}
 use Rattle.rows.specs.declared.Next.the-variants.{Named, Done}
 use Rattle.rows.specs.Kept.{keptFrom, nextOf}
 use Rattle.orders.specs.Orders.{inRow}

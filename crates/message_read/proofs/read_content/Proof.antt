@@ -2,7 +2,7 @@ use mathlib.Core.Path.{_≡_, refl, sym, ap, _∙_}
 use Rattle.scan.specs.Bytes.{isWhite}
 use Rattle.scan.proofs.Laws.{run-within}
 use Rattle.tokens.specs.Tokens.{whiteAt}
-use Rattle.rows.specs.declared.Parent.the-variants.{MessaggiEsito}
+use Rattle.schema.specs.declared.Parent.the-variants.{MessaggiEsito}
 use Rattle.standing.specs.Standing.{standingAt}
 use Rattle.agreement.specs.Agreement.{offFrom}
 use Rattle.message_read.specs.declared.MessageStanding.the-variants.{Stands}

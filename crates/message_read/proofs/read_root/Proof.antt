@@ -8,7 +8,7 @@ use Rattle.message_read.proofs.read_root.Reads as reads
 use Rattle.message_read.proofs.read_root.Lts as lts
 use Rattle.message_read.proofs.read_content.Reads as read-content-reads
 use Rattle.message_read.proofs.refusal.Reads as refusal-reads
-use Rattle.rows.proofs.is.Reads as is-reads
+use Rattle.schema.proofs.is.Reads as is-reads
 
 add-is : tie.Need-add-is
 add-is c = search needs

@@ -4,7 +4,7 @@ use borrow.Author.Needs.{needs}
 use Rattle.scan.specs.Bytes.{isWhite}
 use Rattle.scan.proofs.Laws.{run-within}
 use Rattle.tokens.specs.Tokens.{whiteAt}
-use Rattle.rows.specs.declared.Parent.{Parent}
+use Rattle.schema.specs.declared.Parent.{Parent}
 use Rattle.rows.specs.Kept.{keptFrom}
 use Rattle.parts.specs.Parts.{partsIn}
 use Rattle.parts.proofs.Laws.{at-within}

@@ -5,7 +5,7 @@ use lib.ListN.{getD, length}
 use Rattle.scan.specs.Bytes.{isWhite}
 use Rattle.scan.proofs.Laws.{run-within}
 use Rattle.tokens.specs.Tokens.{whiteAt}
-use Rattle.rows.specs.declared.Parent.the-variants.{MessaggiEsito, TestataMessaggio}
+use Rattle.schema.specs.declared.Parent.the-variants.{MessaggiEsito, TestataMessaggio}
 use Rattle.rows.specs.Kept.{keptFrom}
 use Rattle.parts.specs.Parts.{noSpan, partsIn}
 use Rattle.parts.proofs.Laws.{at-within}

@@ -1,7 +1,7 @@
 use mathlib.Core.Path.{_≡_, sym, ap, _∙_}
 use native.Mathlib.Omega.{arith}
 use Prim.Native.Nat.{ℕ}
-use Rattle.rows.specs.declared.Parent.the-variants.{FlussoOpi, TestataFlusso}
+use Rattle.schema.specs.declared.Parent.the-variants.{FlussoOpi, TestataFlusso}
 use Rattle.rows.specs.declared.Kept.{Kept}
 use Rattle.rows.specs.Kept.{keptFrom}
 use mathlib.Core.List.{List}

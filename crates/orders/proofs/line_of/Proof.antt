@@ -1,5 +1,5 @@
 use mathlib.Core.Path.{_≡_}
-use Rattle.rows.specs.declared.Holds.the-variants.{Rows}
+use Rattle.schema.specs.declared.Holds.the-variants.{Rows}
 use Rattle.orders.proofs.Laws.{line-some, line-shaped, line-inside}
 use borrow.Author.Needs.{needs}
 use Rattle.orders.proofs.line_of.Statement.{statement}

@@ -1,7 +1,7 @@
 use mathlib.Core.Path.{_≡_}
 use native.Mathlib.Omega.{arith}
 use lib.ListN.{drop}
-use Rattle.rows.specs.declared.Holds.the-variants.{Rows}
+use Rattle.schema.specs.declared.Holds.the-variants.{Rows}
 use Rattle.orders.specs.Shape.{namedRows}
 use Rattle.orders.proofs.Laws.{one, shaped-some, shaped-other, named-inside}
 use borrow.Author.Needs.{needs}

@@ -1,6 +1,6 @@
 use mathlib.Core.Path.{sym, ap, _∙_}
 use native.Mathlib.Omega.{arith}
-use Rattle.rows.specs.declared.Holds.the-variants.{Rows}
+use Rattle.schema.specs.declared.Holds.the-variants.{Rows}
 use Rattle.rows.specs.Kept.{keptFrom}
 use Rattle.orders.specs.Orders.{kindOf}
 use Rattle.orders.specs.Said.{numberOf, dateRead, saidOperation}

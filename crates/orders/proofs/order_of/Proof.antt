@@ -2,8 +2,8 @@ use mathlib.Core.Path.{_≡_, sym, ap, subst, _∙_}
 use Prim.Native.Nat.{_+_}
 use native.Mathlib.Omega.{arith}
 use lib.ListN.{drop}
-use Rattle.rows.specs.declared.Parent.{Parent}
-use Rattle.rows.specs.declared.Holds.the-variants.{Rows}
+use Rattle.schema.specs.declared.Parent.{Parent}
+use Rattle.schema.specs.declared.Holds.the-variants.{Rows}
 use Rattle.rows.specs.Replaces.{rowsFor}
 use Rattle.orders.specs.Shape.{orderRows}
 use Rattle.orders.specs.Orders.{kindOf}

@@ -13,7 +13,7 @@ use Rattle.rows.proofs.is_replacing.Statement.{statement}
 use Rattle.rows.proofs.is_replacing.Tie as tie
 use Rattle.rows.proofs.is_replacing.Reads as reads
 use Rattle.rows.proofs.is_replacing.Lts as lts
-use Rattle.rows.proofs.is.Reads as is-reads
+use Rattle.schema.proofs.is.Reads as is-reads
 use Rattle.rows.proofs.next_named.Reads as next-named-reads
 use Rattle.scan.proofs.white_end.Reads as white-end-reads
 
