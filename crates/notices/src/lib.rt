@@ -36,7 +36,8 @@ pub struct TotalsAnswer {
     pub balance: i64,
 }
 
-fn answer_of(n: Noticed) -> NoticeAnswer
+// What a notice that a body took answers.
+pub fn answer_of(n: Noticed) -> NoticeAnswer
     ensures { λ r. ⌜ r ≡ noticed n ⌝ }
 {
     match n {
@@ -109,7 +110,8 @@ pub fn reply_of(a: NoticeAnswer) -> NoticeReply
     }
 }
 
-fn no_totals(code: u64) -> TotalsAnswer
+// "A refusal gives zeros."
+pub fn no_totals(code: u64) -> TotalsAnswer
     ensures { λ r. ⌜ r ≡ zeroTotals code ⌝ }
 {
     TotalsAnswer {

@@ -1,4 +1,4 @@
--- A FLOW in the training room: what it answers, the outcome bytes that it writes, and the lists that it leaves. Its answers are the desk's (crates/desk), but for 1 and 36:
+-- A FLOW in the training room: what it answers, the outcome bytes that it writes, and the lists that it leaves. Its answers are the desk's (crates/desk), in the same order, but for 1 and 36:
 -- there is no table to be invalid, and no year is closed.
 use Prim.Native.Nat.{ℕ, _*_}
 use mathlib.Core.Path.{_≡_}
@@ -33,35 +33,35 @@ pub data Taught : Type 0 where
   taught : ℕ → ℕ → List Ordinativo → Taught
 
 -- "8 the outcome buffer has under 16 bytes per order"
-abbrev pub inRoom : ℕ → ℕ → ℕ → List Ordinativo → Taught
-inRoom room b year os = cond (leb (outcomeSize * length os) room) (taught b year os) (refused NoRoom)
+abbrev pub withSpace : ℕ → ℕ → ℕ → List Ordinativo → Taught
+withSpace space b year os = cond (leb (outcomeSize * length os) space) (taught b year os) (refused NoRoom)
 
 -- "7 no body has this code"
 abbrev pub onBody : ℕ → ℕ → List Ordinativo → Found → Taught
-onBody room year os (At b) = inRoom room b year os
-onBody room year os Nothing = refused UnknownBody
+onBody space year os (At b) = withSpace space b year os
+onBody space year os Nothing = refused UnknownBody
 
 -- "6 codice_ABI_BT isn't the table's"
 abbrev pub atBank : Plain → ℕ → Header → List Ordinativo → Taught
-atBank s room h os = cond (textIs (s .abi) (h .abi)) (onBody room (h .esercizio) os (numbered s (h .ente))) (refused OtherBank)
+atBank s space h os = cond (textIs (s .abi) (h .abi)) (onBody space (h .esercizio) os (numbered s (h .ente))) (refused OtherBank)
 
 -- "3 the markup breaks; 4 the structure breaks; 5 a field breaks", of a flow of an edition
 abbrev pub ofVerdict : Edition → Plain → List ℕ → ℕ → Verdict → Taught
-ofVerdict e s f room (MarkupBreaks p) = refused BrokenMarkup
-ofVerdict e s f room StructureBreaks = refused BrokenStructure
-ofVerdict e s f room (FieldBreaks p c) = refused (BrokenField p c)
-ofVerdict e s f room (Stands at) = atBank s room (headerOf e f at) (flowOrders e f at)
+ofVerdict e s f space (MarkupBreaks p) = refused BrokenMarkup
+ofVerdict e s f space StructureBreaks = refused BrokenStructure
+ofVerdict e s f space (FieldBreaks p c) = refused (BrokenField p c)
+ofVerdict e s f space (Stands at) = atBank s space (headerOf e f at) (flowOrders e f at)
 
 -- "23, no such edition"; "2 the flow is longer than 32,768 bytes"
 abbrev pub ofEdition : Plain → List ℕ → ℕ → Edited → Taught
-ofEdition s f room (By e) = cond (leb (length f) maxFlow) (ofVerdict e s f room (verdictOf e f)) (refused TooLong)
-ofEdition s f room NoEdition = refused UnknownEdition
+ofEdition s f space (By e) = cond (leb (length f) maxFlow) (ofVerdict e s f space (verdictOf e f)) (refused TooLong)
+ofEdition s f space NoEdition = refused UnknownEdition
 
--- ed is the edition's number, room the outcome buffer's length
+-- ed is the edition's number, space the outcome buffer's length
 unfoldable pub flowTeaches : Plain → ℕ → List ℕ → ℕ → Taught
-flowTeaches s ed f room = ofEdition s f room (editionOf ed)
+flowTeaches s ed f space = ofEdition s f space (editionOf ed)
 
--- the answer, the room afterwards and the outcome buffer afterwards: "orders are taken as written, each on the table the one before left"
+-- the answer, the room afterwards and the outcome buffer afterwards: "orders are taken as written, each on the table the one before left"; "Outcome bytes past the last order stay"
 abbrev pub taughtAnswer : Plain → Taught → FlowAnswer
 taughtAnswer s (refused a) = a
 taughtAnswer s (taught b year os) =

@@ -39,8 +39,8 @@ relisted l rs = record { code = l .code; slots = l .slots; orders = rs }
 abbrev pub withOrders : Plain → ℕ → List Record → Plain
 withOrders s b rs = record { abi = s .abi; bodies = set (s .bodies) b (relisted (bodyIn s b) rs) }
 
--- A LIST THAT A TABLE CAN SAY, as far as notices and totals need it: no order has more than eight lines, and no amount is greater than a field can write. The list
--- of every body of a valid table is one, and stays one (crates/lessons), so that no lesson ever is answered 1.
+-- A LIST THAT NOTICES AND TOTALS ARE TAKEN ON: no order has more than eight lines, and no amount is greater than a field can write, so that sums can be held. The list
+-- of every body of a valid table is one, so that no lesson in a room made of a table is answered 1 (`never-invalid`, crates/lessons).
 unfoldable pub amountsFit : List ℕ → Bool
 amountsFit [] = true
 amountsFit (a ∷ rest) = leb a maxCents && amountsFit rest

@@ -25,7 +25,7 @@ use Rattle.desk.specs.declared.FlowAnswer.{FlowAnswer}
 use Rattle.desk.specs.declared.FlowAnswer.the-variants.{UnknownEdition, TooLong, OtherBank, NoRoom, Taken}
 use Rattle.list_flow.specs.ListFlow.{ListTaken}
 use Rattle.plain.specs.Plain.{Listed, Plain, bodyIn, numbered, withOrders}
-use Rattle.plain.specs.Flows.{refused, inRoom, onBody, atBank, ofVerdict, flowTeaches, Teaches, FlowLesson}
+use Rattle.plain.specs.Flows.{refused, withSpace, onBody, atBank, ofVerdict, flowTeaches, Teaches, FlowLesson}
 
 -- THE WAYS OUT, from the last check to the first
 pub kept : (s : Plain) (out : List ℕ) {a r : FlowAnswer} {s′ : Plain} → (r ≡ a) × (s′ ≡ s) → Teaches s out (refused a) r s′ out
@@ -33,12 +33,12 @@ kept s out p = (p .0, p .1, refl)
 
 module _ (s : Plain) (out : List ℕ) (os : List Ordinativo) where
   module _ (b year : ℕ) {count : ℕ} (e : count ≡ length os) where
-    pub room-none : length out < 16 * count → Teaches s out (inRoom (length out) b year os) NoRoom s out
+    pub room-none : length out < 16 * count → Teaches s out (withSpace (length out) b year os) NoRoom s out
     room-none l = rw (lt-leb (16 * length os) (length out) (omega arith)) (refl, refl, refl)
 
     pub room-taken : {p : Listed} {slots accepted steps : ℕ} {rs′ : List Record} {s′ : Plain} {out′ : List ℕ} → 16 * count ≤ length out
         → p ≡ bodyIn s b → slots ≡ p .slots → ListTaken slots year os (p .orders) out accepted steps rs′ out′ → s′ ≡ withOrders s b rs′
-        → Teaches s out (inRoom (length out) b year os) (Taken count accepted steps) s′ out′
+        → Teaches s out (withSpace (length out) b year os) (Taken count accepted steps) s′ out′
     room-taken l q m k w = rw (le-leb (16 * length os) (length out) (omega arith), e, k .0, k .1, w, k .2, k .3, m, q) (refl, refl, refl)
 
 module _ (s : Plain) (out : List ℕ) (h : Header) (os : List Ordinativo) where

@@ -18,7 +18,7 @@ ghost use Rattle.header.specs.Heading.{headerBy, Within};
 ghost use Rattle.flow.specs.Flow.{verdictOf, headerOf, flowOrders};
 ghost use Rattle.serving.specs.Served.{ordersFrom, Rooted};
 ghost use Rattle.plain.specs.Plain.{numbered};
-ghost use Rattle.plain.specs.Flows.{inRoom, onBody, atBank, ofVerdict, Teaches, FlowLesson};
+ghost use Rattle.plain.specs.Flows.{withSpace, onBody, atBank, ofVerdict, Teaches, FlowLesson};
 ghost use Rattle.room.specs.Room.{roomOf};
 
 // What a flow answers, and the room afterwards.
@@ -39,7 +39,7 @@ fn for_body(
     past: &[u32],
 ) -> FlowTaught
     requires { ⌜ (b < length (roomOf r .bodies)) × Rooted root (now f) (now past) from × (length (now f) ≤ maxFlow) ⌝ }
-    ensures { λ s. ⌜ Teaches (roomOf r) (now (out .entry)) (inRoom (length (now (out .entry))) b year (ordersFrom root (now (f .entry)) from)) (s .answer)
+    ensures { λ s. ⌜ Teaches (roomOf r) (now (out .entry)) (withSpace (length (now (out .entry))) b year (ordersFrom root (now (f .entry)) from)) (s .answer)
         (roomOf (s .room)) (now (out .exit)) ⌝ }
 {
     let count = orders::count_orders(f, from, root, past);

@@ -6,7 +6,6 @@ use ranges::Found;
 use record::Key;
 use record::Record;
 use room::Room;
-use rules::Noticed;
 use training::Book;
 ghost use mathlib.Core.Path.{_≡_};
 ghost use mathlib.Core.Bool.{true, false, _&&_, cond};
@@ -16,7 +15,6 @@ ghost use lib.Dec.{leb};
 ghost use Rattle.bounds.specs.Bounds.{maxCents};
 ghost use Rattle.valid.specs.Valid.{executed};
 ghost use Rattle.body.specs.Body.{centsOf};
-ghost use Rattle.notices.specs.Notices.{noticed, zeroTotals};
 ghost use Rattle.training.specs.Training.{places, listOf};
 ghost use Rattle.plain.specs.Plain.{numbered, amountsFit, fits};
 ghost use Rattle.plain.specs.Notices.{noticeOn, listOn, noticeFor, roomFor, listTotals, NoticeLesson, TotalsLesson};
@@ -67,15 +65,6 @@ fn book_fits(b: Book) -> bool
     true
 }
 
-fn answer_of(n: Noticed) -> NoticeAnswer
-    ensures { λ a. ⌜ a ≡ noticed n ⌝ }
-{
-    match n {
-        Noticed::Moved(_, cents) => NoticeAnswer::Done(cents),
-        Noticed::Unmoved(c) => NoticeAnswer::Declined(c),
-    }
-}
-
 // A notice for one body.
 fn notice_on(b: Book, executing: bool, key: Key, line: u64) -> BookNoticed
     ensures { λ s. ⌜ (s .answer ≡ noticeOn executing key line (listOf b)) × (listOf (s .book) ≡ listOn executing key line (listOf b)) ⌝ }
@@ -90,7 +79,7 @@ fn notice_on(b: Book, executing: bool, key: Key, line: u64) -> BookNoticed
     let n = s.noticed;
     let book = s.book;
     BookNoticed {
-        answer: answer_of(n),
+        answer: notices::answer_of(n),
         book,
     }
 }
@@ -181,24 +170,12 @@ fn cents_of(b: Book, kind: u8) -> u64
     cents
 }
 
-fn no_totals(code: u64) -> TotalsAnswer
-    ensures { λ a. ⌜ a ≡ zeroTotals code ⌝ }
-{
-    TotalsAnswer {
-        code,
-        used: 0,
-        paid: 0,
-        collected: 0,
-        balance: 0,
-    }
-}
-
 // The totals of one body's orders.
 fn book_totals(b: Book) -> TotalsAnswer
     ensures { λ a. ⌜ a ≡ listTotals (listOf b) ⌝ }
 {
     if !book_fits(b) {
-        return no_totals(1);
+        return notices::no_totals(1);
     }
     let paid = cents_of(b, record::MANDATO);
     let collected = cents_of(b, record::REVERSALE);
@@ -221,6 +198,6 @@ pub fn totals(r: Room, code: &[u8]) -> TotalsAnswer
             let book = p.book;
             book_totals(book)
         }
-        Found::Nothing => no_totals(7),
+        Found::Nothing => notices::no_totals(7),
     }
 }
