@@ -44,7 +44,7 @@ absent() { [ ! -e "$1" ]; }
 at=$work/tree
 mkdir -p "$at/crates/order_desk/src" "$at/tools" "$work/kit/bin" "$work/kit/on/$(uname -m)/toolchain/bin"
 cp "$root/desk" "$root/library" "$root/KIT" "$at/"
-cp "$root/tools/proved" "$at/tools/"
+cp "$root/tools/proved" "$root/tools/run" "$at/tools/"
 echo "order_desk:" > "$at/crates.txt"
 source=$at/crates/order_desk/src/main.rt
 echo one > "$source"
