@@ -182,7 +182,7 @@ pub fn sequence(random: &mut Random) -> Case {
 }
 
 /// Makes a call on a table, as far as it changes it.
-fn made(table: &mut [u8], call: &Call) {
+pub fn made(table: &mut [u8], call: &Call) {
     match call {
         Call::Flow { edition, flow, room } => {
             reference::flow(table, *edition, flow, &mut vec![0; *room]);
@@ -274,7 +274,7 @@ fn close(random: &mut Random, table: &Table) -> Call {
 }
 
 /// A call on a table.
-fn call(random: &mut Random, table: &Table) -> Call {
+pub fn call(random: &mut Random, table: &Table) -> Call {
     match random.weighted(&[50, 4, 30, 8, 8, 5]) {
         0 => whole_flow(random, table, Size::Few),
         1 => {
