@@ -19,6 +19,16 @@ month-at-most y m = go (eqb m 2) (leap y) (eqb m 4 || (eqb m 6 || (eqb m 9 || eq
     go false b true = omega arith
     go false b false = omega arith
 
+pub month-at-least : (y m : ℕ) → 28 ≤ monthLength y m
+unfolding monthLength
+month-at-least y m = go (eqb m 2) (leap y) (eqb m 4 || (eqb m 6 || (eqb m 9 || eqb m 11)))
+  where
+    go : (a b c : Bool) → 28 ≤ cond a (cond b 29 28) (cond c 30 31)
+    go true true c = omega arith
+    go true false c = omega arith
+    go false b true = omega arith
+    go false b false = omega arith
+
 pub record Ranges (d : Date) : Type 0 where
   pub year : (2000 ≤ d .year) × (d .year ≤ 2099)
   pub month : (1 ≤ d .month) × (d .month ≤ 12)

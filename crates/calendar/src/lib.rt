@@ -65,5 +65,9 @@ pub fn is_date(d: Date) -> bool
     if d.day < 1 {
         return false;
     }
+    // Most days are in every month, and the month's length is not asked.
+    if d.day <= 28 {
+        return true;
+    }
     d.day <= month_length(d.year, d.month)
 }

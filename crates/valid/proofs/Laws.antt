@@ -1,6 +1,6 @@
 -- Laws of tests one after the other, and of a record's lines, one at a time.
 use Prim.Native.Nat.{ℕ, suc, _+_, _-_, _≤_, _<_}
-use mathlib.Core.Bool.{Bool, true, false, _&&_, cond}
+use mathlib.Core.Bool.{Bool, true, false, _&&_, cond, and-false}
 use mathlib.Core.List.{List, [], _∷_}
 use mathlib.Core.Path.{_≡_, refl, sym, ap, _∙_}
 use native.Mathlib.Omega.{arith}
@@ -23,6 +23,13 @@ and-go a b e f = e ∙ ap (λ (y : Bool). y && b) f
 
 pub and-eq : {a b c d x : Bool} → x ≡ (a && b) → a ≡ c → b ≡ d → x ≡ (c && d)
 and-eq e p q = e ∙ (λ i. p i && q i)
+
+-- the first is known
+pub and-known : {a b c : Bool} → a ≡ true → b ≡ c → b ≡ (a && c)
+and-known {a} {b} {c} p q = q ∙ sym (ap (λ (x : Bool). x && c) p)
+
+pub and-fails : (a : Bool) {b : Bool} → b ≡ false → (a && b) ≡ false
+and-fails a e = ap (λ (x : Bool). a && x) e ∙ and-false a
 
 -- A VALID RECORD
 

@@ -6,9 +6,12 @@ use mathlib.Core.Path.{_≡_, refl, sym, ap, _∙_}
 use native.Mathlib.Omega.{arith}
 use native.Mathlib.Nat.{add-zero}
 use lib.ListN.{length, getD, drop, drop-of-length-le}
-use lib.Dec.{eqb}
-use borrow.Author.Tests.{lt-ltb, le-ltb, eqb-true, eq-eqb, ne-eqb}
+use lib.Dec.{eqb, leb}
+use borrow.Author.Tests.{lt-ltb, le-ltb, le-leb, eqb-true}
+use Rattle.scan.specs.Bytes.{between}
 use Rattle.scan.proofs.Laws.{both}
+use Rattle.bounds.specs.Bounds.{maxCents}
+use Rattle.calendar.specs.Calendar.{isDate}
 use Rattle.words.specs.Numbers.{be8}
 use Rattle.record.specs.Slot.{statesOffset, amountsOffset, eightAt, be8s, recordAt}
 use Rattle.record.proofs.Back.{eight-at, be8s-at}
@@ -17,7 +20,7 @@ use Rattle.valid.specs.Valid.{lineThere, lineAbsent, lineOk, allFrom, su
 use Rattle.valid.specs.declared.Judged.the-variants.{Broken}
 use Rattle.valid.specs.Inner.{judgedBy, judgedRecord}
 use Rattle.valid.proofs.Valid.{ranges-bounds}
-use Rattle.valid.proofs.Laws.{and-stop, and-go, all-more, all-done, sum-more, sum-over, sum-go, executed-more}
+use Rattle.valid.proofs.Laws.{and-stop, and-go, and-fails, all-more, all-done, sum-more, sum-over, sum-go, executed-more}
 
 -- ONE LINE, FROM ITS BYTES
 
@@ -42,14 +45,14 @@ module _ (t : List ℕ) (at k a : ℕ) (h : k < 8) (e : a ≡ be8 t (at + 32 + 8
   unfolding lineOk
   there-is l = rw (lt-ltb _ _ l, order-is, state-is, amount-is)
 
--- a line that holds nothing, by its two tests
-pub state-left : (s a : ℕ) → (s ≡ 0 → ⊥) → lineAbsent s a ≡ false
-unfolding lineAbsent
-state-left s a n = rw (ne-eqb s 0 n)
+-- a line that is there, by its state: what is left of a total bounds its amount
+pub there-not : (n : Bool) (s a : ℕ) → between 1 (cond n 1 3) s ≡ false → lineThere n s a ≡ false
+unfolding lineThere
+there-not n s a f = ap (λ (x : Bool). x && leb a maxCents) f
 
-pub state-none : (s a : ℕ) → s ≡ 0 → lineAbsent s a ≡ eqb a 0
-unfolding lineAbsent
-state-none s a e = rw (eq-eqb s 0 e)
+pub there-by : (n : Bool) (s a : ℕ) → a ≤ maxCents → between 1 (cond n 1 3) s ≡ true → lineThere n s a ≡ true
+unfolding lineThere
+there-by n s a h f = let g = le-leb a maxCents h in λ i. f i && g i
 
 -- THE LINES PAST THE NUMBER OF LINES, from k up to 8
 
@@ -60,15 +63,22 @@ module _ (t : List ℕ) (at k : ℕ) (h : k < 8) (l : recordAt t at .lines ≤ k
       all-more (lineOk (recordAt t at)) k (8 - k) (8 - (k + 1)) (omega arith)
       ∙ ap (λ (x : Bool). x && allFrom (lineOk (recordAt t at)) (k + 1) (8 - (k + 1))) (past-is t at k (be8 t (at + 32 + 8 * k)) h refl l)
 
-  pub past-stop : lineAbsent (getD t (at + 24 + k) 0) (be8 t (at + 32 + 8 * k)) ≡ false → allFrom (lineOk (recordAt t at)) k (8 - k) ≡ false
-  past-stop = and-stop _ _ first-past
+  -- one more of them tested
+  pub past-more : (right : Bool) {all next this : Bool} → all ≡ (right && allFrom (lineOk (recordAt t at)) k (8 - k)) → next ≡ (right && this)
+      → this ≡ lineAbsent (getD t (at + 24 + k) 0) (be8 t (at + 32 + 8 * k)) → all ≡ (next && allFrom (lineOk (recordAt t at)) (k + 1) (8 - (k + 1)))
+  past-more right e n w =
+      let f = allFrom (lineOk (recordAt t at)) (k + 1) (8 - (k + 1)) in
+      let x = n ∙ ap (λ (b : Bool). right && b) w in
+      e ∙ ap (λ (b : Bool). right && b) first-past ∙ sym (and-assoc right (lineAbsent (getD t (at + 24 + k) 0) (be8 t (at + 32 + 8 * k))) f)
+      ∙ sym (ap (λ (b : Bool). b && f) x)
 
-  pub past-go : lineAbsent (getD t (at + 24 + k) 0) (be8 t (at + 32 + 8 * k)) ≡ true
-      → allFrom (lineOk (recordAt t at)) k (8 - k) ≡ allFrom (lineOk (recordAt t at)) (k + 1) (8 - (k + 1))
-  past-go = and-go _ _ first-past
+pub past-done : (t : List ℕ) (at k : ℕ) (right : Bool) {all : Bool} → 8 ≤ k → all ≡ (right && allFrom (lineOk (recordAt t at)) k (8 - k)) → all ≡ right
+past-done t at k right h e =
+    e ∙ ap (λ (b : Bool). right && b) (all-done (lineOk (recordAt t at)) k (8 - k) (omega arith)) ∙ and-true right
 
-pub past-done : (t : List ℕ) (at k : ℕ) → 8 ≤ k → allFrom (lineOk (recordAt t at)) k (8 - k) ≡ true
-past-done t at k h = all-done (lineOk (recordAt t at)) k (8 - k) (omega arith)
+-- from a number that is written out
+pub past-same : (t : List ℕ) (at n m : ℕ) {b : Bool} → n ≡ m → b ≡ allFrom (lineOk (recordAt t at)) m (8 - m) → b ≡ allFrom (lineOk (recordAt t at)) n (8 - n)
+past-same t at n m q e = e ∙ ap (λ (j : ℕ). allFrom (lineOk (recordAt t at)) j (8 - j)) (sym q)
 
 -- THE LINES THAT ARE THERE, from k up to n, and what is left of the total
 
@@ -169,6 +179,12 @@ no-sum r k zero l q e = ap sum (drop-of-length-le (r .amounts) {i = k} (omega ar
 no-sum r k (suc m) l q e =
     let w = both (lineOk r k) _ e in
     omega (arith, sum-more (r .amounts) k 0 (omega arith), no-amount r k l (w .0), no-sum r (k + 1) m (omega arith) (omega arith) (w .1))
+
+pub date-not : (r : Record) → isDate (r .date) ≡ false → rangesOk r ≡ false
+unfolding rangesOk
+date-not r f =
+    and-fails (between 1 2 (r .kind)) (and-fails (between 1 2 (r .state)) (and-fails (between 1 8 (r .lines)) (and-fails (between 2000 2099 (r .esercizio))
+    (and-fails (between 1 9999999 (r .number)) (ap (λ (x : Bool). x && leb (r .total) maxCents) f)))))
 
 pub ranges-not : (r : Record) → rangesOk r ≡ false → recordOk r ≡ false
 unfolding recordOk

@@ -9,9 +9,11 @@ ghost use Prim.Native.Nat.{_+_, _-_, _*_, _≤_, _<_};
 ghost use lib.ListN.{length, getD, drop};
 ghost use lib.Dec.{eqb};
 ghost use Rattle.words.specs.Numbers.{be8};
+ghost use Rattle.scan.specs.Bytes.{between};
+ghost use Rattle.bounds.specs.Bounds.{maxCents};
 ghost use Rattle.calendar.specs.Calendar.{isDate};
 ghost use Rattle.record.specs.Slot.{slotSize, waitingLine, replacedLine, statesOffset, amountsOffset, dateAt, recordAt};
-ghost use Rattle.valid.specs.Valid.{lineThere, lineAbsent, lineOk, allFrom, sum, rangesOk, executed};
+ghost use Rattle.valid.specs.Valid.{lineAbsent, lineOk, allFrom, sum, rangesOk, executed};
 ghost use Rattle.valid.specs.Inner.{judgedBy, judgedRecord};
 
 // A record judged: broken, or valid with the cents of its executed lines.
@@ -30,13 +32,11 @@ fn top_state(annulled: bool) -> u8
     }
 }
 
-fn line_there(annulled: bool, state: u8, amount: u64) -> bool
-    ensures { λ r. ⌜ r ≡ lineThere annulled state amount ⌝ }
+// The state of a line that is there. Its amount needs no bound of its own: it is at most what is left of the total.
+fn state_there(annulled: bool, state: u8) -> bool
+    ensures { λ r. ⌜ r ≡ between waitingLine (cond annulled waitingLine replacedLine) state ⌝ }
 {
-    both(
-        both(record::WAITING <= state, state <= top_state(annulled)),
-        amount <= bounds::MAX_CENTS,
-    )
+    both(record::WAITING <= state, state <= top_state(annulled))
 }
 
 fn date_ok(t: &[u8], at: usize) -> bool
@@ -54,6 +54,9 @@ fn ranges_ok(t: &[u8], at: usize) -> bool
     requires { ⌜ at + slotSize ≤ length (now t) ⌝ }
     ensures { λ b. ⌜ b ≡ rangesOk (recordAt (now (t .entry)) at) ⌝ }
 {
+    if !date_ok(t, at + 12) {
+        return false;
+    }
     let kind = t[at];
     let state = t[at + 1];
     let lines = t[at + 2];
@@ -73,7 +76,7 @@ fn ranges_ok(t: &[u8], at: usize) -> bool
                     ),
                     both(
                         both(1 <= number, number <= bounds::MAX_NUMERO),
-                        both(date_ok(t, at + 12), total <= bounds::MAX_CENTS),
+                        total <= bounds::MAX_CENTS,
                     ),
                 ),
             ),
@@ -81,30 +84,47 @@ fn ranges_ok(t: &[u8], at: usize) -> bool
     )
 }
 
-// Whether a line holds nothing. The amount is read only after the state, so that each test is one compare where it stands.
+// Whether a line holds nothing.
 fn line_absent(t: &[u8], at: usize, k: usize) -> bool
     requires { ⌜ (at + slotSize ≤ length (now t)) × (k < 8) ⌝ }
     ensures { λ r. ⌜ r ≡ lineAbsent (getD (now (t .entry)) (at + statesOffset + k) 0) (be8 (now (t .entry)) (at + amountsOffset + 8 * k)) ⌝ }
 {
-    if t[at + record::STATES + k] != 0 {
-        return false;
-    }
-    words::read8(t, at + record::AMOUNTS + 8 * k) == 0
+    both(
+        t[at + record::STATES + k] == 0,
+        words::read8(t, at + record::AMOUNTS + 8 * k) == 0,
+    )
 }
 
-// Whether the lines past the record's number of lines all hold nothing.
+// Whether the lines past the record's number of lines all hold nothing. There is no way out of the loop before its end, so that for a number known
+// beforehand it is compiled to a few compares.
+fn absent_from(t: &[u8], at: usize, lines: usize) -> bool
+    requires { ⌜ (at + slotSize ≤ length (now t)) × (lines ≤ 8) × (lines ≡ recordAt (now t) at .lines) ⌝ }
+    ensures { λ b. ⌜ b ≡ allFrom (lineOk (recordAt (now (t .entry)) at)) lines (8 - lines) ⌝ }
+{
+    let mut right = true;
+    let mut k = lines;
+    while k < 8 {
+        right = both(right, line_absent(t, at, k));
+        k += 1;
+    }
+    right
+}
+
+// The same with each number of lines written out.
 fn lines_absent(t: &[u8], at: usize, lines: usize) -> bool
     requires { ⌜ (at + slotSize ≤ length (now t)) × (lines ≤ 8) × (lines ≡ recordAt (now t) at .lines) ⌝ }
     ensures { λ b. ⌜ b ≡ allFrom (lineOk (recordAt (now (t .entry)) at)) lines (8 - lines) ⌝ }
 {
-    let mut k = lines;
-    while k < 8 {
-        if !line_absent(t, at, k) {
-            return false;
-        }
-        k += 1;
+    match lines {
+        1 => absent_from(t, at, 1),
+        2 => absent_from(t, at, 2),
+        3 => absent_from(t, at, 3),
+        4 => absent_from(t, at, 4),
+        5 => absent_from(t, at, 5),
+        6 => absent_from(t, at, 6),
+        7 => absent_from(t, at, 7),
+        _ => absent_from(t, at, lines),
     }
-    true
 }
 
 // What a line adds to its order's executed cents.
@@ -127,7 +147,7 @@ fn told_by(right: bool, cents: u64) -> Judged
 // Whether the lines that are there are right and sum to the total, with no sum that could wrap, and what is executed; the others hold nothing.
 fn lines_there(t: &[u8], at: usize, lines: usize) -> Judged
     requires { ⌜ (at + slotSize ≤ length (now t)) × (lines ≤ 8) × (lines ≡ recordAt (now t) at .lines)
-        × (sum (drop lines (recordAt (now t) at .amounts)) ≡ 0) ⌝ }
+        × (sum (drop lines (recordAt (now t) at .amounts)) ≡ 0) × (recordAt (now t) at .total ≤ maxCents) ⌝ }
     ensures { λ j. ⌜ j ≡ judgedBy (allFrom (lineOk (recordAt (now (t .entry)) at)) 0 lines
         && eqb (sum (recordAt (now (t .entry)) at .amounts)) (recordAt (now (t .entry)) at .total)) (executed (recordAt (now (t .entry)) at)) ⌝ }
 {
@@ -138,7 +158,7 @@ fn lines_there(t: &[u8], at: usize, lines: usize) -> Judged
     while k < lines {
         let amount = words::read8(t, at + record::AMOUNTS + 8 * k);
         let state = t[at + record::STATES + k];
-        if !line_there(annulled, state, amount) {
+        if !state_there(annulled, state) {
             return Judged::Broken;
         }
         if rest < amount {

@@ -8,6 +8,7 @@ use native.Mathlib.Nat.{add-zero, zero-add, add-assoc, mod-eq-of-lt}
 use lib.ListN.{length, take, drop, getD, set, length-append, length-drop, length-take, take-append-drop, List·getD-append}
 use lib.Seq.{paste, paste-suc, take-length, length-take-le, take-at, drop-at, drop-drop, getD-take, getD-drop, getD-append-add}
 use Rattle.words.specs.Numbers.{put, be2, be4, be8, bytes2, bytes4, bytes8}
+use Rattle.words.specs.Inner.{turned}
 
 -- one turn of the loop that copies
 pub turn : (s₀ s : List ℕ) (at : ℕ) (v : List ℕ) (i : ℕ) → at + length v ≤ length s₀ → i < length v → s ≡ paste s₀ at v i
@@ -156,3 +157,38 @@ module _ (s : List ℕ) (at v : ℕ) (h : at ≤ length s) where
 pub be4-by : (s : List ℕ) (at : ℕ) → getD s at 0 * 16777216 + getD s (at + 1) 0 * 65536 + getD s (at + 2) 0 * 256 + getD s (at + 3) 0 ≡ be4 s at
 unfolding be4 be2
 be4-by s at = let q : at + 2 + 1 ≡ at + 3 = omega arith in rw q (omega arith)
+
+-- a number by what stands below a place of it and what from there on
+below256 : (a y : ℕ) → a < 256 → (a + y * 256) % 256 ≡ a
+below256 a y h = omega arith
+
+over256 : (a y : ℕ) → a < 256 → (a + y * 256) / 256 ≡ y
+over256 a y h = omega arith
+
+over65536 : (a y : ℕ) → a < 65536 → (a + y * 65536) / 65536 ≡ y
+over65536 a y h = omega arith
+
+over16777216 : (a y : ℕ) → a < 16777216 → (a + y * 16777216) / 16777216 ≡ y
+over16777216 a y h = omega arith
+
+-- four bytes read from either end
+module _ (a b c d : ℕ) (ha : a < 256) (hb : b < 256) (hc : c < 256) (hd : d < 256) where
+  first-byte : (a + b * 256 + c * 65536 + d * 16777216) % 256 ≡ a
+  first-byte =
+      let q : a + b * 256 + c * 65536 + d * 16777216 ≡ a + (b + c * 256 + d * 65536) * 256 = omega arith in
+      ap (λ (x : ℕ). x % 256) q ∙ below256 a (b + c * 256 + d * 65536) ha
+
+  second-byte : (a + b * 256 + c * 65536 + d * 16777216) / 256 % 256 ≡ b
+  second-byte =
+      let q : a + b * 256 + c * 65536 + d * 16777216 ≡ a + (b + (c + d * 256) * 256) * 256 = omega arith in
+      ap (λ (x : ℕ). x / 256 % 256) q ∙ ap (λ (x : ℕ). x % 256) (over256 a (b + (c + d * 256) * 256) ha) ∙ below256 b (c + d * 256) hb
+
+  third-byte : (a + b * 256 + c * 65536 + d * 16777216) / 65536 % 256 ≡ c
+  third-byte =
+      let q : a + b * 256 + c * 65536 + d * 16777216 ≡ a + b * 256 + (c + d * 256) * 65536 = omega arith in
+      ap (λ (x : ℕ). x / 65536 % 256) q ∙ ap (λ (x : ℕ). x % 256) (over65536 (a + b * 256) (c + d * 256) (omega arith)) ∙ below256 c d hc
+
+  pub turned-le : turned (a + b * 256 + c * 65536 + d * 16777216) ≡ a * 16777216 + b * 65536 + c * 256 + d
+  turned-le =
+      let z = over16777216 (a + b * 256 + c * 65536) d (omega arith) in
+      λ i. first-byte i * 16777216 + second-byte i * 65536 + third-byte i * 256 + z i

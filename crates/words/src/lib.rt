@@ -3,6 +3,7 @@ ghost use mathlib.Core.Path.{_≡_};
 ghost use Prim.Native.Nat.{_+_, _≤_, _<_};
 ghost use lib.ListN.{length};
 ghost use Rattle.words.specs.Numbers.{be2, be4, be8, put, bytes2, bytes4, bytes8};
+ghost use Rattle.words.specs.Inner.{le4, turned};
 
 fn wide(x: u8) -> u64
     ensures { λ r. ⌜ (r ≡ x) × (r < 256) ⌝ }
@@ -23,12 +24,26 @@ fn wide4(x: u8) -> u32
     x as u32
 }
 
-// Four bytes in 32 bits: so small a sum is compiled to one load.
+// Four bytes in 32 bits, lowest first as the processor has them: so their sum is one load from the start, whatever is asked of the number later.
+fn little(s: &[u8], at: usize) -> u32
+    requires { ⌜ at + 4 ≤ length (now s) ⌝ }
+    ensures { λ r. ⌜ (r ≡ le4 (now (s .entry)) at) × (turned r ≡ be4 (now (s .entry)) at) ⌝ }
+{
+    wide4(s[at]) + wide4(s[at + 1]) * 256 + wide4(s[at + 2]) * 65536 + wide4(s[at + 3]) * 16777216
+}
+
+// The same four bytes, highest first.
+fn turn(x: u32) -> u32
+    ensures { λ r. ⌜ r ≡ turned x ⌝ }
+{
+    x % 256 * 16777216 + x / 256 % 256 * 65536 + x / 65536 % 256 * 256 + x / 16777216
+}
+
 fn word(s: &[u8], at: usize) -> u32
     requires { ⌜ at + 4 ≤ length (now s) ⌝ }
     ensures { λ r. ⌜ (r ≡ be4 (now (s .entry)) at) × (r < 4294967296) ⌝ }
 {
-    wide4(s[at]) * 16777216 + wide4(s[at + 1]) * 65536 + wide4(s[at + 2]) * 256 + wide4(s[at + 3])
+    turn(little(s, at))
 }
 
 fn wide8(x: u32) -> u64

@@ -6,13 +6,20 @@ use lib.Dec.{eqb}
 use native.Mathlib.Omega.{arith}
 use lib.ListN.{getD, drop}
 use borrow.Author.Tests.{not-true, not-false}
+use Rattle.bounds.specs.Bounds.{maxCents}
 use Rattle.record.specs.Slot.{recordAt}
 use Rattle.valid.specs.Valid.{executedIn, executed}
 use Rattle.valid.specs.Inner.{judgedBy}
 use Rattle.valid.proofs.Laws.{executed-sum}
-use Rattle.valid.proofs.Lines.{leftOk, left-all, there-stop, over-stop, there-go, there-cents, there-done, lines-told}
+use Rattle.valid.proofs.Lines.{leftOk, left-all, there-not, there-by, there-stop, over-stop, there-go, there-cents, there-done, lines-told}
 use Rattle.valid.proofs.lines_there.Statement.{statement}
 use Rattle.valid.proofs.lines_there.Tie as tie
+use Rattle.valid.proofs.lines_there.Reads as reads
+use Rattle.valid.proofs.lines_there.Lts as lts
+use Rattle.valid.proofs.line_cents.Reads as line-cents-reads
+use Rattle.valid.proofs.state_there.Reads as state-there-reads
+use Rattle.valid.proofs.told_by.Reads as told-by-reads
+use Rattle.words.proofs.read8.Reads as read8-reads
 
 abbrev Inv-loop : tie.InvT-loop
 Inv-loop t at lines annulled rest₀ cents₀ k₀ rest cents k =
@@ -20,6 +27,7 @@ Inv-loop t at lines annulled rest₀ cents₀ k₀ rest cents k =
     × (cents + rest ≤ 18446744073709551615)
     × (executed (recordAt t at) ≡ cents + executedIn (drop k (recordAt t at .states)) (drop k (recordAt t at .amounts)))
     × (leftOk (recordAt t at) lines 0 (recordAt t at .total) ≡ leftOk (recordAt t at) lines k rest)
+    × (rest ≤ maxCents)
 
 abbrev μ-loop : tie.MeasureT-loop
 μ-loop t at lines annulled rest₀ cents₀ k₀ rest cents k = lines - k
@@ -40,7 +48,7 @@ loop-holds : tie.Need-loop-holds Inv-loop μ-loop
 unfolding recordAt
 loop-holds c =
     let e = c .read8 .ensures in
-    (omega arith, omega arith, omega arith, ap (leftOk (recordAt (c .before .before .before .args .t .now) (c .before .before .before .args .at)) (c .before .before .before .args .lines) 0) (sym e))
+    (omega arith, omega arith, omega arith, ap (leftOk (recordAt (c .before .before .before .args .t .now) (c .before .before .before .args .at)) (c .before .before .before .args .lines) 0) (sym e), omega (arith, c .before .before .before .pre .4))
 
 add-read8-2 : tie.Need-add-read8-2 Inv-loop μ-loop
 add-read8-2 c = search needs
@@ -63,11 +71,11 @@ add-state-2 c = search needs
 shared-slice-read-state : tie.Need-shared-slice-read-state Inv-loop μ-loop
 shared-slice-read-state c = search needs
 
-line-there-requires : tie.Need-line-there-requires Inv-loop μ-loop
-line-there-requires c κs = search needs
+state-there-requires : tie.Need-state-there-requires Inv-loop μ-loop
+state-there-requires c κs = search needs
 
 returns : tie.Need-returns Inv-loop μ-loop
-returns c = lines-told (recordAt (c .before .before .before .before .before .before .before .before .before .args .t .now) (c .before .before .before .before .before .before .before .before .before .args .at)) (c .before .before .before .before .before .before .before .before .before .args .lines) (c .before .before .before .before .before .loop .inv .3 ∙ there-stop (c .before .before .before .before .before .before .before .before .before .args .t .now) (c .before .before .before .before .before .before .before .before .before .args .at) (c .before .before .before .before .before .before .before .before .before .args .lines) (c .before .before .before .before .before .loop .k) (c .before .before .before .before .before .loop .rest) (c .before .before .before .read82 .result) (omega arith) (omega arith) (c .before .before .before .before .before .before .before .before .before .pre .2) (c .before .before .before .read82 .ensures) (sym (c .before .line-there .ensures) ∙ not-true _ (c .if1 .taken)))
+returns c = lines-told (recordAt (c .before .before .before .before .before .before .before .before .before .args .t .now) (c .before .before .before .before .before .before .before .before .before .args .at)) (c .before .before .before .before .before .before .before .before .before .args .lines) (c .before .before .before .before .before .loop .inv .3 ∙ there-stop (c .before .before .before .before .before .before .before .before .before .args .t .now) (c .before .before .before .before .before .before .before .before .before .args .at) (c .before .before .before .before .before .before .before .before .before .args .lines) (c .before .before .before .before .before .loop .k) (c .before .before .before .before .before .loop .rest) (c .before .before .before .read82 .result) (omega arith) (omega arith) (c .before .before .before .before .before .before .before .before .before .pre .2) (c .before .before .before .read82 .ensures) (there-not _ _ _ (sym (c .before .state-there .ensures) ∙ not-true _ (c .if1 .taken))))
 
 returns-2 : tie.Need-returns-2 Inv-loop μ-loop
 returns-2 c = lines-told (recordAt (c .before .before .before .before .before .before .before .before .before .before .args .t .now) (c .before .before .before .before .before .before .before .before .before .before .args .at)) (c .before .before .before .before .before .before .before .before .before .before .args .lines) (c .before .before .before .before .before .before .loop .inv .3 ∙ over-stop (c .before .before .before .before .before .before .before .before .before .before .args .t .now) (c .before .before .before .before .before .before .before .before .before .before .args .at) (c .before .before .before .before .before .before .before .before .before .before .args .lines) (c .before .before .before .before .before .before .loop .k) (c .before .before .before .before .before .before .loop .rest) (c .before .before .before .before .read82 .result) (omega arith) (omega arith) (c .before .before .before .before .before .before .before .before .before .before .pre .2) (c .before .before .before .before .read82 .ensures) (c .if2 .taken))
@@ -88,7 +96,7 @@ loop-again : tie.Need-loop-again Inv-loop μ-loop
 loop-again c =
     let e = there-cents (c .before .before .before .before .before .before .before .before .before .before .before .args .t .now) (c .before .before .before .before .before .before .before .before .before .before .before .args .at) (c .before .before .before .before .before .before .before .before .before .before .before .args .lines) (c .before .before .before .before .before .before .before .loop .k) (c .before .before .before .before .before .before .before .loop .rest) (c .before .before .before .before .before .read82 .result) (omega arith) (omega arith) (c .before .before .before .before .before .before .before .before .before .before .before .pre .2) (c .before .before .before .before .before .read82 .ensures) in
     let x : c .line-cents .result ≡ cond (eqb (getD (c .before .before .before .before .before .before .before .before .before .before .before .args .t .now) (c .before .before .before .before .before .before .before .before .before .before .before .args .at + 24 + c .before .before .before .before .before .before .before .loop .k) 0) 2) (c .before .before .before .before .before .read82 .result) 0 = c .line-cents .ensures .0 in
-    (omega arith, omega arith, omega arith, c .before .before .before .before .before .before .before .loop .inv .3 ∙ there-go (c .before .before .before .before .before .before .before .before .before .before .before .args .t .now) (c .before .before .before .before .before .before .before .before .before .before .before .args .at) (c .before .before .before .before .before .before .before .before .before .before .before .args .lines) (c .before .before .before .before .before .before .before .loop .k) (c .before .before .before .before .before .before .before .loop .rest) (c .before .before .before .before .before .read82 .result) (omega arith) (omega arith) (c .before .before .before .before .before .before .before .before .before .before .before .pre .2) (c .before .before .before .before .before .read82 .ensures) (sym (c .before .before .before .line-there .ensures) ∙ not-false _ (c .before .before .if1 .left)) (c .before .if2 .left))
+    (omega arith, omega arith, omega arith, c .before .before .before .before .before .before .before .loop .inv .3 ∙ there-go (c .before .before .before .before .before .before .before .before .before .before .before .args .t .now) (c .before .before .before .before .before .before .before .before .before .before .before .args .at) (c .before .before .before .before .before .before .before .before .before .before .before .args .lines) (c .before .before .before .before .before .before .before .loop .k) (c .before .before .before .before .before .before .before .loop .rest) (c .before .before .before .before .before .read82 .result) (omega arith) (omega arith) (c .before .before .before .before .before .before .before .before .before .before .before .pre .2) (c .before .before .before .before .before .read82 .ensures) (there-by _ _ _ (omega arith) (sym (c .before .before .before .state-there .ensures) ∙ not-false _ (c .before .before .if1 .left))) (c .before .if2 .left), omega arith)
 
 told-by-requires : tie.Need-told-by-requires Inv-loop μ-loop
 told-by-requires c κs = search needs
@@ -122,7 +130,7 @@ lines-there-spec =
     add-state
     add-state-2
     shared-slice-read-state
-    line-there-requires
+    state-there-requires
     returns
     returns-2
     line-cents-requires

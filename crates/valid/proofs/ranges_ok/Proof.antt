@@ -1,14 +1,33 @@
 use Prim.Native.Nat.{ℕ}
-use mathlib.Core.Path.{ap, _∙_}
+use mathlib.Core.Path.{sym, ap, _∙_}
 use lib.Dec.{leb}
+use borrow.Author.Tests.{not-true, not-false}
 use Rattle.scan.specs.Bytes.{between}
 use Rattle.record.specs.Slot.{recordAt}
+use Rattle.bounds.specs.Bounds.{maxCents}
 use Rattle.valid.specs.Valid.{rangesOk}
-use Rattle.valid.proofs.Laws.{and-eq}
+use Rattle.valid.proofs.Laws.{and-eq, and-known}
+use Rattle.valid.proofs.Lines.{date-not}
 use borrow.Author.Needs.{needs}
 use Rattle.valid.proofs.ranges_ok.Statement.{statement}
-use Rattle.bounds.specs.Bounds.{maxCents}
 use Rattle.valid.proofs.ranges_ok.Tie as tie
+use Rattle.valid.proofs.ranges_ok.Reads as reads
+use Rattle.valid.proofs.ranges_ok.Lts as lts
+use Rattle.record.proofs.both.Reads as both-reads
+use Rattle.valid.proofs.date_ok.Reads as date-ok-reads
+use Rattle.words.proofs.read2.Reads as read2-reads
+use Rattle.words.proofs.read4.Reads as read4-reads
+use Rattle.words.proofs.read8.Reads as read8-reads
+
+add-date-ok : tie.Need-add-date-ok
+add-date-ok c = search needs
+
+date-ok-requires : tie.Need-date-ok-requires
+date-ok-requires c κs = search needs
+
+returns : tie.Need-returns
+unfolding recordAt
+returns c = sym (date-not (recordAt (c .before .before .before .args .t .now) (c .before .before .before .args .at)) (sym (c .before .date-ok .ensures) ∙ not-true _ (c .if1 .taken)))
 
 shared-slice-read-kind : tie.Need-shared-slice-read-kind
 shared-slice-read-kind c = search needs
@@ -58,12 +77,6 @@ both-requires-4 c κs = search needs
 both-requires-5 : tie.Need-both-requires-5
 both-requires-5 c κs = search needs
 
-add-date-ok : tie.Need-add-date-ok
-add-date-ok c = search needs
-
-date-ok-requires : tie.Need-date-ok-requires
-date-ok-requires c κs = search needs
-
 both-requires-6 : tie.Need-both-requires-6
 both-requires-6 c κs = search needs
 
@@ -79,23 +92,23 @@ both-requires-9 c κs = search needs
 both-requires-10 : tie.Need-both-requires-10
 both-requires-10 c κs = search needs
 
-both-requires-11 : tie.Need-both-requires-11
-both-requires-11 c κs = search needs
-
-returns : tie.Need-returns
+returns-2 : tie.Need-returns-2
 unfolding rangesOk recordAt
-returns c =
-    and-eq (c .both11 .ensures) (c .before .before .before .before .before .before .before .before .before .before .before .both .ensures)
-    (and-eq (c .before .both10 .ensures) (c .before .before .before .before .before .before .before .before .before .before .both2 .ensures)
-    (and-eq (c .before .before .both9 .ensures) (c .before .before .before .before .before .before .before .before .before .both3 .ensures)
-    (and-eq (c .before .before .before .both8 .ensures) (c .before .before .before .before .before .before .before .before .both4 .ensures ∙ ap (between 2000 2099) (c .before .before .before .before .before .before .before .before .before .before .before .before .before .before .read2 .ensures .0))
-    (and-eq (c .before .before .before .before .both7 .ensures) (c .before .before .before .before .before .before .before .both5 .ensures ∙ ap (between 1 9999999) (c .before .before .before .before .before .before .before .before .before .before .before .before .before .read4 .ensures .0))
-    (and-eq (c .before .before .before .before .before .both6 .ensures) (c .before .before .before .before .before .before .date-ok .ensures) (ap (λ (x : ℕ). leb x maxCents) (c .before .before .before .before .before .before .before .before .before .before .before .before .read8 .ensures)))))))
+returns-2 c =
+    and-eq (c .both10 .ensures) (c .before .before .before .before .before .before .before .before .before .both .ensures)
+    (and-eq (c .before .both9 .ensures) (c .before .before .before .before .before .before .before .before .both2 .ensures)
+    (and-eq (c .before .before .both8 .ensures) (c .before .before .before .before .before .before .before .both3 .ensures)
+    (and-eq (c .before .before .before .both7 .ensures) (c .before .before .before .before .before .before .both4 .ensures ∙ ap (between 2000 2099) (c .before .before .before .before .before .before .before .before .before .before .before .before .read2 .ensures .0))
+    (and-eq (c .before .before .before .before .both6 .ensures) (c .before .before .before .before .before .both5 .ensures ∙ ap (between 1 9999999) (c .before .before .before .before .before .before .before .before .before .before .before .read4 .ensures .0))
+    (and-known (sym (c .before .before .before .before .before .before .before .before .before .before .before .before .before .before .before .before .before .date-ok .ensures) ∙ not-false _ (c .before .before .before .before .before .before .before .before .before .before .before .before .before .before .before .before .if1 .left)) (ap (λ (x : ℕ). leb x maxCents) (c .before .before .before .before .before .before .before .before .before .before .read8 .ensures)))))))
 
 pub ranges-ok-spec : {M : Type 1} → statement M
 ranges-ok-spec =
     tie.close
     (tie.spec
+    add-date-ok
+    date-ok-requires
+    returns
     shared-slice-read-kind
     add-state
     shared-slice-read-state
@@ -112,12 +125,9 @@ ranges-ok-spec =
     both-requires-3
     both-requires-4
     both-requires-5
-    add-date-ok
-    date-ok-requires
     both-requires-6
     both-requires-7
     both-requires-8
     both-requires-9
     both-requires-10
-    both-requires-11
-    returns)
+    returns-2)
