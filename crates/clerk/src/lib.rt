@@ -18,6 +18,10 @@ fn key_in(s: &[u8]) -> Key {
 }
 
 fn run_execute(r: Room, s: &[u8]) -> Room {
+    if word(s, 6).len() == 0 {
+        say_help();
+        return r;
+    }
     let told = room_notices::execute(
         r,
         word(s, 1),
@@ -33,6 +37,10 @@ fn run_execute(r: Room, s: &[u8]) -> Room {
 }
 
 fn run_reverse(r: Room, s: &[u8]) -> Room {
+    if word(s, 6).len() == 0 {
+        say_help();
+        return r;
+    }
     let told = room_notices::reverse(
         r,
         word(s, 1),
@@ -58,7 +66,11 @@ fn say_refused(f: &[u8], edition: u64, code: u64, place: u64, cause: u64) -> boo
     match code {
         3 => say(b"  3, the markup breaks\n"),
         4 => say(b"  4, the structure breaks\n"),
-        5 => say(b"  5, a field breaks, at byte ") && clerk_words::say_plain(place) && say(b"\n"),
+        5 => say(b"  5, a field breaks, at byte ")
+            && clerk_words::say_plain(place)
+            && say(b", cause ")
+            && clerk_words::say_plain(cause)
+            && say(b"\n"),
         _ => reasons::of_flow(f, code, place, cause),
     }
 }
@@ -109,7 +121,7 @@ fn run_list(r: Room, body: &[u8]) {
         Found::At(b) => {
             let p = room::seat_at(r, b);
             let book = p.book;
-            clerk_words::say_list(book);
+            clerk_words::say_orders(book);
         }
         Found::Nothing => {
             clerk_words::say_unknown();

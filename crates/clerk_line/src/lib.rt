@@ -16,11 +16,22 @@ enum Next {
     End,
 }
 
+// A tab, or the CR before a line's end, parts words as a space does.
+fn blank(b: u8) -> u8 {
+    if b == b'\t' {
+        b' '
+    } else if b == b'\r' {
+        b' '
+    } else {
+        b
+    }
+}
+
 fn next_byte() -> Next {
     let mut one = [0u8; 1];
     let got = libc::read(libc::STDIN_FILENO, &mut one);
     if got == 1 {
-        Next::Byte(one[0])
+        Next::Byte(blank(one[0]))
     } else {
         Next::End
     }

@@ -220,7 +220,14 @@ fn say_record(r: Record) -> bool {
 }
 
 // A body's orders in order of arrival.
-pub fn say_list(b: Book) -> bool {
+pub fn say_orders(b: Book) -> bool {
+    if training::size(b) == 0 {
+        return say(b"  no order\n");
+    }
+    say_list(b)
+}
+
+fn say_list(b: Book) -> bool {
     let n = training::size(b);
     let mut i: usize = 0;
     while i < n {

@@ -87,7 +87,7 @@ fn teach(t: &[u8]) {
         Enrolled::Ready => take_lines(room, 1000000000000),
         Enrolled::InvalidTable => printing::complain(b"the table is not valid\n"),
         Enrolled::TooLarge => printing::complain(
-            b"a body of the table has more than 32 slots: the training room takes tables of at most 32\n",
+            b"a body of the table has more than 32 slots: the training room takes tables whose bodies have at most 32\n",
         ),
         Enrolled::YearClosed => printing::complain(
             b"a body of the table has closed a year: the training room closes none, and takes no such table\n",

@@ -209,6 +209,7 @@ fn wanted(engine: &dyn Engine, case: &Case) -> Vec<Wanted> {
     for (at, line) in lists(case).into_iter().enumerate() {
         lines.push(said_again(line));
         match bodies.get(at) {
+            Some(body) if body.orders.is_empty() => lines.push(whole("  no order")),
             Some(body) => lines.extend(body.orders.iter().map(record)),
             None => lines.push(refused(7)),
         }
@@ -229,10 +230,10 @@ fn taken(answer: &FlowAnswer, outcomes: &[u8]) -> Vec<Wanted> {
     iter::once(whole(first)).chain(orders).collect()
 }
 
-/// A field that breaks: with edition 1 its name, its text, its place and the cause, with edition 2 its place.
+/// A field that breaks: with edition 1 its name, its text, its place and the cause, with edition 2 its place and the cause.
 fn broken_field(edition: u64, flow: &[u8], answer: &FlowAnswer) -> Wanted {
     if edition == 2 {
-        return whole(format!("  5, a field breaks, at byte {}", answer.place));
+        return whole(format!("  5, a field breaks, at byte {}, cause {}", answer.place, answer.cause));
     }
     let mut parts = flow[answer.place as usize + 1..].splitn(2, |&byte| byte == b'>');
     let (name, rest) = (parts.next().unwrap_or_default(), parts.next().unwrap_or_default());

@@ -14,8 +14,8 @@ enum-known-b c = search needs
 seat-at-requires : tie.Need-seat-at-requires
 seat-at-requires c κs = numbered-low (roomOf (c .before .before .before .before .before .args .r)) (c .before .before .before .before .before .args .body .now) _ (sym (c .before .before .before .find-seat .ensures) ∙ c .before .b .given .1)
 
-say-list-requires : tie.Need-say-list-requires
-say-list-requires c κs = search needs
+say-orders-requires : tie.Need-say-orders-requires
+say-orders-requires c κs = search needs
 
 enum-told : tie.Need-enum-told
 enum-told c = search needs
@@ -36,7 +36,7 @@ run-list-spec =
     find-seat-requires
     enum-known-b
     seat-at-requires
-    say-list-requires
+    say-orders-requires
     enum-told
     say-unknown-requires
     returns
