@@ -2,7 +2,7 @@
 use mathlib.Core.Path.{_≡_, refl, sym, ap, _∙_, subst}
 use mathlib.Core.Bool.{true, false}
 use mathlib.Core.List.{List, [], _∷_}
-use Prim.Native.Nat.{ℕ}
+use Prim.Native.Nat.{ℕ, _≤_}
 use lib.ListN.{length}
 use Rattle.target_days.specs.Target.{targetCode}
 use Rattle.isolation.specs.Machine.{stateAfter, log}
@@ -10,7 +10,8 @@ use Rattle.theorems.specs.Engine.{Answer, ofFlow, ofNotice, ofTotals, Engine, a
 use Rattle.theorems.proofs.Steps.{one-step}
 use Rattle.theorems.proofs.Steps as desk
 use Rattle.theorems.proofs.Condition3.{condition3}
-use Rattle.plain.specs.Plain.{Plain, numbered}
+use Rattle.table.specs.Table.{headSize, bodies}
+use Rattle.plain.specs.Plain.{Plain, bodyIn, numbered}
 use Rattle.plain.specs.Flows.{flowTeaches, taughtAnswer, taughtRoom, taughtOutcomes}
 use Rattle.plain.specs.Notices.{noticeFor, roomFor, dayAnswer, dayRoom, totalsFor}
 use Rattle.plain.specs.Says.{plainOf, small}
@@ -18,6 +19,7 @@ use Rattle.enrolment.specs.declared.Enrolled.the-variants.{Ready}
 use Rattle.enrolment.specs.Enrolment.{enrols, roomBy, EnrolPromise}
 use Rattle.lessons.specs.Lessons.{Lesson, flow, execute, reverse, totals, atDesk, Teach, Learns, nothing, lesson, onTable, taken, Lessons}
 use Rattle.lessons.proofs.Fit.{Fit, ready-fit, fit-ready}
+use Rattle.lessons.proofs.Listed.{within-slots}
 use Rattle.lessons.proofs.Image.{Leads, still}
 use Rattle.lessons.proofs.Agree.{flow-matches, flow-answers, flow-leads, notice-answers, notice-leads, totals-answers}
 
@@ -107,6 +109,10 @@ pub lessons : Lessons
 lessons = record {
   answers = λ E t s u ls p q. let w = made t s p in same E t (w .0) (w .1) q .0;
   lists = λ E t s u ls p q. let w = made t s p in same E t (w .0) (w .1) q .1;
+  within = λ t s u ls b p q.
+      let w = made t s p in
+      let v = stateAfter (onTable desk.ours) (taken ls) t in
+      subst (λ (x : Plain). length (bodyIn x b .orders) ≤ bodyIn x b .slots) (sym (same desk.ours t (w .0) (w .1) q .1)) (within-slots v headSize (bodies v) b);
   stays = λ E cs t e. let w = ready-fit t e in fit-ready (stateAfter (onTable E) cs t) (fit-after E cs t (w .0)) (large-after E cs t (w .0) ∙ w .1);
   never-invalid = not-invalid;
   answered = λ c s. (answer c s, after c s, steps c s);

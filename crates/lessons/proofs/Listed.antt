@@ -1,15 +1,17 @@
 -- THE BODIES THAT A TABLE SAYS, entry by entry: their codes, one of them, and one in place of another; and tests of every entry.
-use Prim.Native.Nat.{ℕ, zero, suc, _+_, _*_, _<_}
+use Prim.Native.Nat.{ℕ, zero, suc, _+_, _*_, _≤_, _<_}
 use mathlib.Core.Path.{_≡_, refl, ap, _∙_, subst}
 use mathlib.Core.Bool.{Bool, true, _&&_}
 use mathlib.Core.List.{List, _∷_, map}
 use native.Mathlib.Omega.{arith}
 use native.Mathlib.Nat.{not-suc-le-zero}
-use lib.ListN.{getD, set}
+use lib.ListN.{length, getD, set}
 use Rattle.scan.proofs.Laws.{both}
-use Rattle.entries.specs.Entry.{entrySize, codeAt, codesFrom}
+use Rattle.slots.proofs.Laws.{used-le}
+use Rattle.slots.proofs.Index.{length-records}
+use Rattle.entries.specs.Entry.{entrySize, codeAt, slotsOf, placeOf, codesFrom}
 use Rattle.table.proofs.Kept.{first, later}
-use Rattle.plain.specs.Plain.{Listed}
+use Rattle.plain.specs.Plain.{Listed, noBody}
 use Rattle.plain.specs.Says.{listedAt, listedFrom, eachEntry}
 
 pub codes-is : (t : List ℕ) (at n : ℕ) → map (λ (l : Listed). l .code) (listedFrom t at n) ≡ codesFrom entrySize t at n
@@ -24,6 +26,13 @@ listed-at t at (suc n) zero d h = let q : at ≡ at + entrySize * 0 = omega arit
 listed-at t at (suc n) (suc b) d h =
     let q : at + entrySize + entrySize * b ≡ at + entrySize * suc b = omega arith in
     listed-at t (at + entrySize) n b d (omega arith) ∙ ap (listedAt t) q
+
+-- none has more orders than slots
+pub within-slots : (t : List ℕ) (at n b : ℕ) → length (getD (listedFrom t at n) b noBody .orders) ≤ getD (listedFrom t at n) b noBody .slots
+unfolding listedFrom
+within-slots t at zero b = omega arith
+within-slots t at (suc n) zero = omega (arith, length-records t (placeOf t at) (slotsOf t at), used-le t (placeOf t at) (slotsOf t at))
+within-slots t at (suc n) (suc b) = within-slots t (at + entrySize) n b
 
 -- two tables say the same of the n entries from `at` on
 same-listed : (t u : List ℕ) (at n : ℕ) → ((b : ℕ) → b < n → listedAt t (at + entrySize * b) ≡ listedAt u (at + entrySize * b)) → listedFrom t at n ≡ listedFrom u at n

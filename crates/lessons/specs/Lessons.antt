@@ -1,10 +1,11 @@
 -- THE TRAINING ROOM AND THE TABLE ENGINE (document 02, Req 12): "On valid tables whose bodies have at most 32 slots it is proved, over all flows and notices, to give every
 -- answer and outcome the table engine gives, and its lists are what the records say." Proved: `lessons : Lessons`.
-use Prim.Native.Nat.{ℕ}
+use Prim.Native.Nat.{ℕ, _≤_}
 use mathlib.Core.Path.{_≡_}
 use mathlib.Core.Bool.{true, false}
 use mathlib.Core.Option.{none}
 use mathlib.Core.List.{List, [], _∷_, map}
+use lib.ListN.{length}
 use Rattle.calendar.specs.declared.Date.{Date}
 use Rattle.record.specs.declared.Key.{Key}
 use Rattle.notices.specs.declared.NoticeAnswer.{NoticeAnswer}
@@ -13,7 +14,7 @@ use Rattle.desk.specs.declared.FlowAnswer.{FlowAnswer}
 use Rattle.isolation.specs.Machine.{Machine, stateAfter, log}
 use Rattle.theorems.specs.Engine.{Answer, ofFlow, ofNotice, ofTotals, Engine, answerCode}
 use Rattle.theorems.specs.Engine as desk
-use Rattle.plain.specs.Plain.{Plain}
+use Rattle.plain.specs.Plain.{Plain, bodyIn}
 use Rattle.plain.specs.Flows.{FlowLesson}
 use Rattle.plain.specs.Notices.{NoticeLesson, TotalsLesson}
 use Rattle.plain.specs.Says.{plainOf}
@@ -74,6 +75,8 @@ pub record Lessons : Type 0 where
   -- "its lists are what the records say"
   pub lists : (E : Engine) (t : List ℕ) (s u : Plain) (ls : List (Lesson × Answer)) → EnrolPromise t Ready s → Learns s ls u
       → u ≡ plainOf (stateAfter (onTable E) (taken ls) t)
+  -- "as many as the body has slots"
+  pub within : (t : List ℕ) (s u : Plain) (ls : List (Lesson × Answer)) (b : ℕ) → EnrolPromise t Ready s → Learns s ls u → length (bodyIn u b .orders) ≤ bodyIn u b .slots
   -- "meets no closed table" (Req 14): the table on which the same lessons were taken is one that the room takes, at any moment
   pub stays : (E : Engine) (cs : List Lesson) (t : List ℕ) → enrols t ≡ Ready → enrols (stateAfter (onTable E) cs t) ≡ Ready
   -- no lesson is answered 1
