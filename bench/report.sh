@@ -3,7 +3,7 @@
 cat <<TEXT
 # Benchmark
 
-Written by \`bench/run\`, which installs the peers, builds, measures and writes this page anew. It is not a part of \`./test\`.
+Written by \`bench/run\`, which builds, measures and writes this page anew, and installs the peers only with --install. It is not a part of \`./test\`.
 
 ![time of one flow relative to libxml2 + SQLite](benchmark.svg)
 
