@@ -5,19 +5,19 @@ use mathlib.Core.Bool.{Bool, true, false, cond, _&&_}
 use Prim.Native.Nat.{ℕ, zero, suc, _+_, _-_, _≤_, _<_}
 use native.Mathlib.Nat.{add-zero}
 use native.Mathlib.Omega.{arith}
-use lib.ListN.{length, getD, drop, length-drop, length-append}
-use lib.Seq.{drop-drop, drop-append-le}
+use lib.ListN.{length, getD, take, drop, length-drop, length-take, length-append}
+use lib.Seq.{drop-drop, drop-append-le, take-append-le}
 use lib.Dec.{leb, eqb}
 use borrow.Author.Tests.{eqb-true, eq-eqb, leb-true}
 use Rattle.scan.specs.declared.Walk.{Walk}
 use Rattle.scan.specs.declared.Walk.the-variants.{Past, Broken}
-use Rattle.scan.specs.Bytes.{bytes, byte, byteAt, isLetter, isDigit, isNameByte, run, runEnd, startsWith, hasAt}
-use Rattle.scan.proofs.Laws.{both, cond-past, has-within}
-use Rattle.tokens.specs.Tokens.{nameAt}
-use Rattle.tokens.proofs.Laws.{name-past, name-some}
-use Rattle.fields.specs.declared.Form.the-variants.{TipoOperazione, Numero, Data, Importo, Progressivo, Anagrafica}
+use Rattle.scan.specs.Bytes.{bytes, byte, byteAt, part, isLetter, isDigit, isNameByte, run, runEnd, startsWith, hasAt}
+use Rattle.scan.proofs.Laws.{both, cond-past, stands, has-within}
+use Rattle.tokens.specs.Tokens.{nameAt, endTagAt}
+use Rattle.tokens.proofs.Laws.{name-past, name-some, end-some}
+use Rattle.fields.specs.declared.Form.the-variants.{CodiceAbi, Identificativo, DataOra, CodiceEnte, Esercizio, TipoOperazione, Numero, Data, Importo, Progressivo, Anagrafica, DataOraZona}
 use Rattle.schema.specs.declared.Parent.{Parent}
-use Rattle.schema.specs.declared.Parent.the-variants.{FlussoOrdinativi, Mandato, Reversale, InformazioniBeneficiario, InformazioniVersante, Beneficiario, Versante, FlussoOpi}
+use Rattle.schema.specs.declared.Parent.the-variants.{FlussoOrdinativi, Mandato, Reversale, InformazioniBeneficiario, InformazioniVersante, Beneficiario, Versante, FlussoOpi, TestataFlusso}
 use Rattle.schema.specs.declared.Holds.{Holds}
 use Rattle.schema.specs.declared.Holds.the-variants.{Text, Rows}
 use Rattle.schema.specs.declared.Spot.{Spot}
@@ -50,13 +50,13 @@ module _ (x s : List ℕ) (i : ℕ) (has : hasAt x s i ≡ true) where
   after : (k : ℕ) → k ≤ length x → drop (i + k) s ≡ drop k x ++ has-join x s i has .0
   after k h = sym (drop-drop k i s) ∙ (ap (drop k) (has-join x s i has .1) ∙ drop-append-le k x (has-join x s i has .0) h)
 
-  run-in : (p : ℕ → Bool) (k : ℕ) → k ≤ length x → runEnd p x k < length x → runEnd p s (i + k) ≡ i + runEnd p x k
+  pub run-in : (p : ℕ → Bool) (k : ℕ) → k ≤ length x → runEnd p x k < length x → runEnd p s (i + k) ≡ i + runEnd p x k
   unfolding runEnd
   run-in p k h l =
       let z = run-append p (drop k x) (has-join x s i has .0) (omega (arith, length-drop k x)) in
       rw (after k h, z) (omega arith)
 
-  name-in : (e : ℕ) → nameAt x 1 ≡ Past e → e < length x → nameAt s (i + 1) ≡ Past (i + e)
+  pub name-in : (e : ℕ) → nameAt x 1 ≡ Past e → e < length x → nameAt s (i + 1) ≡ Past (i + e)
   unfolding nameAt
   name-in e n l =
       let c = cond-past (isLetter (byteAt x 1) && leb (runEnd isNameByte x 1 - 1) 48) (Past (runEnd isNameByte x 1)) 1 n in
@@ -68,24 +68,50 @@ module _ (x s : List ℕ) (i : ℕ) (has : hasAt x s i ≡ true) where
       let k = leb-true (runEnd isNameByte x 1 - 1) 48 (b .1) in
       name-some s (i + 1) (ap isLetter (has-same s x i has 1 (omega arith)) ∙ b .0) (i + e) (omega arith) (omega arith)
 
-  is-in : (y : List ℕ) (e : ℕ) → 1 ≤ e → e < length x → nameIs y s (i + 1) (i + e) ≡ nameIs y x 1 e
+  pub is-in : (y : List ℕ) (a e : ℕ) → a ≤ e → e ≤ length x → nameIs y s (i + a) (i + e) ≡ nameIs y x a e
   unfolding nameIs hasAt
-  is-in y e h l =
-      let z : i + e - (i + 1) ≡ e - 1 = omega arith in
-      rw z (go (eqb (e - 1) (length y)) refl)
+  is-in y a e h l =
+      let z : i + e - (i + a) ≡ e - a = omega arith in
+      rw z (go (eqb (e - a) (length y)) refl)
     where
-      go : (b : Bool) → eqb (e - 1) (length y) ≡ b → (b && startsWith y (drop (i + 1) s)) ≡ (b && startsWith y (drop 1 x))
-      go true f = rw (after 1 (omega arith)) (starts-append y (drop 1 x) (has-join x s i has .0) (omega (arith, length-drop 1 x, eqb-true (e - 1) (length y) f)))
+      go : (b : Bool) → eqb (e - a) (length y) ≡ b → (b && startsWith y (drop (i + a) s)) ≡ (b && startsWith y (drop a x))
+      go true f = rw (after a (omega arith)) (starts-append y (drop a x) (has-join x s i has .0) (omega (arith, length-drop a x, eqb-true (e - a) (length y) f)))
       go false f = refl
 
-  module _ (e : ℕ) (h : 1 ≤ e) (l : e < length x) where
+  module _ (e : ℕ) (h : 1 ≤ e) (l : e ≤ length x) where
     among-in : (ns : List Named) (n : ℕ) (o w : Spot) → o ≡ w → among ns n s (i + 1) (i + e) o ≡ among ns n x 1 e w
     among-in [] n o w f = f
-    among-in ((y is k) ∷ ns) n o w f = rw (is-in (bytes y) e h l, among-in ns n o w f)
+    among-in ((y is k) ∷ ns) n o w f = rw (is-in (bytes y) 1 e h l, among-in ns n o w f)
 
     spot-in : (rs : List Row) (n : ℕ) → spotIn rs n s (i + 1) (i + e) ≡ spotIn rs n x 1 e
     spot-in [] n = refl
     spot-in (r ∷ rs) n = among-in (r .names) n (spotIn rs (suc n) s (i + 1) (i + e)) (spotIn rs (suc n) x 1 e) (spot-in rs (suc n))
+
+  has-in : (y : List ℕ) (k : ℕ) → k + length y ≤ length x → hasAt y s (i + k) ≡ hasAt y x k
+  unfolding hasAt
+  has-in y k h = rw (after k (omega arith)) (starts-append y (drop k x) (has-join x s i has .0) (omega (arith, length-drop k x)))
+
+  part-in : (a e : ℕ) → a ≤ e → e ≤ length x → part s (i + a) (i + e) ≡ part x a e
+  part-in a e h l =
+      let z : i + e - (i + a) ≡ e - a = omega arith in
+      rw (z, after a (omega arith)) (take-append-le (e - a) (drop a x) (has-join x s i has .0) (omega (arith, length-drop a x)))
+
+  pub end-in : (e p q : ℕ) → 1 ≤ e → e ≤ length x → endTagAt x 1 e p ≡ Past q → endTagAt s (i + 1) (i + e) (i + p) ≡ Past (i + q)
+  unfolding endTagAt
+  end-in e p q h l f =
+      let c = cond-past (hasAt (bytes "</") x p && (hasAt (part x 1 e) x (p + 2) && eqb (byteAt x (p + 2 + (e - 1))) 62)) (Past (p + 2 + (e - 1) + 1)) p f in
+      let d = both (hasAt (bytes "</") x p) (hasAt (part x 1 e) x (p + 2) && eqb (byteAt x (p + 2 + (e - 1))) 62) (c .0) in
+      let g = both (hasAt (part x 1 e) x (p + 2)) (eqb (byteAt x (p + 2 + (e - 1))) 62) (d .1) in
+      let w : p + 2 + (e - 1) < length x = stands 61 x (p + 2 + (e - 1)) (g .1) in
+      let y = c .1 in
+      let r : p + 2 + (e - 1) + 1 ≡ q = cc in
+      let m : length (part x 1 e) ≤ e - 1 = omega (arith, length-take (e - 1) (drop 1 x)) in
+      let z₁ : i + (p + 2) ≡ i + p + 2 = omega arith in
+      let z₂ : i + (p + 2 + (e - 1)) ≡ i + p + 2 + (i + e - (i + 1)) = omega arith in
+      let z₃ : i + p + 2 + (i + e - (i + 1)) + 1 ≡ i + q = omega arith in
+      let k : hasAt (part s (i + 1) (i + e)) s (i + p + 2) ≡ true = rw (part-in 1 e h l) (rw z₁ at (has-in (part x 1 e) (p + 2) (omega arith) ∙ g .0)) in
+      let b : byteAt s (i + p + 2 + (i + e - (i + 1))) ≡ 62 = rw z₂ at (has-same s x i has (p + 2 + (e - 1)) w ∙ eqb-true _ _ (g .1)) in
+      end-some s (i + 1) (i + e) (i + p) (has-in (bytes "</") p (omega arith) ∙ d .0) k b ∙ ap Past z₃
 
   pub opens-in : (p : Parent) (e row : ℕ) (h : Holds) → i ≤ length s → Opens p x 0 e row h → Opens p s i (i + e) row h
   opens-in p e row h w o =
@@ -97,7 +123,7 @@ module _ (x s : List ℕ) (i : ℕ) (has : hasAt x s i ≡ true) where
         name = name-in e (o .name) l;
         gt = has-same s x i has e l ∙ o .gt;
         within = omega arith;
-        spot = spot-in e (omega arith) l (table p) 0 ∙ o .spot;
+        spot = spot-in e (omega arith) (omega arith) (table p) 0 ∙ o .spot;
       }
 
 -- the tag x compared: it opens a child of p, else what is seen is said by the others
@@ -128,7 +154,7 @@ cond-at : (b : Bool) (w : Spot) {n : ℕ} {h : Holds} → cond b w Passed ≡ At
 cond-at true w e = (refl, e)
 cond-at false w e = let z : _≡_ {A = ℕ} 0 1 = cc in absurd (omega arith)
 
-alone-opens : (p : Parent) (x : List ℕ) (row : ℕ) (h : Holds) → alone p x ≡ At row h → Opens p x 0 (length x - 1) row h
+pub alone-opens : (p : Parent) (x : List ℕ) (row : ℕ) (h : Holds) → alone p x ≡ At row h → Opens p x 0 (length x - 1) row h
 unfolding alone
 alone-opens p x row h e =
     let c = cond-at (eqb (byteAt x 0) (byte "<") && (pastAt (nameAt x 1) (length x - 1) && (eqb (byteAt x (length x - 1)) (byte ">") && leb 1 (length x)))) (spotIn (table p) 0 x 1 (length x - 1)) e in
@@ -161,6 +187,10 @@ spelled-lines r = ((refl, (refl, (refl, tt))), (refl, (refl, (refl, tt))))
 pub spelled-names : (alone Beneficiario (bytes "<anagrafica_beneficiario>") ≡ At 0 (Text Anagrafica)) × (alone Versante (bytes "<anagrafica_versante>") ≡ At 0 (Text Anagrafica))
 unfolding alone pastAt nameAt isLetter isDigit isNameByte run runEnd nameIs hasAt startsWith
 spelled-names = (refl, refl)
+
+pub spelled-headers : Spelled FlussoOrdinativi 0 (("<codice_ABI_BT>" is Text CodiceAbi) ∷ ("<identificativo_flusso>" is Text Identificativo) ∷ ("<data_ora_creazione_flusso>" is Text DataOra) ∷ ("<codice_ente_BT>" is Text CodiceEnte) ∷ ("<esercizio>" is Text Esercizio) ∷ []) × Spelled TestataFlusso 0 (("<codice_ABI_BT>" is Text CodiceAbi) ∷ ("<identificativo_flusso>" is Text Identificativo) ∷ ("<data_ora_creazione_flusso>" is Text DataOraZona) ∷ ("<codice_ente_BT>" is Text CodiceEnte) ∷ []) × Spelled FlussoOpi 0 (("<testata_flusso>" is Rows TestataFlusso) ∷ ("<esercizio>" is Text Esercizio) ∷ [])
+unfolding alone pastAt nameAt isLetter isDigit isNameByte run runEnd nameIs hasAt startsWith
+spelled-headers = ((refl, (refl, (refl, (refl, (refl, tt))))), (refl, (refl, (refl, (refl, tt)))), (refl, (refl, tt)))
 
 -- orders, in their row of a root
 pub Ordered : Parent → ℕ → Type 0

@@ -67,6 +67,74 @@ fn order_at(s: &[u8], i: usize, row: usize) -> Tag
     )
 }
 
+fn in_flusso(s: &[u8], i: usize, want: usize) -> Tag
+    requires { ⌜ i ≤ length (now s) ⌝ }
+    ensures { λ r. ⌜ Seen Parent.FlussoOrdinativi (now (s .entry)) i r ⌝ }
+{
+    match want {
+        0 => tag_at(s, i, b"<codice_ABI_BT>", 0, Holds::Text(Form::CodiceAbi)),
+        1 => tag_at(
+            s,
+            i,
+            b"<identificativo_flusso>",
+            1,
+            Holds::Text(Form::Identificativo),
+        ),
+        2 => tag_at(
+            s,
+            i,
+            b"<data_ora_creazione_flusso>",
+            2,
+            Holds::Text(Form::DataOra),
+        ),
+        3 => tag_at(s, i, b"<codice_ente_BT>", 3, Holds::Text(Form::CodiceEnte)),
+        4 => tag_at(s, i, b"<esercizio>", 4, Holds::Text(Form::Esercizio)),
+        _ => order_at(s, i, 5),
+    }
+}
+
+fn in_opi(s: &[u8], i: usize, want: usize) -> Tag
+    requires { ⌜ i ≤ length (now s) ⌝ }
+    ensures { λ r. ⌜ Seen Parent.FlussoOpi (now (s .entry)) i r ⌝ }
+{
+    match want {
+        0 => tag_at(
+            s,
+            i,
+            b"<testata_flusso>",
+            0,
+            Holds::Rows(Parent::TestataFlusso),
+        ),
+        1 => tag_at(s, i, b"<esercizio>", 1, Holds::Text(Form::Esercizio)),
+        _ => order_at(s, i, 2),
+    }
+}
+
+fn in_testata(s: &[u8], i: usize, want: usize) -> Tag
+    requires { ⌜ i ≤ length (now s) ⌝ }
+    ensures { λ r. ⌜ Seen Parent.TestataFlusso (now (s .entry)) i r ⌝ }
+{
+    match want {
+        0 => tag_at(s, i, b"<codice_ABI_BT>", 0, Holds::Text(Form::CodiceAbi)),
+        1 => tag_at(
+            s,
+            i,
+            b"<identificativo_flusso>",
+            1,
+            Holds::Text(Form::Identificativo),
+        ),
+        2 => tag_at(
+            s,
+            i,
+            b"<data_ora_creazione_flusso>",
+            2,
+            Holds::Text(Form::DataOraZona),
+        ),
+        3 => tag_at(s, i, b"<codice_ente_BT>", 3, Holds::Text(Form::CodiceEnte)),
+        _ => Tag::Other,
+    }
+}
+
 fn in_mandato(s: &[u8], i: usize, want: usize, replaces: bool) -> Tag
     requires { ⌜ i ≤ length (now s) ⌝ }
     ensures { λ r. ⌜ Seen (Parent.Mandato replaces) (now (s .entry)) i r ⌝ }
@@ -172,11 +240,7 @@ pub fn expected(s: &[u8], i: usize, parent: Parent, want: usize) -> Tag
     ensures { λ r. ⌜ Seen parent (now (s .entry)) i r ⌝ }
 {
     match parent {
-        Parent::FlussoOrdinativi => if want < 5 {
-            Tag::Other
-        } else {
-            order_at(s, i, 5)
-        },
+        Parent::FlussoOrdinativi => in_flusso(s, i, want),
         Parent::Mandato(r) => in_mandato(s, i, want, r),
         Parent::Reversale(r) => in_reversale(s, i, want, r),
         Parent::InformazioniBeneficiario(r) => in_beneficiario_line(s, i, want, r),
@@ -203,11 +267,7 @@ pub fn expected(s: &[u8], i: usize, parent: Parent, want: usize) -> Tag
         Parent::EsitoMandati => Tag::Other,
         Parent::ErroriReversali => Tag::Other,
         Parent::ErroriMandati => Tag::Other,
-        Parent::FlussoOpi => if want < 2 {
-            Tag::Other
-        } else {
-            order_at(s, i, 2)
-        },
-        Parent::TestataFlusso => Tag::Other,
+        Parent::FlussoOpi => in_opi(s, i, want),
+        Parent::TestataFlusso => in_testata(s, i, want),
     }
 }

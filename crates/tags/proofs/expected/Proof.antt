@@ -1,4 +1,4 @@
-use Rattle.tags.proofs.Laws.{told, told-order, spelled-names, ordered-roots}
+use Rattle.tags.proofs.Laws.{told, spelled-names}
 use Rattle.tags.specs.declared.Tag.the-variants.{Other}
 use borrow.Author.Needs.{needs}
 use Rattle.tags.proofs.expected.Statement.{statement}
@@ -6,17 +6,19 @@ use Rattle.tags.proofs.expected.Tie as tie
 use Rattle.tags.proofs.expected.Reads as reads
 use Rattle.tags.proofs.expected.Lts as lts
 use Rattle.tags.proofs.in_beneficiario_line.Reads as in-beneficiario-line-reads
+use Rattle.tags.proofs.in_flusso.Reads as in-flusso-reads
 use Rattle.tags.proofs.in_mandato.Reads as in-mandato-reads
+use Rattle.tags.proofs.in_opi.Reads as in-opi-reads
 use Rattle.tags.proofs.in_reversale.Reads as in-reversale-reads
+use Rattle.tags.proofs.in_testata.Reads as in-testata-reads
 use Rattle.tags.proofs.in_versante_line.Reads as in-versante-line-reads
-use Rattle.tags.proofs.order_at.Reads as order-at-reads
 use Rattle.tags.proofs.tag_at.Reads as tag-at-reads
 
 enum-told : tie.Need-enum-told
 enum-told c = search needs
 
-order-at-requires : tie.Need-order-at-requires
-order-at-requires c κs = search needs
+in-flusso-requires : tie.Need-in-flusso-requires
+in-flusso-requires c κs = search needs
 
 enum-known-parent : tie.Need-enum-known-parent
 enum-known-parent c = search needs
@@ -87,41 +89,44 @@ enum-told-11 c = search needs
 enum-told-12 : tie.Need-enum-told-12
 enum-told-12 c = search needs
 
-order-at-requires-2 : tie.Need-order-at-requires-2
-order-at-requires-2 c κs = search needs
+in-opi-requires : tie.Need-in-opi-requires
+in-opi-requires c κs = search needs
 
 enum-told-13 : tie.Need-enum-told-13
 enum-told-13 c = search needs
 
+in-testata-requires : tie.Need-in-testata-requires
+in-testata-requires c κs = search needs
+
 returns : tie.Need-returns
-returns c = search needs
+returns c = rw (c .before .enum-told .given .1) (c .in-flusso .ensures)
 
 returns-2 : tie.Need-returns-2
-returns-2 c = rw (c .before .before .enum-told .given .1) (told-order _ _ _ _ _ (ordered-roots .0) (c .before .before .before .before .before .pre) (c .order-at .ensures))
+returns-2 c = rw (c .before .before .parent .given .1) (c .in-mandato .ensures)
 
 returns-3 : tie.Need-returns-3
-returns-3 c = rw (c .before .before .parent .given .1) (c .in-mandato .ensures)
+returns-3 c = rw (c .before .before .parent2 .given .1) (c .in-reversale .ensures)
 
 returns-4 : tie.Need-returns-4
-returns-4 c = rw (c .before .before .parent2 .given .1) (c .in-reversale .ensures)
+returns-4 c = rw (c .before .before .parent3 .given .1) (c .in-beneficiario-line .ensures)
 
 returns-5 : tie.Need-returns-5
-returns-5 c = rw (c .before .before .parent3 .given .1) (c .in-beneficiario-line .ensures)
+returns-5 c = rw (c .before .before .parent4 .given .1) (c .in-versante-line .ensures)
 
 returns-6 : tie.Need-returns-6
-returns-6 c = rw (c .before .before .parent4 .given .1) (c .in-versante-line .ensures)
+returns-6 c = search needs
 
 returns-7 : tie.Need-returns-7
 returns-7 c = search needs
 
 returns-8 : tie.Need-returns-8
-returns-8 c = search needs
+returns-8 c = rw (c .before .before .enum-told4 .given .1) (told _ _ _ _ _ _ Other _ (spelled-names .0) (c .before .before .before .before .before .pre) tt (c .tag-at .ensures))
 
 returns-9 : tie.Need-returns-9
-returns-9 c = rw (c .before .before .enum-told4 .given .1) (told _ _ _ _ _ _ Other _ (spelled-names .0) (c .before .before .before .before .before .pre) tt (c .tag-at .ensures))
+returns-9 c = rw (c .before .before .enum-told5 .given .1) (told _ _ _ _ _ _ Other _ (spelled-names .1) (c .before .before .before .before .before .pre) tt (c .tag-at2 .ensures))
 
 returns-10 : tie.Need-returns-10
-returns-10 c = rw (c .before .before .enum-told5 .given .1) (told _ _ _ _ _ _ Other _ (spelled-names .1) (c .before .before .before .before .before .pre) tt (c .tag-at2 .ensures))
+returns-10 c = search needs
 
 returns-11 : tie.Need-returns-11
 returns-11 c = search needs
@@ -139,23 +144,17 @@ returns-15 : tie.Need-returns-15
 returns-15 c = search needs
 
 returns-16 : tie.Need-returns-16
-returns-16 c = search needs
+returns-16 c = rw (c .before .enum-told12 .given .1) (c .in-opi .ensures)
 
 returns-17 : tie.Need-returns-17
-returns-17 c = search needs
-
-returns-18 : tie.Need-returns-18
-returns-18 c = rw (c .before .before .enum-told12 .given .1) (told-order _ _ _ _ _ (ordered-roots .1) (c .before .before .before .before .before .pre) (c .order-at2 .ensures))
-
-returns-19 : tie.Need-returns-19
-returns-19 c = search needs
+returns-17 c = rw (c .before .enum-told13 .given .1) (c .in-testata .ensures)
 
 pub expected-spec : {M : Type 1} → statement M
 expected-spec =
     tie.close
     (tie.spec
     enum-told
-    order-at-requires
+    in-flusso-requires
     enum-known-parent
     in-mandato-requires
     enum-known-parent-2
@@ -179,8 +178,9 @@ expected-spec =
     enum-told-10
     enum-told-11
     enum-told-12
-    order-at-requires-2
+    in-opi-requires
     enum-told-13
+    in-testata-requires
     returns
     returns-2
     returns-3
@@ -197,6 +197,4 @@ expected-spec =
     returns-14
     returns-15
     returns-16
-    returns-17
-    returns-18
-    returns-19)
+    returns-17)
