@@ -1,3 +1,4 @@
 pub mod Kept
+pub mod Operation
 pub mod Read
 pub mod Replaces

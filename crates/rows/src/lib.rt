@@ -15,6 +15,7 @@ ghost use Rattle.schema.specs.Table.{table, spotIn};
 ghost use Rattle.rows.specs.Kept.{keptFrom, nextOf};
 ghost use Rattle.rows.specs.Read.{fieldRead};
 ghost use Rattle.rows.specs.Replaces.{replaces, rowsFor};
+ghost use Rattle.rows.specs.Operation.{Says, Tells};
 ghost use Rattle.tokens.specs.Tokens.{whiteAt};
 
 // A child that its parent names.
@@ -33,6 +34,12 @@ pub enum Next {
 pub enum FieldRead {
     Said(Value, usize),
     Broken(usize),
+}
+
+// Whether an order replaces others, where that was read.
+pub enum Replacing {
+    Known(bool),
+    Unread,
 }
 
 // Where a name stands in its parent's table.
@@ -88,12 +95,36 @@ pub fn next_named(s: &[u8], from: usize, parent: Parent, past: &[u32]) -> Next
     }
 }
 
-// Whether the order whose content begins at a place replaces others. (Its first named child is tipo_operazione, where its structure stands.)
-fn is_replacing(s: &[u8], at: usize, parent: Parent, past: &[u32]) -> bool
-    requires { ⌜ (at ≤ length (now s)) × Noted (now s) (now past) ⌝ }
-    ensures { λ r. ⌜ r ≡ replaces (now (s .entry)) (keptFrom parent (now (s .entry)) (whiteAt (now (s .entry)) at)) ⌝ }
+// What the order whose first child begins at a place says of replacing, where that is its tipo_operazione, written as usual: no note is needed for it.
+fn operation_at(s: &[u8], i: usize) -> Replacing
+    requires { ⌜ i ≤ length (now s) ⌝ }
+    ensures { λ r. ⌜ Tells (now (s .entry)) i r ⌝ }
 {
-    let mut i = scan::white_end(s, at);
+    if !tags::stands(s, i, b"<tipo_operazione>") {
+        return Replacing::Unread;
+    }
+    let at = i + 17;
+    if tags::stands(s, at, b"INSERIMENTO</tipo_operazione>") {
+        return Replacing::Known(false);
+    }
+    if tags::stands(s, at, b"SOSTITUZIONE</tipo_operazione>") {
+        return Replacing::Known(true);
+    }
+    if tags::stands(s, at, b"VARIAZIONE</tipo_operazione>") {
+        return Replacing::Known(false);
+    }
+    if tags::stands(s, at, b"ANNULLO</tipo_operazione>") {
+        return Replacing::Known(false);
+    }
+    Replacing::Unread
+}
+
+// Whether the order whose children begin at a place replaces others. (Its first named child is tipo_operazione, where its structure stands.)
+fn is_replacing_from(s: &[u8], from: usize, parent: Parent, past: &[u32]) -> bool
+    requires { ⌜ (from ≤ length (now s)) × Noted (now s) (now past) ⌝ }
+    ensures { λ r. ⌜ r ≡ replaces (now (s .entry)) (keptFrom parent (now (s .entry)) from) ⌝ }
+{
+    let mut i = from;
     loop {
         let Next::Named(k) = next_named(s, i, parent, past) else {
             return false;
@@ -103,6 +134,18 @@ fn is_replacing(s: &[u8], at: usize, parent: Parent, past: &[u32]) -> bool
             return schema::is(s, c.gt + 1, c.to, b"SOSTITUZIONE");
         }
         i = c.after;
+    }
+}
+
+// Whether the order whose content begins at a place replaces others.
+fn is_replacing(s: &[u8], at: usize, parent: Parent, past: &[u32]) -> bool
+    requires { ⌜ (at ≤ length (now s)) × Noted (now s) (now past) × Says parent ⌝ }
+    ensures { λ r. ⌜ r ≡ replaces (now (s .entry)) (keptFrom parent (now (s .entry)) (whiteAt (now (s .entry)) at)) ⌝ }
+{
+    let i = scan::white_end(s, at);
+    match operation_at(s, i) {
+        Replacing::Known(b) => b,
+        Replacing::Unread => is_replacing_from(s, i, parent, past),
     }
 }
 

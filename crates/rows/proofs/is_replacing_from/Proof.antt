@@ -3,34 +3,27 @@ use Prim.Native.Nat.{_-_, _≤_}
 use native.Mathlib.Omega.{arith}
 use borrow.Author.Needs.{needs}
 use lib.ListN.{length}
-use Rattle.scan.specs.Bytes.{isWhite}
-use Rattle.scan.proofs.Laws.{run-within}
-use Rattle.tokens.specs.Tokens.{whiteAt}
 use Rattle.rows.specs.Kept.{keptFrom}
 use Rattle.rows.specs.Replaces.{replaces}
 use Rattle.rows.proofs.Laws.{next-at, replaces-none, replaces-said, replaces-later}
-use Rattle.rows.proofs.is_replacing.Statement.{statement}
-use Rattle.rows.proofs.is_replacing.Tie as tie
-use Rattle.rows.proofs.is_replacing.Reads as reads
-use Rattle.rows.proofs.is_replacing.Lts as lts
-use Rattle.schema.proofs.is.Reads as is-reads
+use Rattle.rows.proofs.is_replacing_from.Statement.{statement}
+use Rattle.rows.proofs.is_replacing_from.Tie as tie
+use Rattle.rows.proofs.is_replacing_from.Reads as reads
+use Rattle.rows.proofs.is_replacing_from.Lts as lts
 use Rattle.rows.proofs.next_named.Reads as next-named-reads
-use Rattle.scan.proofs.white_end.Reads as white-end-reads
+use Rattle.schema.proofs.is.Reads as is-reads
 
 abbrev Inv-loop : tie.InvT-loop
-Inv-loop s at parent past i₀ t8 i = (i ≤ length s) × (replaces s (keptFrom parent s (whiteAt s at)) ≡ replaces s (keptFrom parent s i))
+Inv-loop s from parent past i₀ t8 i = (i ≤ length s) × (replaces s (keptFrom parent s from) ≡ replaces s (keptFrom parent s i))
 
 abbrev μ-loop : tie.MeasureT-loop
-μ-loop s at parent past i₀ t8 i = length s - i
-
-white-end-requires : tie.Need-white-end-requires Inv-loop μ-loop
-white-end-requires c κs = c .before .before .pre .0
+μ-loop s from parent past i₀ t8 i = length s - i
 
 loop-holds : tie.Need-loop-holds Inv-loop μ-loop
-loop-holds c = (rw (c .white-end .ensures) (run-within isWhite (c .before .before .before .args .s .now) (c .before .before .before .args .at) (c .before .before .before .pre .0)), rw (c .white-end .ensures) refl)
+loop-holds c = (c .before .before .pre .0, refl)
 
 next-named-requires : tie.Need-next-named-requires Inv-loop μ-loop
-next-named-requires c κs = (c .loop .inv .0, c .before .before .before .before .pre .1)
+next-named-requires c κs = (c .loop .inv .0, c .before .before .before .pre .1)
 
 enum-known-k : tie.Need-enum-known-k Inv-loop μ-loop
 enum-known-k c = search needs
@@ -65,13 +58,12 @@ loop-less c =
 loop-again : tie.Need-loop-again Inv-loop μ-loop
 loop-again c = (next-at _ _ (c .before .before .before .before .before .before .before .loop .i) (c .before .before .before .before .k .given .0 .0) (sym (c .before .before .before .before .before .before .next-named .ensures) ∙ c .before .before .before .before .k .given .1) .lies .within, c .before .before .before .before .before .before .before .loop .inv .1 ∙ replaces-later _ _ (c .before .before .before .before .before .before .before .loop .i) (c .before .before .before .before .k .given .0 .0) (sym (c .before .before .before .before .before .before .next-named .ensures) ∙ c .before .before .before .before .k .given .1) (c .if1 .left))
 
-pub is-replacing-spec : {M : Type 1} → statement M
-is-replacing-spec =
+pub is-replacing-from-spec : {M : Type 1} → statement M
+is-replacing-from-spec =
     tie.close
     (tie.spec
     Inv-loop
     μ-loop
-    white-end-requires
     loop-holds
     next-named-requires
     enum-known-k

@@ -1,5 +1,6 @@
 use mathlib.Core.Path.{refl}
 use Rattle.rows.proofs.Laws.{rows-told, rows-still}
+use Rattle.rows.proofs.Operation.{says-mandato, says-reversale}
 use borrow.Author.Needs.{needs}
 use Rattle.rows.proofs.rows_for.Statement.{statement}
 use Rattle.rows.proofs.rows_for.Tie as tie
@@ -11,13 +12,13 @@ enum-told : tie.Need-enum-told
 enum-told c = search needs
 
 is-replacing-requires : tie.Need-is-replacing-requires
-is-replacing-requires c κs = search needs
+is-replacing-requires c κs = (search needs, search needs, says-mandato _ _ (c .enum-told .given .1))
 
 enum-told-2 : tie.Need-enum-told-2
 enum-told-2 c = search needs
 
 is-replacing-requires-2 : tie.Need-is-replacing-requires-2
-is-replacing-requires-2 c κs = search needs
+is-replacing-requires-2 c κs = (search needs, search needs, says-reversale _ _ (c .enum-told2 .given .1))
 
 enum-told-3 : tie.Need-enum-told-3
 enum-told-3 c = search needs
