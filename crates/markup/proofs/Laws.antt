@@ -14,8 +14,8 @@ use Rattle.scan.specs.Bytes.{bytes, byteAt, isWhite, hasAt}
 use Rattle.scan.proofs.Laws.{never, cond-past, run-from, run-within, has-past}
 use Rattle.tokens.specs.Tokens.{andThen, nameAt, tagEndAt, whiteAt, textAt, endTagAt, optionalAt}
 use Rattle.tokens.proofs.Laws.{then-past, Steps, until-stop, until-step, until-broken, until-past, name-past, tag-past, end-past, text-past, optional-within}
-use Rattle.markup.specs.Markup.{elementBy, childBy, childrenBy, contentBy, elementAt, contentAt, mark, declaration, rootAt, thenRoot, rootFrom, markupOf}
-use Rattle.markup.specs.Inner.{brokenAt}
+use Rattle.markup.specs.Markup.{elementBy, childBy, childrenBy, contentBy, elementAt, contentAt, mark, declaration, rootAt, thenRoot, closedBy, rootFrom, markupOf}
+use Rattle.markup.specs.Inner.{brokenAt, openedFrom, openedOf, thenClosed}
 use Rattle.markup.specs.declared.Markup.{Markup}
 use Rattle.markup.specs.declared.Markup.the-variants.{Root, Breaks}
 
@@ -155,45 +155,66 @@ module _ (s : List ℕ) (a : ℕ) (ea : a ≡ optionalAt mark s 0) where
     unfolding rootAt
     root-is w ew = rw (ew, eb, ea)
 
--- markupOf, a way out of the code at a time
+-- openedOf, a way out of the code at a time
 module _ (ids : Bool) (s : List ℕ) (w : ℕ) (v : w ≡ rootAt s) where
-  pub markup-no-root : (byteAt s w ≡ 60 → ⊥) → markupOf ids s ≡ Breaks w
-  unfolding markupOf
-  markup-no-root e = rw (← v, ne-eqb _ _ e)
+  pub opened-none : (byteAt s w ≡ 60 → ⊥) → openedOf ids s ≡ Breaks w
+  unfolding openedOf
+  opened-none e = rw (← v, ne-eqb _ _ e)
 
-  pub markup-root : byteAt s w ≡ 60 → markupOf ids s ≡ rootFrom ids s w
-  unfolding markupOf
-  markup-root e = rw (← v, eq-eqb _ _ e)
+  module _ (o : byteAt s w ≡ 60) where
+    pub markup-root : markupOf ids s ≡ rootFrom ids s w
+    unfolding markupOf
+    markup-root = rw (← v, eq-eqb _ _ o)
 
--- rootFrom, a way out of the code at a time
-module _ (ids : Bool) (s : List ℕ) (lt : ℕ) where
-  pub root-no-name : (w : Walk) (p : ℕ) → w ≡ nameAt s (lt + 1) → w ≡ Broken p → rootFrom ids s lt ≡ brokenAt w
-  unfolding rootFrom
-  root-no-name w p e b = rw (← e, b)
+    opened-root : openedOf ids s ≡ openedFrom ids s w
+    unfolding openedOf
+    opened-root = rw (← v, eq-eqb _ _ o)
 
-  module _ (e : ℕ) (n : nameAt s (lt + 1) ≡ Past e) where
-    pub root-no-tag : (w : Walk) (p : ℕ) → w ≡ tagEndAt ids s e → w ≡ Broken p → rootFrom ids s lt ≡ brokenAt w
-    unfolding rootFrom
-    root-no-tag w p x b = rw (n, ← x, b)
+    pub opened-no-name : (x : Walk) (p : ℕ) → x ≡ nameAt s (w + 1) → x ≡ Broken p → openedOf ids s ≡ brokenAt x
+    unfolding openedFrom
+    opened-no-name x p e b = opened-root ∙ rw (← e, b)
 
-    module _ (c : ℕ) (t : tagEndAt ids s e ≡ Past c) where
-      pub root-inside : (w : Walk) (p : ℕ) → w ≡ contentAt 11 s c → w ≡ Broken p → rootFrom ids s lt ≡ brokenAt w
-      unfolding rootFrom
-      root-inside w p x b = rw (n, t, ← x, b)
+    module _ (e : ℕ) (n : nameAt s (w + 1) ≡ Past e) where
+      pub opened-no-tag : (x : Walk) (p : ℕ) → x ≡ tagEndAt ids s e → x ≡ Broken p → openedOf ids s ≡ brokenAt x
+      unfolding openedFrom
+      opened-no-tag x p t b = opened-root ∙ rw (n, ← t, b)
 
-      module _ (p : ℕ) (h : contentAt 11 s c ≡ Past p) where
-        pub root-no-end : (w : Walk) (q : ℕ) → w ≡ endTagAt s (lt + 1) e p → w ≡ Broken q → rootFrom ids s lt ≡ brokenAt w
-        unfolding rootFrom
-        root-no-end w q x b = rw (n, t, h, ← x, b)
+      pub opened-tag : (c : ℕ) → tagEndAt ids s e ≡ Past c → openedOf ids s ≡ Root w e c
+      unfolding openedFrom
+      opened-tag c t = opened-root ∙ rw (n, t)
 
-        module _ (q : ℕ) (k : endTagAt s (lt + 1) e p ≡ Past q) (z : ℕ) (u : z ≡ whiteAt s q) where
-          pub root-more : (z ≡ length s → ⊥) → rootFrom ids s lt ≡ Breaks z
-          unfolding rootFrom
-          root-more x = rw (n, t, h, k, ← u, ne-eqb _ _ x)
+-- closedBy, a way out of the code at a time
+module _ (s : List ℕ) (lt e c : ℕ) (w : Walk) (p : ℕ) (h : w ≡ Past p) where
+  pub closed-no-end : (x : Walk) (q : ℕ) → x ≡ endTagAt s (lt + 1) e p → x ≡ Broken q → closedBy s lt e c w ≡ brokenAt x
+  closed-no-end x q k b = rw (h, ← k, b)
 
-          pub root-ends : z ≡ length s → rootFrom ids s lt ≡ Root lt e c
-          unfolding rootFrom
-          root-ends x = rw (n, t, h, k, ← u, eq-eqb _ _ x)
+  module _ (q : ℕ) (k : endTagAt s (lt + 1) e p ≡ Past q) (z : ℕ) (u : z ≡ whiteAt s q) where
+    pub closed-more : (z ≡ length s → ⊥) → closedBy s lt e c w ≡ Breaks z
+    closed-more x = rw (h, k, ← u, ne-eqb _ _ x)
+
+    pub closed-ends : z ≡ length s → closedBy s lt e c w ≡ Root lt e c
+    closed-ends x = rw (h, k, ← u, eq-eqb _ _ x)
+
+pub root-ends : (ids : Bool) (s : List ℕ) (lt e : ℕ) → nameAt s (lt + 1) ≡ Past e → (c : ℕ) → tagEndAt ids s e ≡ Past c → (p : ℕ) → contentAt 11 s c ≡ Past p
+    → (q : ℕ) → endTagAt s (lt + 1) e p ≡ Past q → (z : ℕ) → z ≡ whiteAt s q → z ≡ length s → rootFrom ids s lt ≡ Root lt e c
+unfolding rootFrom
+root-ends ids s lt e n c t p h q k z u x = rw (n, t) (closed-ends s lt e c (contentAt 11 s c) p h q k z u x)
+
+-- the whole is what is open, and its rest
+pub markup-opened : (ids : Bool) (s : List ℕ) → markupOf ids s ≡ thenClosed s (openedOf ids s)
+unfolding markupOf rootFrom openedOf openedFrom
+markup-opened ids s = go (eqb (byteAt s (rootAt s)) 60) (nameAt s (rootAt s + 1))
+  where
+    tag : (lt e : ℕ) (w : Walk) → thenRoot w (λ c. closedBy s lt e c (contentAt 11 s c)) ≡ thenClosed s (thenRoot w (λ c. Root lt e c))
+    tag lt e (Past c) = refl
+    tag lt e (Broken p) = refl
+
+    go : (b : Bool) (w : Walk)
+        → cond b (thenRoot w (λ e. thenRoot (tagEndAt ids s e) (λ c. closedBy s (rootAt s) e c (contentAt 11 s c)))) (Breaks (rootAt s))
+        ≡ thenClosed s (cond b (thenRoot w (λ e. thenRoot (tagEndAt ids s e) (λ c. Root (rootAt s) e c))) (Breaks (rootAt s)))
+    go true (Past e) = tag (rootAt s) e (tagEndAt ids s e)
+    go true (Broken p) = refl
+    go false w = refl
 
 -- WHAT A DOCUMENT THAT STANDS IS MADE OF: its root's content ends at p, and its root at q
 pub record Rooted (ids : Bool) (s : List ℕ) (lt e c p q : ℕ) : Type 0 where
@@ -234,6 +255,27 @@ markup-parts ids s lt e c h =
     let y : n .0 ≡ e = cc in
     let u : t .0 ≡ c = cc in
     (k .0, f .0, rooted-same (record { at = refl; opens = eqb-true _ _ (a .0); name = n .1; tag = t .1; holds = k .1; end = f .1; ends = eqb-true _ _ (w .0) }) x y u)
+
+-- where the places of what is open lie
+pub record Opened (s : List ℕ) (lt e c : ℕ) : Type 0 where
+  pub named : lt + 1 < e
+  pub tagged : e < c
+  pub within : c ≤ length s
+
+pub opened-placed : (ids : Bool) (s : List ℕ) (lt e c : ℕ) → openedOf ids s ≡ Root lt e c → Opened s lt e c
+unfolding openedOf openedFrom
+opened-placed ids s lt e c h =
+    let r = rootAt s in
+    let a = cond-root (eqb (byteAt s r) 60) _ r h in
+    let n = then-root (nameAt s (r + 1)) _ (a .1) in
+    let t = then-root (tagEndAt ids s (n .0)) _ (n .2) in
+    let z = t .2 in
+    let x : r ≡ lt = cc in
+    let y : n .0 ≡ e = cc in
+    let u : t .0 ≡ c = cc in
+    let f = name-past s (r + 1) (n .0) (n .1) in
+    let g = tag-past ids s (n .0) (t .0) (f .within) (t .1) in
+    record { named = omega arith; tagged = omega arith; within = omega arith }
 
 -- where these places lie
 pub record Placed (s : List ℕ) (lt e c p q : ℕ) : Type 0 where

@@ -1,7 +1,7 @@
 -- The markup (document 01, "The markup"): elements, content, the whole flow. `Broken` and `Breaks` have the place where the reading breaks.
 use Prim.Native.Nat.{ℕ, zero, suc, _+_, _-_}
 use mathlib.Core.List.{List, [], _∷_}
-use mathlib.Core.Bool.{Bool, true, false, cond, not, _&&_}
+use mathlib.Core.Bool.{Bool, cond, not, _&&_}
 use lib.ListN.{length}
 use lib.Dec.{eqb}
 use Rattle.scan.specs.Bytes.{bytes, byte, byteAt, hasAt}
@@ -58,15 +58,20 @@ abbrev pub thenRoot : Walk → (ℕ → Markup) → Markup
 thenRoot (Past p) k = k p
 thenRoot (Broken p) k = Breaks p
 
--- the root, its < at lt: an element of 12 levels, which may have an Id in its start tag where `ids`; past white space after it all ends. Where its
--- < stands, where its name ends and where its content begins
+-- after its content, the root's end tag, and past white space after it all ends. Where the root's < stands, where its name ends and where its content
+-- begins
+abbrev pub closedBy : List ℕ → ℕ → ℕ → ℕ → Walk → Markup
+closedBy s lt e c inside =
+    thenRoot inside (λ p.
+    thenRoot (endTagAt s (lt + 1) e p) (λ q.
+    cond (eqb (whiteAt s q) (length s)) (Root lt e c) (Breaks (whiteAt s q))))
+
+-- the root, its < at lt: an element of 12 levels, which may have an Id in its start tag where `ids`
 unfoldable pub rootFrom : Bool → List ℕ → ℕ → Markup
 rootFrom ids s lt =
     thenRoot (nameAt s (lt + 1)) (λ e.
     thenRoot (tagEndAt ids s e) (λ c.
-    thenRoot (contentAt 11 s c) (λ p.
-    thenRoot (endTagAt s (lt + 1) e p) (λ q.
-    cond (eqb (whiteAt s q) (length s)) (Root lt e c) (Breaks (whiteAt s q))))))
+    closedBy s lt e c (contentAt 11 s c)))
 
 -- the markup stands: one root element
 unfoldable pub markupOf : Bool → List ℕ → Markup

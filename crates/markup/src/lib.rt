@@ -4,8 +4,8 @@ use scan::Walk;
 ghost use mathlib.Core.Path.{_≡_};
 ghost use Prim.Native.Nat.{ℕ, _+_, _-_, _≤_, _<_};
 ghost use lib.ListN.{length};
-ghost use Rattle.markup.specs.Markup.{elementAt, contentAt, rootFrom, markupOf};
-ghost use Rattle.markup.specs.Inner.{brokenAt};
+ghost use Rattle.markup.specs.Markup.{elementAt, childrenBy, contentAt, closedBy, markupOf};
+ghost use Rattle.markup.specs.Inner.{brokenAt, openedOf};
 ghost use Rattle.markup.specs.Noted.{Noted, noteOf, noteIn};
 
 // What is noted of a place: its name's length and the element's end.
@@ -21,7 +21,7 @@ pub enum Markup {
 }
 
 // Notes an element's end q and its name's end e of a place, where there is room for it and q fits 16 bits.
-fn note(past: &mut [u32], at: usize, e: usize, q: usize)
+pub fn note(past: &mut [u32], at: usize, e: usize, q: usize)
     requires { ⌜ (at ≤ e) × (e ≤ at + 48) ⌝ }
     ensures { λ _. ⌜ now (past .exit) ≡ noteIn (now (past .entry)) at e q ⌝ }
 {
@@ -88,7 +88,15 @@ pub fn content(s: &[u8], at: usize, depth: usize, past: &mut [u32]) -> Walk
     if scan::byte(s, w + 1) == b'/' {
         return tokens::text(s, at);
     }
-    let mut i = w;
+    children(s, w, depth, past)
+}
+
+// Children from a place on, up to the next `</`.
+pub fn children(s: &[u8], at: usize, depth: usize, past: &mut [u32]) -> Walk
+    requires { ⌜ (at ≤ length (now s)) × (depth ≤ 12) × Noted (now s) (now past) ⌝ }
+    ensures { λ r. ⌜ (r ≡ childrenBy (elementAt depth (now (s .entry))) (now (s .entry)) at) × Noted (now (s .entry)) (now (past .exit)) ⌝ }
+{
+    let mut i = at;
     while !tokens::closes(s, i) {
         if scan::byte(s, i) != b'<' {
             return Walk::Broken(i);
@@ -115,13 +123,17 @@ fn broken(w: Walk) -> Markup
     }
 }
 
-// The root from its `<` on, with all up to the end. It is nobody's child, so nothing is noted of it itself.
-fn root(s: &[u8], lt: usize, ids: bool, past: &mut [u32]) -> Markup
-    requires { ⌜ (lt < length (now s)) × Noted (now s) (now past) ⌝ }
-    ensures { λ r. ⌜ (r ≡ rootFrom ids (now (s .entry)) lt) × Noted (now (s .entry)) (now (past .exit)) ⌝ }
+// All up to the root's content; an Id may stand on the root or not.
+pub fn open(s: &[u8], ids: bool) -> Markup
+    ensures { λ r. ⌜ r ≡ openedOf ids (now (s .entry)) ⌝ }
 {
-    let a = lt + 1;
-    let name = tokens::name_end(s, a);
+    let a = tokens::optional(s, 0, b"\xef\xbb\xbf");
+    let d = tokens::optional(s, a, b"<?xml version=\"1.0\" encoding=\"UTF-8\"?>");
+    let lt = scan::white_end(s, d);
+    if scan::byte(s, lt) != b'<' {
+        return Markup::Breaks(lt);
+    }
+    let name = tokens::name_end(s, lt + 1);
     let Walk::Past(e) = name else {
         return broken(name);
     };
@@ -129,11 +141,18 @@ fn root(s: &[u8], lt: usize, ids: bool, past: &mut [u32]) -> Markup
     let Walk::Past(c) = tag else {
         return broken(tag);
     };
-    let inside = content(s, c, 11, past);
+    Markup::Root(lt, e, c)
+}
+
+// All after the root's content. The root is nobody's child, so nothing is noted of it itself.
+pub fn close(s: &[u8], lt: usize, e: usize, c: usize, inside: Walk) -> Markup
+    requires { ⌜ (lt + 1 ≤ e) × (e ≤ length (now s)) × (inside ≡ contentAt 11 (now s) c) ⌝ }
+    ensures { λ r. ⌜ r ≡ closedBy (now (s .entry)) lt e c inside ⌝ }
+{
     let Walk::Past(p) = inside else {
         return broken(inside);
     };
-    let end = tokens::end_tag(s, a, e, p);
+    let end = tokens::end_tag(s, lt + 1, e, p);
     let Walk::Past(q) = end else {
         return broken(end);
     };
@@ -150,13 +169,12 @@ pub fn markup_noted(s: &[u8], ids: bool, past: &mut [u32]) -> Markup
     requires { ⌜ Noted (now s) (now past) ⌝ }
     ensures { λ r. ⌜ (r ≡ markupOf ids (now (s .entry))) × Noted (now (s .entry)) (now (past .exit)) ⌝ }
 {
-    let a = tokens::optional(s, 0, b"\xef\xbb\xbf");
-    let d = tokens::optional(s, a, b"<?xml version=\"1.0\" encoding=\"UTF-8\"?>");
-    let w = scan::white_end(s, d);
-    if scan::byte(s, w) != b'<' {
-        return Markup::Breaks(w);
-    }
-    root(s, w, ids, past)
+    let opened = open(s, ids);
+    let Markup::Root(lt, e, c) = opened else {
+        return opened;
+    };
+    let inside = content(s, c, 11, past);
+    close(s, lt, e, c, inside)
 }
 
 // The same with nothing noted: any bytes of any length.
