@@ -18,13 +18,10 @@ use Rattle.children.specs.declared.Step.the-variants.{One, End}
 use Rattle.rows.specs.declared.Kept.{Kept}
 use Rattle.children.specs.Child.{childAt}
 use Rattle.schema.specs.Table.{table}
-use Rattle.rows.specs.declared.Next.the-variants.{Named, Done}
-use Rattle.rows.specs.Kept.{keptFrom, nextOf}
-use Rattle.rows.proofs.Laws.{next-at, next-done}
-use Rattle.children.proofs.Laws.{Lies, children-end, children-one}
+use Rattle.rows.specs.Kept.{keptFrom}
+use Rattle.children.proofs.Laws.{children-end, children-one}
 use Rattle.structure.specs.Structure.{isNil, allKept, Range, ranges, takes, allows, rowsOf, isRow, inOrder, textOnly, keptHolds, fitBy, fitsAt}
-use Rattle.structure.proofs.Laws.{kept-row}
-use Rattle.structure.specs.Walk.{paired, filledBy, filledFrom, countedOf}
+use Rattle.structure.specs.Walk.{paired, filledBy, filledFrom, countedOf, inOrderFrom, goesOn, deeper}
 
 -- PAIRS of bytes, a way out of the code at a time
 paired-short : (ps : List ℕ) (row n : ℕ) → length ps ≤ 2 * row + 1 → allows (paired ps) row n ≡ false
@@ -91,11 +88,7 @@ module _ (rs : List Range) (i m to : ℕ) where
     unfolding filledFrom filledBy
     filled-more e = let z : to - i ≡ suc (to - (i + 1)) = omega arith in rw (z, e, le-leb i to (omega arith), le-leb (i + 1) to (omega arith), add-one)
 
--- ORDER AND NUMBER, while the children are walked: n elements of row j, the first of rs, are counted already
-unfoldable pub inOrderFrom : List Range → ℕ → ℕ → List ℕ → Bool
-inOrderFrom [] j n ks = isNil ks && eqb n 0
-inOrderFrom (r ∷ rs) j n ks = takes r (n + run (isRow j) ks) && inOrder rs (suc j) (drop (run (isRow j) ks) ks)
-
+-- ORDER AND NUMBER, while the children are walked
 order-start : (rs : List Range) (j : ℕ) (ks : List ℕ) → inOrder rs j ks ≡ inOrderFrom rs j 0 ks
 unfolding inOrderFrom inOrder
 order-start [] j ks = sym (and-true (isNil ks))
@@ -188,10 +181,7 @@ order-end : (rs : List Range) (row n : ℕ) → row < length rs → inOrderFrom 
 unfolding filledFrom
 order-end rs row n h = rw (le-leb row (length rs) (omega arith)) (end-by (length rs - row) rs row n (omega arith) (λ e. absurd (omega arith)))
 
--- THE WALK: what is left to say of the children ks after those that are walked
-unfoldable pub goesOn : List Range → (Kept → Bool) → ℕ → ℕ → List Kept → Bool
-goesOn rs f row n ks = inOrderFrom (drop row rs) row n (rowsOf ks) && allKept f ks
-
+-- THE WALK
 -- a child's part, and the others' in the order of the rows
 and-swap : (a b c : Bool) → (a && (b && c)) ≡ (b && (a && c))
 and-swap true b c = refl
@@ -212,10 +202,6 @@ module _ (rs : List Range) (f : Kept → Bool) (row n : ℕ) (ks : List Kept) wh
     goes-on g = rw (e, order-step rs row n (k .row) (rowsOf t), g) (and-swap (inOrderFrom (drop (k .row) rs) (k .row) (countedOf row n (k .row)) (rowsOf t)) (f k) (allKept f t))
 
 -- ONE LEVEL
--- what the level below says of a parent's content
-abbrev pub deeper : ℕ → List ℕ → Parent → ℕ → Bool
-deeper d s = λ q a. fitsAt (d - 1) q s a
-
 pub fits-none : (p : Parent) (s : List ℕ) (at : ℕ) → fitsAt 0 p s at ≡ false
 unfolding fitsAt
 fits-none p s at = refl

@@ -2,8 +2,12 @@
 use Prim.Native.Nat.{ℕ, zero, suc, _+_, _-_}
 use mathlib.Core.List.{List, [], _∷_}
 use mathlib.Core.Bool.{Bool, true, cond, _&&_}
+use lib.ListN.{drop}
 use lib.Dec.{eqb, leb}
-use Rattle.structure.specs.Structure.{Range, allows}
+use Rattle.scan.specs.Bytes.{run}
+use Rattle.schema.specs.declared.Parent.{Parent}
+use Rattle.rows.specs.declared.Kept.{Kept}
+use Rattle.structure.specs.Structure.{isNil, allKept, Range, takes, allows, rowsOf, isRow, inOrder, fitsAt}
 
 -- a table's rows, where the least and the most of each are a pair of bytes
 abbrev pub paired : List ℕ → List Range
@@ -23,3 +27,16 @@ filledFrom rs row n to = leb row to && filledBy (to - row) rs row n
 -- how many elements of row `to` are counted with one more, where n of `row` were
 unfoldable pub countedOf : ℕ → ℕ → ℕ → ℕ
 countedOf row n to = cond (eqb to row) (n + 1) 1
+
+-- ORDER AND NUMBER, while the children are walked: n elements of row j, the first of rs, are counted already
+unfoldable pub inOrderFrom : List Range → ℕ → ℕ → List ℕ → Bool
+inOrderFrom [] j n ks = isNil ks && eqb n 0
+inOrderFrom (r ∷ rs) j n ks = takes r (n + run (isRow j) ks) && inOrder rs (suc j) (drop (run (isRow j) ks) ks)
+
+-- THE WALK: what is left to say of the children ks after those that are walked
+unfoldable pub goesOn : List Range → (Kept → Bool) → ℕ → ℕ → List Kept → Bool
+goesOn rs f row n ks = inOrderFrom (drop row rs) row n (rowsOf ks) && allKept f ks
+
+-- what the level below says of a parent's content
+abbrev pub deeper : ℕ → List ℕ → Parent → ℕ → Bool
+deeper d s = λ q a. fitsAt (d - 1) q s a
