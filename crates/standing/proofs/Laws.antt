@@ -5,7 +5,8 @@ use mathlib.Core.Bool.{Bool, true, false, _&&_}
 use Prim.Native.Nat.{ℕ, _+_, _-_, _≤_, _<_}
 use native.Mathlib.Omega.{arith}
 use lib.ListN.{length}
-use Rattle.scan.specs.Bytes.{part}
+use Rattle.scan.specs.Bytes.{isWhite, part}
+use Rattle.scan.proofs.Laws.{run-within}
 use Rattle.tokens.specs.Tokens.{whiteAt}
 use Rattle.fields.specs.declared.Form.{Form}
 use Rattle.fields.specs.declared.Cause.{Cause}
@@ -27,15 +28,16 @@ use Rattle.schema.specs.Table.{table}
 use Rattle.rows.specs.Kept.{keptFrom, nextOf}
 use Rattle.rows.specs.Replaces.{rowsFor}
 use Rattle.rows.proofs.Laws.{next-at, next-done}
-use Rattle.structure.specs.Structure.{Range, ranges, textOnly, holdsAt, keptHolds, fitsAt}
-use Rattle.structure.specs.Walk.{filledFrom, countedOf}
+use Rattle.structure.specs.Structure.{ranges, textOnly, holdsAt, keptHolds}
+use Rattle.structure.specs.Walk.{filledFrom, countedOf, goesOn, deeper}
 use Rattle.structure.proofs.Laws.{kept-row}
-use Rattle.structure.proofs.Walk.{deeper, fits-none, fits-level, counted-within, goesOn, goes-end, goes-short, goes-on}
+use Rattle.structure.proofs.Walk.{some-row, fits-none, fits-level, counted-within, goes-end, goes-short, goes-on}
 use Rattle.standing.specs.declared.Breaking.{Breaking}
 use Rattle.standing.specs.declared.Breaking.the-variants.{Structure, Field, Nothing}
 use Rattle.standing.specs.Readings.{Bad, Place, Nowhere, fieldsIn, fieldsBy, badOr, firstBad}
 use Rattle.standing.specs.Standing.{standingByFields, standingAt, forget, breakingBy, fieldBreaking, after, structured}
-use Rattle.standing.proofs.Readings.{orBad, bad-append, below, fields-level}
+use Rattle.standing.specs.Walk.{below, heldBreaking, rest, Goes}
+use Rattle.standing.proofs.Readings.{orBad, bad-append, fields-level}
 
 -- ONE PART AND ANOTHER
 pub after-breaks : (x : Breaking) → Structure ≡ after x Structure
@@ -88,20 +90,12 @@ module _ (s : List ℕ) (f : Form) (c : Child) where
       go w (Some v) = refl
       go w None = refl
 
--- what a named child holds
-abbrev pub heldBreaking : ℕ → List ℕ → Child → held.Holds → Breaking
-heldBreaking d s c (Text f) = fieldBreaking s f c
-heldBreaking d s c (Rows q) = forget (standingAt (d - 1) (rowsFor q s (c .gt + 1)) s (c .gt + 1))
-
 held-by : (d : ℕ) (s : List ℕ) (k : Kept) (h : held.Holds) → breakingBy (holdsAt (deeper d s) s h (k .child .gt + 1)) (firstBad (fieldsIn (below d s) s k h)) ≡ heldBreaking d s (k .child) h
 unfolding standingAt fieldBreaking firstBad
 held-by d s k (Text f) = refl
 held-by d s k (Rows q) = refl
 
--- THE WALK: what the named children ks come to, after some of them
-unfoldable pub rest : ℕ → Parent → List ℕ → ℕ → ℕ → List Kept → Breaking
-rest d p s row n ks = breakingBy (goesOn (ranges (table p)) (keptHolds (deeper d s) s) row n ks) (firstBad (fieldsBy (below d s) s ks))
-
+-- THE WALK, after some of the named children
 pub level-none : (p : Parent) (s : List ℕ) (at : ℕ) → Structure ≡ forget (standingAt 0 p s at)
 unfolding standingAt
 level-none p s at = rw (fits-none p s at)
@@ -109,6 +103,22 @@ level-none p s at = rw (fits-none p s at)
 pub level : (d : ℕ) (p : Parent) (s : List ℕ) (at : ℕ) → (d ≡ 0 → ⊥) → forget (standingAt d p s at) ≡ rest d p s 0 0 (keptFrom p s (whiteAt s at))
 unfolding standingAt rest
 level d p s at f = rw (fits-level d p s at f, fields-level d p s at f)
+
+-- where it begins
+pub goes-start : (d : ℕ) (p : Parent) (s : List ℕ) (at i : ℕ) → at ≤ length s → 1 ≤ d → i ≡ whiteAt s at → Goes (forget (standingAt d p s at)) d p s Nothing i 0 0
+goes-start d p s at i l f e = (rw e (run-within isWhite s at l), omega arith, some-row p, rw e (level d p s at (λ z. omega arith)))
+
+-- what a named child holds, a way out of the code at a time
+module _ (d : ℕ) (s : List ℕ) (c : Child) (h : held.Holds) where
+  pub held-text : (f : Form) → h ≡ Text f → fieldBreaking s f c ≡ heldBreaking d s c h
+  held-text f e = rw e
+
+  module _ (q : Parent) (e : h ≡ Rows q) where
+    pub held-none : d ≡ 1 → Structure ≡ heldBreaking d s c h
+    held-none z = rw (e, z) (level-none (rowsFor q s (c .gt + 1)) s (c .gt + 1))
+
+    pub held-rows : (d - 1 ≡ 0 → ⊥) → (p : Parent) → p ≡ rowsFor q s (c .gt + 1) → (i : ℕ) → i ≡ whiteAt s (c .gt + 1) → rest (d - 1) p s 0 0 (keptFrom p s i) ≡ heldBreaking d s c h
+    held-rows f p v i w = rw (e, w, v) (sym (level (d - 1) (rowsFor q s (c .gt + 1)) s (c .gt + 1) f))
 
 module _ (d : ℕ) (p : Parent) (s : List ℕ) (row n : ℕ) (ks : List Kept) where
   rest-end : ks ≡ [] → row < length (ranges (table p)) → rest d p s row n ks ≡ breakingBy (filledFrom (ranges (table p)) row n (length (ranges (table p)))) Nowhere
@@ -127,10 +137,6 @@ module _ (d : ℕ) (p : Parent) (s : List ℕ) (row n : ℕ) (ks : List Kept) wh
         let gs = fieldsBy (below d s) s t in
         rw (goes-on (ranges (table p)) (keptHolds (deeper d s) s) row n ks k t e g, e, bad-append fs gs, ← held-by d s k (k .holds))
         (both-parts (keptHolds (deeper d s) s k) (goesOn (ranges (table p)) (keptHolds (deeper d s) s) (k .row) (countedOf row n (k .row)) t) (firstBad fs) (firstBad gs))
-
--- where the walk stands: w is what all come to, `so` what those up to i do, of which n stand in `row`
-abbrev pub Goes : Breaking → ℕ → Parent → List ℕ → Breaking → ℕ → ℕ → ℕ → Type 0
-Goes w d p s so i row n = (i ≤ length s) × (n ≤ i) × (row < length (ranges (table p))) × (w ≡ after so (rest d p s row n (keptFrom p s i)))
 
 -- the child found there, a way out of the code at a time
 pub record Found (w : Breaking) (d : ℕ) (p : Parent) (s : List ℕ) (so : Breaking) (i row n : ℕ) (k : Kept) : Type 0 where

@@ -4,13 +4,13 @@ use mathlib.Core.List.{List, [], _∷_, _++_}
 use Prim.Native.Nat.{ℕ, zero, suc, _-_}
 use native.Mathlib.Omega.{arith}
 use Rattle.tokens.specs.Tokens.{whiteAt}
-use Rattle.fields.specs.declared.Cause.{Cause}
 use Rattle.fields.specs.declared.Reading.{Reading}
 use Rattle.fields.specs.declared.Reading.the-variants as reading
 use Rattle.fields.specs.Fields.{readingOf}
 use Rattle.schema.specs.declared.Parent.{Parent}
 use Rattle.rows.specs.Kept.{keptFrom}
 use Rattle.standing.specs.Readings.{Field, Bad, Place, Nowhere, fieldsBy, fieldsAt, badOr, firstBad}
+use Rattle.standing.specs.Walk.{below}
 
 -- the first place, else the second
 abbrev pub orBad : Bad → Bad → Bad
@@ -25,10 +25,6 @@ bad-append (f ∷ xs) ys = go (readingOf (f .form) (f .text)) (bad-append xs ys)
     go : (r : Reading) → firstBad (xs ++ ys) ≡ orBad (firstBad xs) (firstBad ys) → badOr (f .lt) (firstBad (xs ++ ys)) r ≡ orBad (badOr (f .lt) (firstBad xs) r) (firstBad ys)
     go (reading.Holds v) e = e
     go (reading.Breaks c) e = refl
-
--- the level below
-abbrev pub below : ℕ → List ℕ → Parent → ℕ → List Field
-below d s = λ q a. fieldsAt (d - 1) q s a
 
 pub fields-level : (d : ℕ) (p : Parent) (s : List ℕ) (at : ℕ) → (d ≡ 0 → ⊥) → fieldsAt d p s at ≡ fieldsBy (below d s) s (keptFrom p s (whiteAt s at))
 unfolding fieldsAt

@@ -1,5 +1,5 @@
 -- The second walk: the first field that breaks, found; and what the two walks come to together.
-use mathlib.Core.Path.{_≡_, refl, sym, ap, _∙_}
+use mathlib.Core.Path.{_≡_, refl, sym, _∙_}
 use mathlib.Core.List.{List, [], _∷_}
 use mathlib.Core.Bool.{Bool, true, false}
 use Prim.Native.Nat.{ℕ, _+_, _-_, _≤_}
@@ -23,7 +23,8 @@ use Rattle.standing.specs.declared.Standing.{Standing}
 use Rattle.standing.specs.declared.Standing.the-variants.{StructureBreaks, FieldBreaks, Stands}
 use Rattle.standing.specs.Readings.{Bad, Place, Nowhere, badOr, fieldsIn, fieldsBy, fieldsAt, firstBad}
 use Rattle.standing.specs.Standing.{standingByFields, standingBy, standingAt, forget, badAt, sound}
-use Rattle.standing.proofs.Readings.{orBad, bad-append, below, fields-level}
+use Rattle.standing.specs.Walk.{below}
+use Rattle.standing.proofs.Readings.{orBad, bad-append, fields-level}
 
 -- ONE FIELD, as its reading says
 abbrev pub foundBy : ℕ → Reading → Standing

@@ -1,3 +1,4 @@
 pub mod Readings
 pub mod Standing
+pub mod Walk
 pub mod Shown

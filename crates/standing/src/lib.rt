@@ -12,8 +12,12 @@ ghost use mathlib.Core.Path.{_≡_};
 ghost use Prim.Native.Nat.{_+_, _≤_, _<_};
 ghost use lib.ListN.{length};
 ghost use Rattle.markup.specs.Noted.{Noted};
+ghost use Rattle.schema.specs.Table.{table};
+ghost use Rattle.rows.specs.Kept.{keptFrom};
+ghost use Rattle.structure.specs.Structure.{ranges};
 ghost use Rattle.standing.specs.Readings.{fieldsAt, firstBad};
 ghost use Rattle.standing.specs.Standing.{standingByFields, standingAt, forget, badAt, fieldBreaking, structured, after, sound};
+ghost use Rattle.standing.specs.Walk.{heldBreaking, rest, Goes};
 
 // What content comes to; a field that breaks is named by its `<`, with its cause.
 pub enum Standing {
@@ -71,22 +75,45 @@ fn field_breaking(s: &[u8], c: Child, f: Form, past: &[u32]) -> Breaking
     }
 }
 
-// The content at a place, of at most d levels: of the children walked, n stand in `row` and none after it. A field that breaks is kept while the
-// structure of the others is looked at, so that all is walked once.
-fn walk(s: &[u8], at: usize, parent: Parent, d: usize, past: &[u32]) -> Breaking
-    requires { ⌜ (at ≤ length (now s)) × Noted (now s) (now past) ⌝ }
-    ensures { λ r. ⌜ r ≡ forget (standingAt d parent (now (s .entry)) at) ⌝ }
+// What a named child holds, of at most d levels with its own: a field, or the rows of a parent.
+fn held_breaking(s: &[u8], c: Child, h: Holds, d: usize, past: &[u32]) -> Breaking
+    requires { ⌜ (c .gt + 1 ≤ c .to) × (c .to ≤ length (now s)) × (1 ≤ d) × Noted (now s) (now past) ⌝ }
+    ensures { λ r. ⌜ r ≡ heldBreaking d (now (s .entry)) c h ⌝ }
 {
-    if d == 0 {
-        return Breaking::Structure;
+    match h {
+        Holds::Text(f) => field_breaking(s, c, f, past),
+        Holds::Rows(q) => {
+            if d == 1 {
+                return Breaking::Structure;
+            }
+            let inner = c.gt + 1;
+            let p = rows::rows_for(s, inner, q, past);
+            walk_on(s, scan::white_end(s, inner), 0, 0, p, d - 1, past)
+        }
     }
-    let mut i = scan::white_end(s, at);
-    let mut row: usize = 0;
-    let mut n: usize = 0;
+}
+
+// What the children from a place on come to, of at most d levels: of those before it n stand in `row` and none after it. A field that breaks is kept
+// while the structure of the others is looked at, so that all is walked once.
+fn walk_on(
+    s: &[u8],
+    from: usize,
+    row: usize,
+    n: usize,
+    parent: Parent,
+    d: usize,
+    past: &[u32],
+) -> Breaking
+    requires { ⌜ (from ≤ length (now s)) × (n ≤ from) × (row < length (ranges (table parent))) × (1 ≤ d) × Noted (now s) (now past) ⌝ }
+    ensures { λ r. ⌜ r ≡ rest d parent (now (s .entry)) row n (keptFrom parent (now (s .entry)) from) ⌝ }
+{
+    let mut i = from;
+    let mut last = row;
+    let mut m = n;
     let mut so_far = Breaking::Nothing;
     while has_structure(so_far) {
         let Next::Named(k) = rows::next_named(s, i, parent, past) else {
-            if structure::filled(parent, row, n, structure::rows(parent)) {
+            if structure::filled(parent, last, m, structure::rows(parent)) {
                 return so_far;
             }
             return Breaking::Structure;
@@ -94,22 +121,13 @@ fn walk(s: &[u8], at: usize, parent: Parent, d: usize, past: &[u32]) -> Breaking
         let c = k.child;
         let h = k.holds;
         let next = k.row;
-        if !structure::filled(parent, row, n, next) {
+        if !structure::filled(parent, last, m, next) {
             return Breaking::Structure;
         }
-        n = structure::counted(row, n, next);
-        row = next;
+        m = structure::counted(last, m, next);
+        last = next;
         i = c.after;
-        match h {
-            Holds::Text(f) => {
-                so_far = then(so_far, field_breaking(s, c, f, past));
-            }
-            Holds::Rows(q) => {
-                let inner = c.gt + 1;
-                let p = rows::rows_for(s, inner, q, past);
-                so_far = then(so_far, walk(s, inner, p, d - 1, past));
-            }
-        }
+        so_far = then(so_far, held_breaking(s, c, h, d, past));
     }
     Breaking::Structure
 }
@@ -169,14 +187,35 @@ fn first_bad(s: &[u8], at: usize, parent: Parent, d: usize, past: &[u32]) -> Sta
     found
 }
 
+// What the content at a place comes to, of at most d levels, where all before `from` stands: n of those children stand in `row` and none after it.
+pub fn judge_on(
+    s: &[u8],
+    at: usize,
+    from: usize,
+    row: usize,
+    n: usize,
+    parent: Parent,
+    d: usize,
+    past: &[u32],
+) -> Standing
+    requires { ⌜ (at ≤ length (now s)) × (1 ≤ d) × Noted (now s) (now past) ⌝ }
+    requires { ⌜ Goes (forget (standingAt d parent (now s) at)) d parent (now s) Breaking.Nothing from row n ⌝ }
+    ensures { λ r. ⌜ r ≡ standingAt d parent (now (s .entry)) at ⌝ }
+{
+    match walk_on(s, from, row, n, parent, d, past) {
+        Breaking::Structure => Standing::StructureBreaks,
+        Breaking::Field => first_bad(s, at, parent, d, past),
+        Breaking::Nothing => Standing::Stands,
+    }
+}
+
 // What the content at a place comes to, of at most d levels.
 pub fn judge(s: &[u8], at: usize, parent: Parent, d: usize, past: &[u32]) -> Standing
     requires { ⌜ (at ≤ length (now s)) × Noted (now s) (now past) ⌝ }
     ensures { λ r. ⌜ r ≡ standingAt d parent (now (s .entry)) at ⌝ }
 {
-    match walk(s, at, parent, d, past) {
-        Breaking::Structure => Standing::StructureBreaks,
-        Breaking::Field => first_bad(s, at, parent, d, past),
-        Breaking::Nothing => Standing::Stands,
+    if d == 0 {
+        return Standing::StructureBreaks;
     }
+    judge_on(s, at, scan::white_end(s, at), 0, 0, parent, d, past)
 }
