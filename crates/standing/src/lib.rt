@@ -27,7 +27,7 @@ pub enum Standing {
 }
 
 // What breaks in content. It has no place and no cause, which content that stands would pay for.
-enum Breaking {
+pub enum Breaking {
     Structure,
     Field,
     Nothing,
