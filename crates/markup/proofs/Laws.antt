@@ -237,6 +237,13 @@ then-root : (w : Walk) (k : ℕ → Markup) {lt e c : ℕ} → thenRoot w k ≡ 
 then-root (Past p) k e = (p, refl, e)
 then-root (Broken p) k e = no-root e
 
+-- a root that is closed is the one that was open
+pub closed-root : (s : List ℕ) (lt e c : ℕ) (w : Walk) {x y z : ℕ} → closedBy s lt e c w ≡ Root x y z → closedBy s lt e c w ≡ Root lt e c
+closed-root s lt e c w h =
+    let k = then-root w _ h in
+    let f = then-root (endTagAt s (lt + 1) e (k .0)) _ (k .2) in
+    rw (k .1, f .1, cond-root (eqb (whiteAt s (f .0)) (length s)) _ (whiteAt s (f .0)) (f .2) .0)
+
 rooted-same : {ids : Bool} {s : List ℕ} {r a b lt e c p q : ℕ} → Rooted ids s r a b p q → r ≡ lt → a ≡ e → b ≡ c → Rooted ids s lt e c p q
 rooted-same k x y u = rw (← x, ← y, ← u) k
 
