@@ -1,7 +1,7 @@
 -- Laws of content that is read as far as it stands: what a field, a child and an element that is passed over lead to, for every parent.
 use mathlib.Core.Path.{_≡_, refl, sym, ap, _∙_}
 use mathlib.Core.Logic.{_⊎_, inl, inr, ⊎-elim}
-use mathlib.Core.List.{List, [], _∷_, _++_}
+use mathlib.Core.List.{List, [], _++_}
 use mathlib.Core.Bool.{Bool, true, false, not, _&&_}
 use Prim.Native.Nat.{ℕ, _+_, _-_, _≤_, _<_}
 use native.Mathlib.Omega.{arith}
@@ -37,8 +37,7 @@ use Rattle.schema.specs.declared.Holds.{Holds}
 use Rattle.schema.specs.declared.Holds.the-variants.{Text, Rows}
 use Rattle.schema.specs.Table.{table}
 use Rattle.rows.specs.declared.Kept.{Kept}
-use Rattle.rows.specs.declared.Next.the-variants.{Named, Done}
-use Rattle.rows.specs.Kept.{keptFrom, nextOf}
+use Rattle.rows.specs.Kept.{nextOf}
 use Rattle.rows.specs.Replaces.{rowsFor}
 use Rattle.rows.proofs.Laws.{kept-end, kept-passed, kept-at}
 use Rattle.structure.specs.Structure.{ranges, textOnly}

@@ -1,5 +1,5 @@
 -- How far content was read that stands so far, in the words of the general readers, which go on from there. Where a place is told, 0 says that none is.
-use Prim.Native.Nat.{ℕ, _+_, _-_, _≤_, _<_}
+use Prim.Native.Nat.{ℕ, _+_, _-_, _<_}
 use mathlib.Core.Path.{_≡_}
 use mathlib.Core.List.{List}
 use mathlib.Core.Bool.{true}

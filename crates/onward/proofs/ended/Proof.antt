@@ -13,12 +13,6 @@ use Rattle.onward.proofs.Laws.{tagged-on, end-same, end-noted}
 use borrow.Author.Needs.{needs}
 use Rattle.onward.proofs.ended.Statement.{statement}
 use Rattle.onward.proofs.ended.Tie as tie
-use Rattle.onward.proofs.ended.Reads as reads
-use Rattle.onward.proofs.ended.Lts as lts
-use Rattle.markup.proofs.note.Reads as note-reads
-use Rattle.scan.proofs.white_end.Reads as white-end-reads
-use Rattle.tags.proofs.stands.Reads as stands-reads
-use Rattle.tokens.proofs.closes.Reads as closes-reads
 
 closes-requires : tie.Need-closes-requires
 closes-requires c κs = search needs

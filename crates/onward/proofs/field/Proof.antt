@@ -6,10 +6,6 @@ use Rattle.fields.specs.Fields.{standsBy, fieldStands}
 use borrow.Author.Needs.{needs}
 use Rattle.onward.proofs.field.Statement.{statement}
 use Rattle.onward.proofs.field.Tie as tie
-use Rattle.onward.proofs.field.Reads as reads
-use Rattle.onward.proofs.field.Lts as lts
-use Rattle.fields.proofs.value_of.Reads as value-of-reads
-use Rattle.tokens.proofs.text.Reads as text-reads
 
 text-requires : tie.Need-text-requires
 text-requires c κs = search needs

@@ -1,13 +1,9 @@
-use mathlib.Core.Path.{_≡_, refl, sym, _∙_}
+use mathlib.Core.Path.{refl, sym, _∙_}
 use Prim.Native.Nat.{_+_}
 use Rattle.markup.proofs.Laws.{element-past}
 use borrow.Author.Needs.{needs}
 use Rattle.onward.proofs.passed.Statement.{statement}
 use Rattle.onward.proofs.passed.Tie as tie
-use Rattle.onward.proofs.passed.Reads as reads
-use Rattle.onward.proofs.passed.Lts as lts
-use Rattle.markup.proofs.element.Reads as element-reads
-use Rattle.scan.proofs.white_end.Reads as white-end-reads
 
 add-element : tie.Need-add-element
 add-element c = search needs

@@ -1,10 +1,6 @@
 use borrow.Author.Needs.{needs}
 use Rattle.onward.proofs.start_at.Statement.{statement}
 use Rattle.onward.proofs.start_at.Tie as tie
-use Rattle.onward.proofs.start_at.Reads as reads
-use Rattle.onward.proofs.start_at.Lts as lts
-use Rattle.onward.proofs.start_by_name.Reads as start-by-name-reads
-use Rattle.tags.proofs.expected.Reads as expected-reads
 
 expected-requires : tie.Need-expected-requires
 expected-requires c κs = search needs

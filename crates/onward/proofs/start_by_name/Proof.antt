@@ -10,11 +10,6 @@ use Rattle.tokens.proofs.Laws.{name-past}
 use borrow.Author.Needs.{needs}
 use Rattle.onward.proofs.start_by_name.Statement.{statement}
 use Rattle.onward.proofs.start_by_name.Tie as tie
-use Rattle.onward.proofs.start_by_name.Reads as reads
-use Rattle.onward.proofs.start_by_name.Lts as lts
-use Rattle.rows.proofs.spot_of.Reads as spot-of-reads
-use Rattle.scan.proofs.byte.Reads as byte-reads
-use Rattle.tokens.proofs.name_end.Reads as name-end-reads
 
 byte-requires : tie.Need-byte-requires
 byte-requires c κs = search needs
