@@ -1,15 +1,17 @@
 -- What a document's verdict says of it: one law for each way out of the code, and what a document that stands satisfies.
-use mathlib.Core.Path.{_≡_, refl, _∙_}
+use mathlib.Core.Path.{_≡_, refl, ap, _∙_}
 use mathlib.Core.List.{List}
 use mathlib.Core.Bool.{Bool, true, false, cond, _&&_}
 use Prim.Native.Nat.{ℕ, _+_, _≤_}
 use native.Mathlib.Omega.{arith}
 use lib.ListN.{length}
 use Rattle.scan.specs.Bytes.{bytes}
+use Rattle.scan.specs.declared.Walk.{Walk}
 use Rattle.markup.specs.declared.Markup.{Markup}
 use Rattle.markup.specs.declared.Markup.the-variants.{Root, Breaks}
-use Rattle.markup.specs.Markup.{markupOf}
-use Rattle.markup.proofs.Laws.{markup-parts, root-placed}
+use Rattle.markup.specs.Markup.{contentAt, closedBy, markupOf}
+use Rattle.markup.specs.Inner.{openedOf, thenClosed}
+use Rattle.markup.proofs.Laws.{markup-opened, closed-root, markup-parts, root-placed}
 use Rattle.fields.specs.declared.Cause.{Cause}
 use Rattle.schema.specs.declared.Parent.{Parent}
 use Rattle.schema.specs.Table.{nameIs}
@@ -49,13 +51,22 @@ by-fields at false b = refl
 module _ (x : List ℕ) (p : Parent) where
   -- THE WAYS OUT
   module _ (ids : Bool) (s : List ℕ) where
-    pub document-broken : (q : ℕ) → markupOf ids s ≡ Breaks q → verdictBy x p ids s ≡ MarkupBreaks q
+    opened : (m : Markup) → openedOf ids s ≡ m → verdictBy x p ids s ≡ byMarkup x p s (thenClosed s m)
     unfolding verdictBy
-    document-broken q e = rw e
+    opened m o = rw (markup-opened ids s, o)
 
-    pub document-rooted : (lt e at : ℕ) → markupOf ids s ≡ Root lt e at → verdictBy x p ids s ≡ byRoot x p s lt e at
-    unfolding verdictBy
-    document-rooted lt e at m = rw m
+    pub document-unopened : (q : ℕ) → openedOf ids s ≡ Breaks q → verdictBy x p ids s ≡ MarkupBreaks q
+    document-unopened q o = opened (Breaks q) o
+
+    module _ (lt e at : ℕ) (o : openedOf ids s ≡ Root lt e at) (w : Walk) (i : w ≡ contentAt 11 s at) where
+      closed : (m : Markup) → closedBy s lt e at w ≡ m → verdictBy x p ids s ≡ byMarkup x p s m
+      closed m k = opened (Root lt e at) o ∙ ap (byMarkup x p s) (rw i at k)
+
+      pub document-unclosed : (q : ℕ) → closedBy s lt e at w ≡ Breaks q → verdictBy x p ids s ≡ MarkupBreaks q
+      document-unclosed q k = closed (Breaks q) k
+
+      pub document-rooted : {a b c : ℕ} → closedBy s lt e at w ≡ Root a b c → verdictBy x p ids s ≡ byRoot x p s lt e at
+      document-rooted k = closed (Root lt e at) (closed-root s lt e at w k)
 
   module _ (s : List ℕ) (lt e at : ℕ) where
     pub root-other : nameIs x s (lt + 1) e ≡ false → byRoot x p s lt e at ≡ StructureBreaks
