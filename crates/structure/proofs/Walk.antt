@@ -10,6 +10,7 @@ use lib.ListN.{length, getD, drop, drop-of-length-le}
 use lib.Dec.{eqb, leb}
 use borrow.Author.Tests.{eq-eqb, ne-eqb, le-leb, lt-leb, leb-true, leb-false}
 use Rattle.scan.specs.Bytes.{between, run}
+use Rattle.scan.proofs.Laws.{both}
 use Rattle.tokens.specs.Tokens.{whiteAt}
 use Rattle.children.specs.declared.Child.{Child}
 use Rattle.schema.specs.declared.Parent.{Parent}
@@ -21,7 +22,7 @@ use Rattle.schema.specs.Table.{table}
 use Rattle.rows.specs.Kept.{keptFrom}
 use Rattle.children.proofs.Laws.{children-end, children-one}
 use Rattle.structure.specs.Structure.{isNil, allKept, Range, ranges, takes, allows, rowsOf, isRow, inOrder, textOnly, keptHolds, fitBy, fitsAt}
-use Rattle.structure.specs.Walk.{paired, filledBy, filledFrom, countedOf, inOrderFrom, goesOn, deeper}
+use Rattle.structure.specs.Walk.{allOne, paired, filledBy, filledFrom, countedOf, inOrderFrom, goesOn, deeper}
 
 -- PAIRS of bytes, a way out of the code at a time
 paired-short : (ps : List ℕ) (row n : ℕ) → length ps ≤ 2 * row + 1 → allows (paired ps) row n ≡ false
@@ -87,6 +88,28 @@ module _ (rs : List Range) (i m to : ℕ) where
     pub filled-more : allows rs i m ≡ true → filledFrom rs i m to ≡ filledFrom rs (i + 1) 0 to
     unfolding filledFrom filledBy
     filled-more e = let z : to - i ≡ suc (to - (i + 1)) = omega arith in rw (z, e, le-leb i to (omega arith), le-leb (i + 1) to (omega arith), add-one)
+
+-- one element in a row, and the next row follows
+allows-one : (rs : List Range) (row : ℕ) → row < length rs → allOne rs ≡ true → allows rs row 1 ≡ true
+allows-one [] row h e = absurd (omega arith)
+allows-one (r ∷ rs) zero h e = both (takes r 1) (allOne rs) e .0
+allows-one (r ∷ rs) (suc row) h e = allows-one rs row (omega arith) (both (takes r 1) (allOne rs) e .1)
+
+pub filled-one : (rs : List Range) (row n to : ℕ) → row < length rs → row < to → to - row ≡ 1 → n ≡ 1 → allOne rs ≡ true → true ≡ filledFrom rs row n to
+unfolding filledFrom filledBy
+filled-one rs row n to h k d m e = rw (le-leb row to (omega arith), d, m, allows-one rs row h e)
+
+pub filled-same : (rs : List Range) (row n to : ℕ) → to ≡ row → true ≡ filledFrom rs row n to
+filled-same rs row n to e = sym (filled-end rs row n to (omega arith) (omega arith))
+
+-- a line's rows, of either kind of order
+pub ones-beneficiario : (b : Bool) → true ≡ allOne (ranges (table (InformazioniBeneficiario b)))
+ones-beneficiario true = refl
+ones-beneficiario false = refl
+
+pub ones-versante : (b : Bool) → true ≡ allOne (ranges (table (InformazioniVersante b)))
+ones-versante true = refl
+ones-versante false = refl
 
 -- ORDER AND NUMBER, while the children are walked
 order-start : (rs : List Range) (j : ℕ) (ks : List ℕ) → inOrder rs j ks ≡ inOrderFrom rs j 0 ks

@@ -24,6 +24,11 @@ filledBy (suc d) rs row n = allows rs row n && filledBy d rs (suc row) 0
 unfoldable pub filledFrom : List Range → ℕ → ℕ → ℕ → Bool
 filledFrom rs row n to = leb row to && filledBy (to - row) rs row n
 
+-- each row takes one element
+abbrev pub allOne : List Range → Bool
+allOne [] = true
+allOne (r ∷ rs) = takes r 1 && allOne rs
+
 -- how many elements of row `to` are counted with one more, where n of `row` were
 unfoldable pub countedOf : ℕ → ℕ → ℕ → ℕ
 countedOf row n to = cond (eqb to row) (n + 1) 1

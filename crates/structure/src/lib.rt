@@ -7,7 +7,7 @@ ghost use lib.ListN.{length};
 ghost use Rattle.markup.specs.Noted.{Noted};
 ghost use Rattle.schema.specs.Table.{table};
 ghost use Rattle.structure.specs.Structure.{ranges, allows, textOnly};
-ghost use Rattle.structure.specs.Walk.{paired, filledFrom, countedOf};
+ghost use Rattle.structure.specs.Walk.{paired, filledFrom, allOne, countedOf};
 
 // HOW MANY elements each row of a parent takes: for each row the least and the most.
 const FLUSSO_ORDINATIVI: [u8; 12] = *b"\x01\x01\x01\x01\x01\x01\x01\x01\x01\x01\x01\x40";
@@ -152,6 +152,51 @@ pub fn filled(parent: Parent, row: usize, n: usize, to: usize) -> bool
         Parent::FlussoOpi => filled_in(row, n, to, &FLUSSO_OPI),
         Parent::TestataFlusso => filled_in(row, n, to, &TESTATA_FLUSSO),
     }
+}
+
+// Whether each row of a parent takes one element.
+fn ones(parent: Parent) -> bool
+    ensures { λ r. ⌜ r ≡ allOne (ranges (table parent)) ⌝ }
+{
+    match parent {
+        Parent::FlussoOrdinativi => true,
+        Parent::Mandato(_) => true,
+        Parent::Reversale(_) => true,
+        Parent::InformazioniBeneficiario(_) => true,
+        Parent::InformazioniVersante(_) => true,
+        Parent::SostituzioneMandato => true,
+        Parent::SostituzioneReversale => true,
+        Parent::Beneficiario => true,
+        Parent::Versante => true,
+        Parent::MessaggiEsito => true,
+        Parent::TestataMessaggio => true,
+        Parent::EsitoReversali => false,
+        Parent::EsitoMandati => false,
+        Parent::ErroriReversali => false,
+        Parent::ErroriMandati => false,
+        Parent::FlussoOpi => true,
+        Parent::TestataFlusso => true,
+    }
+}
+
+// As `filled`, for a row of the parent: mostly one more element of the row follows, or one of the next row after one, and no row need be looked at.
+pub fn in_turn(parent: Parent, row: usize, n: usize, to: usize) -> bool
+    requires { ⌜ row < length (ranges (table parent)) ⌝ }
+    ensures { λ r. ⌜ r ≡ filledFrom (ranges (table parent)) row n to ⌝ }
+{
+    if to == row {
+        return true;
+    }
+    if row < to {
+        if to - row == 1 {
+            if n == 1 {
+                if ones(parent) {
+                    return true;
+                }
+            }
+        }
+    }
+    filled(parent, row, n, to)
 }
 
 // How many elements of row `to` there are with one more, after n of `row`.
