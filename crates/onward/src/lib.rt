@@ -131,7 +131,7 @@ fn child(s: &[u8], i: usize, e: usize, h: Holds, d: usize, depth: usize, past: &
             if r.count == 0 {
                 return 0;
             }
-            if !structure::filled(parent, r.row, r.count, structure::rows(parent)) {
+            if !structure::in_turn(parent, r.row, r.count, structure::rows(parent)) {
                 return 0;
             }
             ended(s, i + 1, e, r.at, past)
@@ -154,7 +154,7 @@ pub fn onward(s: &[u8], at: usize, p: Parent, d: usize, depth: usize, past: &mut
     loop {
         match start_at(s, i, p, want) {
             Start::Named(e, next, h) => {
-                if !structure::filled(p, row, count, next) {
+                if !structure::in_turn(p, row, count, next) {
                     return Reached { at: i, row, count };
                 }
                 let j = child(s, i, e, h, d, depth, past);

@@ -22,7 +22,7 @@ use Rattle.onward.proofs.start_at.Reads as start-at-reads
 use Rattle.rows.proofs.rows_for.Reads as rows-for-reads
 use Rattle.scan.proofs.white_end.Reads as white-end-reads
 use Rattle.structure.proofs.counted.Reads as counted-reads
-use Rattle.structure.proofs.filled.Reads as filled-reads
+use Rattle.structure.proofs.in_turn.Reads as in-turn-reads
 use Rattle.structure.proofs.rows.Reads as rows-reads
 use Rattle.onward.proofs.+child+onward.{statement}
 use Rattle.onward.proofs.+child+onward.Tie.{close}
@@ -46,10 +46,10 @@ abbrev onward-below : ℕ → In 2 onward-kinds.ps
 onward-below t = and 2 onward-kinds.ps (falls 2 onward-kinds.ps _<_ μ-onward t) onward.Pre
 
 abbrev child-calls : ℕ → child-lts.Claims
-child-calls t = (field-reads.Asked, field-reads.Learnt, ended-reads.Asked, ended-reads.Learnt, rows-for-reads.Asked, rows-for-reads.Learnt, onward-below t, onward.Post, rows-reads.Asked, rows-reads.Learnt, filled-reads.Asked, filled-reads.Learnt)
+child-calls t = (field-reads.Asked, field-reads.Learnt, ended-reads.Asked, ended-reads.Learnt, rows-for-reads.Asked, rows-for-reads.Learnt, onward-below t, onward.Post, rows-reads.Asked, rows-reads.Learnt, in-turn-reads.Asked, in-turn-reads.Learnt)
 
 abbrev onward-calls : ℕ → onward-lts.Claims
-onward-calls t = (white-end-reads.Asked, white-end-reads.Learnt, start-at-reads.Asked, start-at-reads.Learnt, filled-reads.Asked, filled-reads.Learnt, child-below t, child.Post, counted-reads.Asked, counted-reads.Learnt, passed-reads.Asked, passed-reads.Learnt)
+onward-calls t = (white-end-reads.Asked, white-end-reads.Learnt, start-at-reads.Asked, start-at-reads.Learnt, in-turn-reads.Asked, in-turn-reads.Learnt, child-below t, child.Post, counted-reads.Asked, counted-reads.Learnt, passed-reads.Asked, passed-reads.Learnt)
 
 child-add-inner : (t : ℕ) → child-lts.Need-add-inner (child-calls t) (child-at t) child.Post
 child-add-inner t c = omega (arith, c .before .before .pre .1 .0 .within)
@@ -98,8 +98,8 @@ child-returns-3 t c = (λ f. absurd (f refl), c .before .before .before .before 
 child-rows-requires : (t : ℕ) → child-lts.Need-rows-requires (child-calls t) (child-at t) child.Post
 child-rows-requires t c κs = search needs
 
-child-filled-requires : (t : ℕ) → child-lts.Need-filled-requires (child-calls t) (child-at t) child.Post
-child-filled-requires t c κs = search needs
+child-in-turn-requires : (t : ℕ) → child-lts.Need-in-turn-requires (child-calls t) (child-at t) child.Post
+child-in-turn-requires t c κs = c .before .before .before .before .before .onward .ensures .0 .goes .2
 
 child-same-length-2 : (t : ℕ) → child-lts.Need-same-length-2 (child-calls t) (child-at t) child.Post
 child-same-length-2 t c = omega (arith, c .before .before .before .before .before .before .past2 .given)
@@ -126,7 +126,7 @@ child-same-length-4 t c = omega (arith, c .before .before .before .before .befor
 
 child-returns-6 : (t : ℕ) → child-lts.Need-returns-6 (child-calls t) (child-at t) child.Post
 child-returns-6 t c =
-    let k = rw (c .before .before .before .before .before .before .rows .ensures) at (sym (c .before .before .before .before .before .filled .ensures) ∙ not-false _ (c .before .before .before .before .if4 .left)) in
+    let k = rw (c .before .before .before .before .before .before .rows .ensures) at (sym (c .before .before .before .before .before .in-turn .ensures) ∙ not-false _ (c .before .before .before .before .if4 .left)) in
     (λ x. rw (c .before .before .before .before .before .before .before .before .before .before .before .before .before .before .before .before .before .h2 .given .1) (rows-taken (c .before .before .before .before .before .before .before .before .before .before .before .before .before .rows-for .ensures) (c .before .before .before .before .before .before .before .before .before .before .before .onward .ensures .0) (c .before .before .before .before .before .before .before .if3 .left) k (c .before .before .ended2 .ensures .0 x)), c .before .before .ended2 .ensures .1)
 
 abbrev onward-Inv-loop : onward-lts.InvT-loop
@@ -150,8 +150,8 @@ onward-start-at-requires t c κs = c .loop .inv .0 .goes .0
 onward-enum-known-e : (t : ℕ) → onward-lts.Need-enum-known-e (onward-calls t) (onward-at t) onward.Post onward-Inv-loop onward-μ-loop
 onward-enum-known-e t c = search needs
 
-onward-filled-requires : (t : ℕ) → onward-lts.Need-filled-requires (onward-calls t) (onward-at t) onward.Post onward-Inv-loop onward-μ-loop
-onward-filled-requires t c κs = search needs
+onward-in-turn-requires : (t : ℕ) → onward-lts.Need-in-turn-requires (onward-calls t) (onward-at t) onward.Post onward-Inv-loop onward-μ-loop
+onward-in-turn-requires t c κs = c .before .before .before .before .loop .inv .0 .goes .2
 
 onward-same-length : (t : ℕ) → onward-lts.Need-same-length (onward-calls t) (onward-at t) onward.Post onward-Inv-loop onward-μ-loop
 onward-same-length t c = omega (arith, c .before .before .before .before .before .before .loop .inv .2)
@@ -175,17 +175,17 @@ onward-counted-requires t c κs = omega (arith, c .before .before .before .befor
 
 onward-add-want : (t : ℕ) → onward-lts.Need-add-want (onward-calls t) (onward-at t) onward.Post onward-Inv-loop onward-μ-loop
 onward-add-want t c =
-    let y = next-taken (rw (c .before .before .before .before .before .before .before .before .before .e .given .1) at (c .before .before .before .before .before .before .before .before .before .before .before .start-at .ensures)) (c .before .before .before .before .child .ensures .0 (c .before .if3 .left)) (c .before .before .before .before .before .before .before .before .before .before .before .before .before .before .before .before .before .pre .1 .2) (c .before .before .before .before .before .before .before .before .before .before .before .before .before .if1 .left) (c .before .before .before .before .before .before .before .before .before .before .before .before .loop .inv .0) (sym (c .before .before .before .before .before .before .before .filled .ensures) ∙ not-false _ (c .before .before .before .before .before .before .if2 .left)) (c .counted .ensures) in
+    let y = next-taken (rw (c .before .before .before .before .before .before .before .before .before .e .given .1) at (c .before .before .before .before .before .before .before .before .before .before .before .start-at .ensures)) (c .before .before .before .before .child .ensures .0 (c .before .if3 .left)) (c .before .before .before .before .before .before .before .before .before .before .before .before .before .before .before .before .before .pre .1 .2) (c .before .before .before .before .before .before .before .before .before .before .before .before .before .if1 .left) (c .before .before .before .before .before .before .before .before .before .before .before .before .loop .inv .0) (sym (c .before .before .before .before .before .before .before .in-turn .ensures) ∙ not-false _ (c .before .before .before .before .before .before .if2 .left)) (c .counted .ensures) in
     omega (arith, y .stood .goes .2, few-rows (c .before .before .before .before .before .before .before .before .before .before .before .before .before .before .before .before .before .args .p))
 
 onward-loop-less : (t : ℕ) → onward-lts.Need-loop-less (onward-calls t) (onward-at t) onward.Post onward-Inv-loop onward-μ-loop
 onward-loop-less t c =
-    let y = next-taken (rw (c .before .before .before .before .before .before .before .before .before .e .given .1) at (c .before .before .before .before .before .before .before .before .before .before .before .start-at .ensures)) (c .before .before .before .before .child .ensures .0 (c .before .if3 .left)) (c .before .before .before .before .before .before .before .before .before .before .before .before .before .before .before .before .before .pre .1 .2) (c .before .before .before .before .before .before .before .before .before .before .before .before .before .if1 .left) (c .before .before .before .before .before .before .before .before .before .before .before .before .loop .inv .0) (sym (c .before .before .before .before .before .before .before .filled .ensures) ∙ not-false _ (c .before .before .before .before .before .before .if2 .left)) (c .counted .ensures) in
+    let y = next-taken (rw (c .before .before .before .before .before .before .before .before .before .e .given .1) at (c .before .before .before .before .before .before .before .before .before .before .before .start-at .ensures)) (c .before .before .before .before .child .ensures .0 (c .before .if3 .left)) (c .before .before .before .before .before .before .before .before .before .before .before .before .before .before .before .before .before .pre .1 .2) (c .before .before .before .before .before .before .before .before .before .before .before .before .before .if1 .left) (c .before .before .before .before .before .before .before .before .before .before .before .before .loop .inv .0) (sym (c .before .before .before .before .before .before .before .in-turn .ensures) ∙ not-false _ (c .before .before .before .before .before .before .if2 .left)) (c .counted .ensures) in
     omega (arith, y .stood .goes .0)
 
 onward-loop-again : (t : ℕ) → onward-lts.Need-loop-again (onward-calls t) (onward-at t) onward.Post onward-Inv-loop onward-μ-loop
 onward-loop-again t c =
-    let y = next-taken (rw (c .before .before .before .before .before .before .before .before .before .e .given .1) at (c .before .before .before .before .before .before .before .before .before .before .before .start-at .ensures)) (c .before .before .before .before .child .ensures .0 (c .before .if3 .left)) (c .before .before .before .before .before .before .before .before .before .before .before .before .before .before .before .before .before .pre .1 .2) (c .before .before .before .before .before .before .before .before .before .before .before .before .before .if1 .left) (c .before .before .before .before .before .before .before .before .before .before .before .before .loop .inv .0) (sym (c .before .before .before .before .before .before .before .filled .ensures) ∙ not-false _ (c .before .before .before .before .before .before .if2 .left)) (c .counted .ensures) in
+    let y = next-taken (rw (c .before .before .before .before .before .before .before .before .before .e .given .1) at (c .before .before .before .before .before .before .before .before .before .before .before .start-at .ensures)) (c .before .before .before .before .child .ensures .0 (c .before .if3 .left)) (c .before .before .before .before .before .before .before .before .before .before .before .before .before .before .before .before .before .pre .1 .2) (c .before .before .before .before .before .before .before .before .before .before .before .before .before .if1 .left) (c .before .before .before .before .before .before .before .before .before .before .before .before .loop .inv .0) (sym (c .before .before .before .before .before .before .before .in-turn .ensures) ∙ not-false _ (c .before .before .before .before .before .before .if2 .left)) (c .counted .ensures) in
     (y .stood, c .before .before .before .before .child .ensures .1, omega (arith, c .before .before .before .before .before .before .before .before .before .before .before .before .loop .inv .2, c .before .before .before .past .given))
 
 onward-enum-told : (t : ℕ) → onward-lts.Need-enum-told (onward-calls t) (onward-at t) onward.Post onward-Inv-loop onward-μ-loop
@@ -238,7 +238,7 @@ pub +child+onward-spec : {M : Type 1} → statement M
     (child-same-length t)
     (child-returns-3 t)
     (child-rows-requires t)
-    (child-filled-requires t)
+    (child-in-turn-requires t)
     (child-same-length-2 t)
     (child-returns-4 t)
     (child-add-ended-2 t)
@@ -257,7 +257,7 @@ pub +child+onward-spec : {M : Type 1} → statement M
     (onward-loop-holds t)
     (onward-start-at-requires t)
     (onward-enum-known-e t)
-    (onward-filled-requires t)
+    (onward-in-turn-requires t)
     (onward-same-length t)
     (onward-returns-2 t)
     (onward-child-requires t)
