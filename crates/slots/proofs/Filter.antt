@@ -1,11 +1,11 @@
 -- The filter of keys that were seen, and the walk over the slots from the last to the first.
 use Prim.Native.Nat.{ℕ, zero, suc, _+_, _-_, _*_, _≤_, _<_}
 use mathlib.Core.Bool.{Bool, true, false, _&&_, not, and-false}
-use mathlib.Core.List.{List, [], _∷_}
+use mathlib.Core.List.{List, [], _∷_, _++_}
 use mathlib.Core.Path.{_≡_, refl, sym, ap, subst⁻¹, _∙_}
 use native.Mathlib.Omega.{arith}
 use native.Mathlib.Numerals.{add-one}
-use lib.ListN.{length, getD, set, length-set}
+use lib.ListN.{length, getD, set, replicate, length-set, length-replicate, getD-replicate}
 use lib.Seq.{getD-set-same, getD-set-other}
 use lib.Dec.{eqb}
 use borrow.Author.Tests.{eqb-true, eqb-false, not-false}
@@ -13,15 +13,13 @@ use Rattle.record.specs.Slot.{slotSize, recordAt, keyIs, keyOf}
 use Rattle.record.specs.declared.Record.{Record}
 use Rattle.record.specs.declared.Key.{Key}
 use Rattle.ranges.specs.Ranges.{isNothing}
-use Rattle.slots.specs.Inner.{markOf}
-use Rattle.slots.specs.Slots.{slotsAt, findIn, distinct}
-use Rattle.slots.proofs.Laws.{slots-more, find-nil, distinct-more}
-use Rattle.slots.proofs.Search.{key-is, cons-none}
-
--- none of the records has a key whose place is 0
-pub record Marked (seen : List ℕ) (rs : List Record) : Type 0 where
-  pub size : length seen ≡ 4096
-  pub absent : (k : Key) → getD seen (markOf k) 0 ≡ 0 → isNothing (findIn rs 0 k) ≡ true
+use Rattle.slots.specs.Inner.{seekIn, markOf, Filters}
+pub use Rattle.slots.specs.Inner.{Marked}
+use Rattle.slots.specs.Slots.{usedAt, slotsAt, recordsAt, findIn, distinct}
+use Rattle.slots.specs.declared.Sought.the-variants.{Absent}
+use Rattle.slots.proofs.Laws.{used-more, slots-none, slots-more, find-nil, distinct-more}
+use Rattle.slots.proofs.Search.{key-is, cons-none, none-add, nothing-is, seek-none}
+use Rattle.slots.proofs.Index.{length-records, slots-snoc}
 
 pub marked-none : {seen : List ℕ} {rs : List Record} → length seen ≡ 4096 → rs ≡ [] → Marked seen rs
 marked-none l e = record { size = l; absent = λ k z. ap isNothing (find-nil e 0 k) }
@@ -37,18 +35,22 @@ other-key r k n = go (keyIs r k) refl where
   go true e = absurd (n (ap markOf (sym (key-is r k e))))
   go false e = e
 
--- one more place marked: other records, where no key of another place comes in with them
+-- one more place marked: what is not is another one, and was not before
+pub still-unmarked : (seen : List ℕ) (h p : ℕ) → length seen ≡ 4096 → h < 4096 → getD (set seen h 1) p 0 ≡ 0 → (p ≡ h → ⊥) × (getD seen p 0 ≡ 0)
+still-unmarked seen h p s l z = (n, sym (getD-set-other seen h p 1 0 n) ∙ z) where
+  n : p ≡ h → ⊥
+  n e =
+      let w = getD-set-same seen h 1 0 (omega arith) in
+      let v = ap (λ (q : ℕ). getD (set seen h 1) q 0) e in
+      omega arith
+
+-- other records, where no key of another place comes in with them
 pub marked-by : (seen : List ℕ) (rs more : List Record) (h : ℕ) → Marked seen rs → h < 4096
     → ((k : Key) → (markOf k ≡ h → ⊥) → isNothing (findIn rs 0 k) ≡ true → isNothing (findIn more 0 k) ≡ true) → Marked (set seen h 1) more
-marked-by seen rs more h m l f = record { size = length-set seen h 1 ∙ m .size; absent = λ k z. go k z (eqb (markOf k) h) refl } where
-  go : (k : Key) → getD (set seen h 1) (markOf k) 0 ≡ 0 → (b : Bool) → eqb (markOf k) h ≡ b → isNothing (findIn more 0 k) ≡ true
-  go k z true e =
-      let s = getD-set-same seen h 1 0 (omega (arith, m .size)) in
-      let w = ap (λ (p : ℕ). getD (set seen h 1) p 0) (eqb-true (markOf k) h e) in
-      absurd (omega arith)
-  go k z false e =
-      let n = eqb-false (markOf k) h e in
-      f k n (m .absent k (sym (getD-set-other seen h (markOf k) 1 0 n) ∙ z))
+marked-by seen rs more h m l f = record {
+  size = length-set seen h 1 ∙ m .size;
+  absent = λ k z. let u = still-unmarked seen h (markOf k) (m .size) l z in f k (u .0) (m .absent k (u .1));
+}
 
 -- one more record, with its place marked
 mark : (seen : List ℕ) (rs : List Record) (r : Record) (h : ℕ) → Marked seen rs → h ≡ markOf (keyOf r) → h < 4096 → Marked (set seen h 1) (r ∷ rs)
@@ -98,3 +100,70 @@ distinct-all t base n next later s l g d =
     let p : base ≡ next = omega arith in
     let q : n ≡ later = omega arith in
     (λ i. distinct (slotsAt t (p i) (q i))) ∙ d
+
+-- THE KEYS OF A BODY MARKED, from the first slot on
+
+-- a record after the others, with its place marked
+pub mark-last : (seen : List ℕ) (rs : List Record) (r : Record) (h : ℕ) → Marked seen rs → h ≡ markOf (keyOf r) → h < 4096 → Marked (set seen h 1) (rs ++ r ∷ [])
+mark-last seen rs r h m q l = marked-by seen rs (rs ++ r ∷ []) h m l (λ k n. none-add rs r k (other-key r k (λ p. n (p ∙ sym q))))
+
+-- the slots before i are used, and their keys marked
+pub record Marking (t : List ℕ) (base n : ℕ) (seen : List ℕ) (at i : ℕ) : Type 0 where
+  pub place : at ≡ base + slotSize * i
+  pub low : i ≤ n
+  pub count : usedAt t base n ≡ i + usedAt t at (n - i)
+  pub marked : Marked seen (slotsAt t base i)
+
+module _ (t : List ℕ) (base n : ℕ) {seen : List ℕ} where
+  pub marking-start : length seen ≡ 4096 → Marking t base n seen base 0
+  marking-start l =
+      let q : n - 0 ≡ n = omega arith in
+      record { place = omega arith; low = omega arith; count = omega (arith, ap (usedAt t base) q); marked = marked-none l (slots-none t base 0 refl) }
+
+  module _ {at i : ℕ} (m : Marking t base n seen at i) where
+    pub marking-more : {k : Key} (h : ℕ) → i < n → (getD t at 0 ≡ 0 → ⊥) → k ≡ keyOf (recordAt t at) → h ≡ markOf k → h < 4096 → Marking t base n (set seen h 1) (at + slotSize) (i + 1)
+    marking-more h b z e p l =
+        let q = m .place in
+        let u = m .count in
+        let w = mark-last seen (slotsAt t base i) (recordAt t (base + slotSize * i)) h (m .marked) (p ∙ ap markOf (e ∙ ap (λ (a : ℕ). keyOf (recordAt t a)) q)) l in
+        record {
+          place = omega arith;
+          low = omega arith;
+          count = omega (arith, used-more t at (n - i) (n - (i + 1)) (omega arith) z);
+          marked = subst⁻¹ (λ (rs : List Record). Marked (set seen h 1) rs) (ap (slotsAt t base) (add-one i) ∙ slots-snoc t base i) w;
+        }
+
+    pub marking-end : usedAt t at (n - i) ≡ 0 → (i ≡ usedAt t base n) × Marked seen (recordsAt t base n)
+    marking-end z =
+        let e : usedAt t base n ≡ i = omega (arith, m .count) in
+        (sym e, subst⁻¹ (λ (j : ℕ). Marked seen (slotsAt t base j)) e (m .marked))
+
+-- A SEARCH THAT ASKS THE FILTER FIRST
+
+pub filters : (t : List ℕ) (base n : ℕ) {seen : List ℕ} {used : ℕ} → used ≡ usedAt t base n → Marked seen (recordsAt t base n) → Filters seen used (recordsAt t base n)
+filters t base n e m = record { marked = m; many = λ k z. e ∙ sym (length-records t base n) }
+
+mark-low : (k : Key) → markOf k < 4096
+unfolding markOf
+mark-low k = omega arith
+
+-- every place is marked
+pub filters-all : (used : ℕ) (rs : List Record) → Filters (replicate 4096 1) used rs
+filters-all used rs = record { marked = record { size = length-replicate {A = ℕ} 4096 1; absent = λ k z. absurd (never k z) }; many = λ k z. absurd (never k z) }
+  where
+    never : (k : Key) → getD (replicate {A = ℕ} 4096 1) (markOf k) 0 ≡ 0 → ⊥
+    never k z = omega (arith, getD-replicate {A = ℕ} 4096 (markOf k) 1 0 (mark-low k))
+
+-- other records with one more place marked, as above; their number follows from what it was
+pub filters-by : {seen : List ℕ} {used used′ : ℕ} (rs more : List Record) (key : Key) → Filters seen used rs
+    → ((k : Key) → (markOf k ≡ markOf key → ⊥) → isNothing (findIn rs 0 k) ≡ true → isNothing (findIn more 0 k) ≡ true) → (used ≡ length rs → used′ ≡ length more)
+    → Filters (set seen (markOf key) 1) used′ more
+filters-by {seen} rs more key f g c = record {
+  marked = marked-by seen rs more (markOf key) (f .marked) (mark-low key) g;
+  many = λ k z. c (f .many k (still-unmarked seen (markOf key) (markOf k) (f .marked .size) (mark-low key) z .1));
+}
+
+pub seek-unmarked : {seen : List ℕ} {used : ℕ} (rs : List Record) (k : Key) (h : ℕ) → Filters seen used rs → h ≡ markOf k → getD seen h 0 ≡ 0 → Absent used ≡ seekIn rs 0 k
+seek-unmarked {seen} rs k h f q z =
+    let u : getD seen (markOf k) 0 ≡ 0 = ap (λ (p : ℕ). getD seen p 0) (sym q) ∙ z in
+    ap Absent (f .many k u) ∙ sym (seek-none rs k (nothing-is (findIn rs 0 k) (f .marked .absent k u)))

@@ -16,6 +16,7 @@ use Rattle.ranges.specs.declared.Found.{Found}
 use Rattle.ranges.specs.declared.Found.the-variants.{At, Nothing}
 use Rattle.slots.specs.Slots.{findIn, distinct}
 use Rattle.slots.specs.Inner.{seekIn}
+use Rattle.slots.specs.declared.Sought.{Sought}
 use Rattle.slots.specs.declared.Sought.the-variants as sought
 use Rattle.valid.proofs.Laws.{same-test}
 
@@ -101,6 +102,13 @@ seek-absent (r ∷ rs) i k m e = go (keyIs r k) e (seek-absent rs (i + 1) k m)
     go true f next = told f
     go false f next = let n = next f in (n .0, omega arith)
 
+pub seek-none : (rs : List Record) (k : Key) → findIn rs 0 k ≡ Nothing → seekIn rs 0 k ≡ sought.Absent (length rs)
+seek-none rs k n = go (seekIn rs 0 k) refl
+  where
+    go : (s : Sought) → seekIn rs 0 k ≡ s → seekIn rs 0 k ≡ sought.Absent (length rs)
+    go (sought.At j) e = clash (ap isNothing (sym (seek-at rs 0 k j e) ∙ n))
+    go (sought.Absent m) e = let q : m ≡ length rs = omega (arith, seek-absent rs 0 k m e .1) in e ∙ ap sought.Absent q
+
 -- A RECORD REPLACED BY ONE OF THE SAME KEY
 
 pub find-set : (rs : List Record) (i : ℕ) (r d : Record) → keyOf r ≡ keyOf (getD rs i d) → (j : ℕ) (k : Key) → findIn (set rs i r) j k ≡ findIn rs j k
@@ -142,7 +150,7 @@ pub cons-none : (r : Record) (rs : List Record) (k : Key) → keyIs r k ≡ fals
 unfolding findIn
 cons-none r rs k e f = ap (λ (b : Bool). isNothing (cond b (At 0) (findIn rs (0 + 1) k))) e ∙ none-any rs 1 0 k ∙ f
 
-none-add : (rs : List Record) (r : Record) (k : Key) → keyIs r k ≡ false → isNothing (findIn rs 0 k) ≡ true → isNothing (findIn (rs ++ r ∷ []) 0 k) ≡ true
+pub none-add : (rs : List Record) (r : Record) (k : Key) → keyIs r k ≡ false → isNothing (findIn rs 0 k) ≡ true → isNothing (findIn (rs ++ r ∷ []) 0 k) ≡ true
 none-add [] r k m e = cons-none r [] k m e
 none-add (x ∷ rs) r k m e = let f = none-cons x rs k e in cons-none x (rs ++ r ∷ []) k (f .0) (none-add rs r k m (f .1))
 

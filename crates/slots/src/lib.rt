@@ -8,7 +8,7 @@ ghost use lib.ListN.{length};
 ghost use Rattle.record.specs.Slot.{slotSize};
 ghost use Rattle.ranges.specs.Ranges.{isNothing};
 ghost use Rattle.slots.specs.Slots.{usedAt, slotsAt, recordsAt, findIn, distinct};
-ghost use Rattle.slots.specs.Inner.{seekIn, filterSize, markOf};
+ghost use Rattle.slots.specs.Inner.{seekIn, filterSize, markOf, Marked, Filters};
 
 // What a search for an order tells: the place of its record, or that it is absent, and how many records there are; the next slot is the first empty one.
 pub enum Sought {
@@ -127,4 +127,33 @@ pub fn keys_distinct(t: &[u8], base: usize, n: usize) -> bool
         next = at;
     }
     true
+}
+
+// Marks the keys of a body's used slots, and tells how many these are.
+pub fn mark_keys(t: &[u8], base: usize, n: usize, marks: &mut [u8]) -> usize
+    requires { ⌜ (base + slotSize * n ≤ length (now t)) × (length (now marks) ≡ filterSize) ⌝ }
+    ensures { λ r. ⌜ (r ≡ usedAt (now (t .entry)) base n) × Marked (now (marks .exit)) (recordsAt (now (t .entry)) base n) ⌝ }
+{
+    let mut at = base;
+    let mut i = 0;
+    while i < n {
+        if t[at] == 0 {
+            return i;
+        }
+        marks[mark_of(record::key_at(t, at))] = 1;
+        at += record::SLOT;
+        i += 1;
+    }
+    i
+}
+
+// The search for an order where the keys of the body's used slots are marked: only where its own place is marked are the slots looked at.
+pub fn seek_marked(t: &[u8], base: usize, n: usize, used: usize, marks: &[u8], key: Key) -> Sought
+    requires { ⌜ (base + slotSize * n ≤ length (now t)) × Filters (now marks) used (recordsAt (now t) base n) ⌝ }
+    ensures { λ r. ⌜ r ≡ seekIn (recordsAt (now (t .entry)) base n) 0 key ⌝ }
+{
+    if marks[mark_of(key)] == 0 {
+        return Sought::Absent(used);
+    }
+    seek(t, base, n, key)
 }
