@@ -11,7 +11,6 @@ use lib.Dec.{eqb, leb, ltb}
 use borrow.Author.Tests.{lt-ltb, le-ltb, le-leb, ltb-true, ltb-false, ne-eqb, eqb-true, eqb-false}
 use Rattle.scan.specs.Bytes.{between}
 use Rattle.scan.proofs.Laws.{both, in-range}
-use Rattle.calendar.specs.Calendar.{isDate}
 use Rattle.order.specs.declared.Line.{Line}
 use Rattle.order.specs.Ordinativo.{Ordinativo}
 use Rattle.record.specs.declared.Record.{Record}
@@ -26,6 +25,7 @@ use Rattle.lines.specs.Lines.{numberedFrom, sumOf, lineCode}
 use Rattle.rules.specs.declared.Change.{Change}
 use Rattle.rules.specs.declared.Ruling.the-variants.{Accepted}
 use Rattle.rules.specs.Rules.{wasExecuted, anyExecuted, keyFor, eightPlaces, amountsOf, judgeOrder, written}
+pub use Rattle.rules.specs.Inner.{Writable, Writables, none, more}
 use Rattle.rules.proofs.Laws.{eight-at, length-eight, was-2, was-3}
 use Rattle.bounds.specs.Bounds.{maxCents}
 use Rattle.rules.proofs.Judging.{Stands, inserting, replacing, varying, annulling, accepted, accepted-lines}
@@ -76,18 +76,6 @@ sum-amounts : (ls : List Line) → sum (amountsOf ls) ≡ sumOf ls
 unfolding amountsOf sum sumOf
 sum-amounts [] = refl
 sum-amounts (l ∷ ls) = ap (λ (x : ℕ). l .amount + x) (sum-amounts ls)
-
--- AN ORDER as a flow that stands writes it
-pub record Writable (o : Ordinativo) : Type 0 where
-  pub kind : (1 ≤ o .kind) × (o .kind ≤ 2)
-  pub number : (1 ≤ o .number) × (o .number ≤ 9999999)
-  pub date : isDate (o .date) ≡ true
-  pub total : o .total ≤ maxCents
-  pub count : (1 ≤ length (o .lines)) × (length (o .lines) ≤ 8)
-
-pub data Writables : List Ordinativo → Type 0 where
-  none : Writables []
-  more : {o : Ordinativo} {os : List Ordinativo} → Writable o → Writables os → Writables (o ∷ os)
 
 code-zero : (ls : List Line) (total : ℕ) → lineCode ls total ≡ 0 → (numberedFrom 1 ls ≡ true) × (sumOf ls ≡ total)
 unfolding lineCode

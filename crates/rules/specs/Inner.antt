@@ -1,8 +1,13 @@
--- Where the code's array of codes has the step table's rows and columns, and an order's code as the code takes it. The promises speak of none of it.
-use Prim.Native.Nat.{ℕ}
-use mathlib.Core.Bool.{cond}
-use mathlib.Core.List.{List}
+-- Where the code's array of codes has the step table's rows and columns, an order's code as the code takes it, and what it asks of an order. The promises
+-- speak of none of it.
+use Prim.Native.Nat.{ℕ, _≤_}
+use mathlib.Core.Path.{_≡_}
+use mathlib.Core.Bool.{true, cond}
+use mathlib.Core.List.{List, [], _∷_}
+use lib.ListN.{length}
 use lib.Dec.{ltb}
+use Rattle.bounds.specs.Bounds.{maxCents}
+use Rattle.calendar.specs.Calendar.{isDate}
 use Rattle.order.specs.Ordinativo.{Ordinativo}
 use Rattle.record.specs.declared.Record.{Record}
 use Rattle.record.specs.Slot.{waitingLine, executedLine}
@@ -55,3 +60,15 @@ newState Insert = waitingLine
 newState Vary = waitingLine
 newState Annul = waitingLine
 newState Replace = executedLine
+
+-- AN ORDER AS A FLOW THAT STANDS WRITES IT: a record can hold its values
+pub record Writable (o : Ordinativo) : Type 0 where
+  pub kind : (1 ≤ o .kind) × (o .kind ≤ 2)
+  pub number : (1 ≤ o .number) × (o .number ≤ 9999999)
+  pub date : isDate (o .date) ≡ true
+  pub total : o .total ≤ maxCents
+  pub count : (1 ≤ length (o .lines)) × (length (o .lines) ≤ 8)
+
+pub data Writables : List Ordinativo → Type 0 where
+  none : Writables []
+  more : {o : Ordinativo} {os : List Ordinativo} → Writable o → Writables os → Writables (o ∷ os)

@@ -145,9 +145,9 @@ module _ (t : List ℕ) (base n year : ℕ) (o : Ordinativo) (c : Change) {code 
   unfolding stepsOf
   steps-lines h = rw (← e) (sym (unless-none code _ h))
 
-  module _ {f : Sought} (h : code ≡ 0) (g : f ≡ seekIn (recordsAt t base n) 0 (keyFor year o)) where
+  module _ {f : Sought} {k : Key} (h : code ≡ 0) (q : k ≡ keyFor year o) (g : f ≡ seekIn (recordsAt t base n) 0 k) where
     seek-here : {x : Sought} → f ≡ x → seekIn (recordsAt t base n) 0 (keyFor year o) ≡ x
-    seek-here z = sym g ∙ z
+    seek-here z = ap (seekIn (recordsAt t base n) 0) (sym q) ∙ sym g ∙ z
 
     pub change-held : {i : ℕ} → f ≡ sought.At i → Held t base n i
     change-held {i} z = held t base n i (found-below (recordsAt t base n) (keyFor year o) i noRecord (seek-at (recordsAt t base n) 0 (keyFor year o) i (seek-here z)))

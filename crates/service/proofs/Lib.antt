@@ -7,3 +7,4 @@ pub mod Totals
 pub mod Moved
 pub mod Own
 pub mod Searches
+pub mod Filter

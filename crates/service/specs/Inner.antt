@@ -38,6 +38,11 @@ recordStored t base year o (Refused code) = t
 abbrev pub Ruled : (Ruling → List ℕ) → Ruling → Ruling → List ℕ → Type 0
 Ruled leaves rules j t′ = (j ≡ rules) × (t′ ≡ leaves j)
 
+-- how many records there are after an order, where there were `used` before
+abbrev pub usedAfter : Ruling → ℕ → ℕ
+usedAfter (Accepted c i) used = cond (eqb i used) (used + 1) used
+usedAfter (Refused code) used = used
+
 -- A NOTICE
 
 -- a sum that an executed line adds to, and a reversed one takes off

@@ -10,18 +10,20 @@ use slots::Sought;
 ghost use mathlib.Core.Path.{_≡_};
 ghost use mathlib.Core.Bool.{true};
 ghost use Prim.Native.Nat.{_+_, _*_, _≤_, _<_};
-ghost use lib.ListN.{length};
+ghost use lib.ListN.{length, set};
+ghost use Rattle.bounds.specs.Bounds.{maxSlots};
 ghost use Rattle.words.specs.Numbers.{put};
 ghost use Rattle.order.specs.Ordinativo.{ordinativo};
 ghost use Rattle.record.specs.Slot.{slotSize, mandatoKind, reversaleKind};
 ghost use Rattle.slots.specs.Slots.{recordsAt};
+ghost use Rattle.slots.specs.Inner.{filterSize, markOf, Filters};
 ghost use Rattle.body.specs.Body.{bodyOk};
 ghost use Rattle.entries.specs.Entry.{entryFixed, closedPlace, kept};
-ghost use Rattle.rules.specs.Rules.{judgeChange, movedTo};
+ghost use Rattle.rules.specs.Rules.{keyFor, judgeChange, movedTo};
 ghost use Rattle.rules.specs.Searches.{stepsOf};
 ghost use Rattle.rules.specs.Inner.{namesCode};
 ghost use Rattle.service.specs.Service.{besidesPut, orderStored, outcomeSize, OrderServed, outcomeBytes, noticeComes, NoticeServed};
-ghost use Rattle.service.specs.Inner.{onRecord, onNone, recordStored, Ruled, sumMoved, Movable, its, keptMoved, Served};
+ghost use Rattle.service.specs.Inner.{onRecord, onNone, recordStored, Ruled, usedAfter, sumMoved, Movable, its, keptMoved, Served};
 
 // What an order comes to, and how many slots its search looked at.
 pub struct Counted {
@@ -97,9 +99,29 @@ fn serve_absent(
     Ruling::Accepted(c, used)
 }
 
-// Serves an order that asks for a change: its lines, then one search for its key, which tells the steps too.
-fn serve_change(t: &mut [u8], base: usize, n: usize, year: u64, o: Order, c: Change) -> Counted
-    requires { ⌜ base + slotSize * n ≤ length (now t) ⌝ }
+// The key of an order's record.
+fn key_for(year: u64, o: Order) -> Key
+    ensures { λ r. ⌜ r ≡ keyFor year (ordinativo o) ⌝ }
+{
+    Key {
+        kind: o.kind as u64,
+        esercizio: year,
+        number: o.number,
+    }
+}
+
+// Serves an order that asks for a change: its lines, then one search for its key, which asks the filter first and tells the steps too.
+fn serve_change(
+    t: &mut [u8],
+    base: usize,
+    n: usize,
+    used: usize,
+    marks: &[u8],
+    year: u64,
+    o: Order,
+    c: Change,
+) -> Counted
+    requires { ⌜ (base + slotSize * n ≤ length (now t)) × Filters (now marks) used (recordsAt (now t) base n) ⌝ }
     ensures { λ j. ⌜ Ruled (orderStored (now (t .entry)) base n year (ordinativo o))
         (judgeChange n year (ordinativo o) (recordsAt (now (t .entry)) base n) c) (j .ruling) (now (t .exit))
         × (j .steps ≡ stepsOf year (ordinativo o) (recordsAt (now (t .entry)) base n)) ⌝ }
@@ -112,35 +134,51 @@ fn serve_change(t: &mut [u8], base: usize, n: usize, year: u64, o: Order, c: Cha
             steps: 0,
         };
     }
-    let key = Key {
-        kind: o.kind as u64,
-        esercizio: year,
-        number: o.number,
-    };
-    match slots::seek(t, base, n, key) {
+    let key = key_for(year, o);
+    match slots::seek_marked(t, base, n, used, marks, key) {
         Sought::At(i) => Counted {
             ruling: serve_record(t, base, i, year, o, c),
             steps: i + 1,
         },
-        Sought::Absent(used) => Counted {
-            ruling: serve_absent(t, base, n, used, year, o, c),
-            steps: used,
+        Sought::Absent(all) => Counted {
+            ruling: serve_absent(t, base, n, all, year, o, c),
+            steps: all,
         },
     }
 }
 
 // Serves an order: its record is stored where it is accepted. A call for each operation keeps the compiler from taking the search into the loop over
 // the orders, where its counters would lie in memory.
-pub fn serve_order(t: &mut [u8], base: usize, n: usize, year: u64, o: Order) -> Counted
-    requires { ⌜ base + slotSize * n ≤ length (now t) ⌝ }
+pub fn serve_order(
+    t: &mut [u8],
+    base: usize,
+    n: usize,
+    used: usize,
+    marks: &[u8],
+    year: u64,
+    o: Order,
+) -> Counted
+    requires { ⌜ (base + slotSize * n ≤ length (now t)) × Filters (now marks) used (recordsAt (now t) base n) ⌝ }
     ensures { λ r. ⌜ OrderServed (now (t .entry)) base n year (ordinativo o) r (now (t .exit)) ⌝ }
 {
     let operation = o.operation;
     match operation {
-        Operation::Inserimento => serve_change(t, base, n, year, o, Change::Insert),
-        Operation::Variazione => serve_change(t, base, n, year, o, Change::Vary),
-        Operation::Annullo => serve_change(t, base, n, year, o, Change::Annul),
-        Operation::Sostituzione => serve_change(t, base, n, year, o, Change::Replace),
+        Operation::Inserimento => serve_change(t, base, n, used, marks, year, o, Change::Insert),
+        Operation::Variazione => serve_change(t, base, n, used, marks, year, o, Change::Vary),
+        Operation::Annullo => serve_change(t, base, n, used, marks, year, o, Change::Annul),
+        Operation::Sostituzione => serve_change(t, base, n, used, marks, year, o, Change::Replace),
+    }
+}
+
+// The filter after an order: its key's place is marked, and the answer is how many records there are, one more where it was stored after the last.
+pub fn note_order(marks: &mut [u8], used: usize, year: u64, o: Order, j: Ruling) -> usize
+    requires { ⌜ (length (now marks) ≡ filterSize) × (used ≤ maxSlots) ⌝ }
+    ensures { λ r. ⌜ (r ≡ usedAfter j used) × (now (marks .exit) ≡ set (now (marks .entry)) (markOf (keyFor year (ordinativo o))) 1) ⌝ }
+{
+    marks[slots::mark_of(key_for(year, o))] = 1;
+    match j {
+        Ruling::Accepted(_, i) => if i == used { used + 1 } else { used },
+        Ruling::Refused(_) => used,
     }
 }
 

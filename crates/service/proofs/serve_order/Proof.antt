@@ -34,25 +34,25 @@ same-length : tie.Need-same-length
 same-length c = search needs
 
 returns : tie.Need-returns
-returns c = served-change (c .before .before .before .before .before .before .before .args .t .now) (c .before .before .before .before .before .before .before .args .base) (c .before .before .before .before .before .before .before .args .n) (c .before .before .before .before .before .before .before .args .year) (ordinativo (c .before .before .before .before .before .before .before .args .o)) (sym (ap changeOf (c .before .before .before .before .enum-told .given .1))) _ (c .before .before .serve-change .ensures)
+returns c = served-change (c .before .before .before .before .before .before .before .before .args .t .now) (c .before .before .before .before .before .before .before .before .args .base) (c .before .before .before .before .before .before .before .before .args .n) (c .before .before .before .before .before .before .before .before .args .year) (ordinativo (c .before .before .before .before .before .before .before .before .args .o)) (sym (ap changeOf (c .before .before .before .before .enum-told .given .1))) _ (c .before .before .serve-change .ensures)
 
 same-length-2 : tie.Need-same-length-2
 same-length-2 c = search needs
 
 returns-2 : tie.Need-returns-2
-returns-2 c = served-change (c .before .before .before .before .before .before .before .args .t .now) (c .before .before .before .before .before .before .before .args .base) (c .before .before .before .before .before .before .before .args .n) (c .before .before .before .before .before .before .before .args .year) (ordinativo (c .before .before .before .before .before .before .before .args .o)) (sym (ap changeOf (c .before .before .before .before .enum-told2 .given .1))) _ (c .before .before .serve-change2 .ensures)
+returns-2 c = served-change (c .before .before .before .before .before .before .before .before .args .t .now) (c .before .before .before .before .before .before .before .before .args .base) (c .before .before .before .before .before .before .before .before .args .n) (c .before .before .before .before .before .before .before .before .args .year) (ordinativo (c .before .before .before .before .before .before .before .before .args .o)) (sym (ap changeOf (c .before .before .before .before .enum-told2 .given .1))) _ (c .before .before .serve-change2 .ensures)
 
 same-length-3 : tie.Need-same-length-3
 same-length-3 c = search needs
 
 returns-3 : tie.Need-returns-3
-returns-3 c = served-change (c .before .before .before .before .before .before .before .args .t .now) (c .before .before .before .before .before .before .before .args .base) (c .before .before .before .before .before .before .before .args .n) (c .before .before .before .before .before .before .before .args .year) (ordinativo (c .before .before .before .before .before .before .before .args .o)) (sym (ap changeOf (c .before .before .before .before .enum-told3 .given .1))) _ (c .before .before .serve-change3 .ensures)
+returns-3 c = served-change (c .before .before .before .before .before .before .before .before .args .t .now) (c .before .before .before .before .before .before .before .before .args .base) (c .before .before .before .before .before .before .before .before .args .n) (c .before .before .before .before .before .before .before .before .args .year) (ordinativo (c .before .before .before .before .before .before .before .before .args .o)) (sym (ap changeOf (c .before .before .before .before .enum-told3 .given .1))) _ (c .before .before .serve-change3 .ensures)
 
 same-length-4 : tie.Need-same-length-4
 same-length-4 c = search needs
 
 returns-4 : tie.Need-returns-4
-returns-4 c = served-change (c .before .before .before .before .before .before .before .args .t .now) (c .before .before .before .before .before .before .before .args .base) (c .before .before .before .before .before .before .before .args .n) (c .before .before .before .before .before .before .before .args .year) (ordinativo (c .before .before .before .before .before .before .before .args .o)) (sym (ap changeOf (c .before .before .before .before .enum-told4 .given .1))) _ (c .before .before .serve-change4 .ensures)
+returns-4 c = served-change (c .before .before .before .before .before .before .before .before .args .t .now) (c .before .before .before .before .before .before .before .before .args .base) (c .before .before .before .before .before .before .before .before .args .n) (c .before .before .before .before .before .before .before .before .args .year) (ordinativo (c .before .before .before .before .before .before .before .before .args .o)) (sym (ap changeOf (c .before .before .before .before .enum-told4 .given .1))) _ (c .before .before .serve-change4 .ensures)
 
 pub serve-order-spec : {M : Type 1} → statement M
 serve-order-spec =
