@@ -1,5 +1,5 @@
 -- THE FILTER OF A BODY'S KEYS AFTER AN ORDER: its own key is marked, and no other comes in.
-use Prim.Native.Nat.{ℕ, _+_, _<_, _≤_}
+use Prim.Native.Nat.{ℕ, _+_, _*_, _<_, _≤_}
 use mathlib.Core.Bool.{Bool, true, false, cond}
 use mathlib.Core.List.{List, [], _∷_, _++_}
 use mathlib.Core.Path.{_≡_, refl, sym, ap, subst⁻¹, _∙_}
@@ -11,11 +11,12 @@ use Rattle.ranges.specs.Ranges.{isNothing}
 use Rattle.ranges.specs.declared.Found.the-variants.{At}
 use Rattle.record.specs.declared.Key.{Key}
 use Rattle.record.specs.declared.Record.{Record}
-use Rattle.record.specs.Slot.{keyOf}
-use Rattle.slots.specs.Slots.{findIn, nth, noRecord}
+use Rattle.record.specs.Slot.{slotSize, keyOf}
+use Rattle.slots.specs.Slots.{recordsAt, findIn, nth, noRecord}
 use Rattle.slots.specs.Inner.{markOf, Filters}
 use Rattle.slots.proofs.Search.{found-below, find-set, none-add}
 use Rattle.slots.proofs.Filter.{other-key, filters-by}
+use Rattle.body.specs.Body.{bodyOk}
 use Rattle.order.specs.Ordinativo.{Ordinativo}
 use Rattle.replacing.specs.Replacing.{namings, replacedBy}
 use Rattle.replacing.proofs.Marks.{replaced-find, replaced-length}
@@ -25,9 +26,12 @@ use Rattle.rules.specs.declared.Ruling.{Ruling}
 use Rattle.rules.specs.declared.Ruling.the-variants.{Accepted, Refused}
 use Rattle.rules.specs.Rules.{keyFor, judgeOrder, written}
 use Rattle.rules.specs.Effects.{storedAt, recordsBy}
+use Rattle.rules.specs.Inner.{Writable}
 use Rattle.rules.proofs.Judging.{Stands, inserting, replacing, varying, annulling, accepted}
+use Rattle.service.specs.Service.{orderComes, orderLeaves}
 use Rattle.service.specs.Inner.{usedAfter}
 use Rattle.service.proofs.Worth.{stored-set, stored-end}
+use Rattle.service.proofs.Kept.{order-records}
 
 module _ (slots year : ℕ) (o : Ordinativo) (rs : List Record) {marks : List ℕ} {used : ℕ} (f : Filters marks used rs) where
   -- the records of before and one more, among which no other key is
@@ -61,6 +65,15 @@ module _ (slots year : ℕ) (o : Ordinativo) (rs : List Record) {marks : List �
   pub order-filters : (j : Ruling) → judgeOrder slots year o rs ≡ j → After (usedAfter j used) (recordsBy year o rs j)
   order-filters (Accepted c i) e = by-stand c i (accepted slots year o rs c i e)
   order-filters (Refused code) e = filters-by rs rs (keyFor year o) f (λ k n z. z) (λ u. u)
+
+-- and on the table that it leaves
+pub order-filtered : (t : List ℕ) (base n year : ℕ) (o : Ordinativo) {marks : List ℕ} {used : ℕ} → base + slotSize * n ≤ length t → bodyOk t base n ≡ true → Writable o
+    → (2000 ≤ year) × (year ≤ 2099) → Filters marks used (recordsAt t base n)
+    → Filters (set marks (markOf (keyFor year o)) 1) (usedAfter (orderComes t base n year o) used) (recordsAt (orderLeaves t base n year o) base n)
+unfolding orderComes
+order-filtered t base n year o {marks} {used} fits ok w y f =
+    subst⁻¹ (Filters (set marks (markOf (keyFor year o)) 1) (usedAfter (judgeOrder n year o (recordsAt t base n)) used)) (order-records t base n year o fits ok w y)
+    (order-filters n year o (recordsAt t base n) f (judgeOrder n year o (recordsAt t base n)) refl)
 
 -- no more records than there are slots
 pub used-low : (j : Ruling) {used n : ℕ} → used ≤ n → ((c : Change) (i : ℕ) → j ≡ Accepted c i → i < n) → usedAfter j used ≤ n

@@ -1,15 +1,16 @@
 -- The orders of a flow served one after the other.
 use mathlib.Core.Path.{_≡_, refl, sym, ap, _∙_}
-use mathlib.Core.List.{List, [], _++_}
+use mathlib.Core.List.{List, [], _∷_, _++_}
 use mathlib.Core.Bool.{cond}
 use Prim.Native.Nat.{ℕ, zero, suc, _+_, _*_, _-_, _≤_, _<_}
 use native.Mathlib.Omega.{arith}
-use lib.ListN.{length, length-map}
+use lib.ListN.{length, set, length-map}
 use lib.Dec.{eqb}
 use Rattle.words.specs.Numbers.{put}
 use Rattle.words.proofs.Laws.{put-nil, put-put}
 use Rattle.bounds.specs.Bounds.{maxSlots}
-use Rattle.record.specs.Slot.{slotSize}
+use Rattle.slots.specs.Slots.{recordsAt}
+use Rattle.slots.specs.Inner.{markOf, Filters}
 use Rattle.schema.specs.declared.Parent.{Parent}
 use Rattle.rows.specs.declared.Kept.{Kept}
 use Rattle.rows.specs.declared.Next.{Next}
@@ -20,10 +21,15 @@ use Rattle.order.specs.Ordinativo.{Ordinativo, ordinativo}
 use Rattle.orders.specs.Orders.{those, orderOf, isOrder, ordersIn}
 use Rattle.orders.proofs.Laws.{those-at, orders-one, orders-end, Order-at, order-at}
 use Rattle.rules.specs.declared.Ruling.{Ruling}
-use Rattle.rules.specs.Rules.{orderCode}
+use Rattle.rules.specs.Rules.{keyFor, orderCode}
+use Rattle.rules.specs.Inner.{Writable, Writables, more}
 use Rattle.service.specs.Service.{orderComes, orderSteps, orderLeaves, outcomeBytes, allLeave, allOutcomes, allAccepted, allSteps}
+use Rattle.service.specs.Inner.{usedAfter}
+use Rattle.service.proofs.Laws.{order-low}
 use Rattle.service.proofs.Searches.{order-most}
-use Rattle.serving.specs.Served.{ordersFrom, Rooted, maxSteps}
+use Rattle.service.proofs.Kept.{order-kept}
+use Rattle.service.proofs.Filter.{order-filtered, used-low}
+use Rattle.serving.specs.Served.{ordersFrom, Rooted, Servable, maxSteps}
 
 -- HOW MANY: each order takes at least a byte of the flow
 orders-by : (m : ℕ) (root : Parent) (f : List ℕ) (i : ℕ) → length f - i < m → i ≤ length f → length (ordersFrom root f i) ≤ length f - i
@@ -47,13 +53,23 @@ pub outcome-length : (o : Ordinativo) (code : ℕ) → length (outcomeBytes o co
 unfolding outcomeBytes
 outcome-length o code = refl
 
--- SERVING, while the orders are walked: those from i on are to come, their outcomes from `to` on
-pub record Serving (root : Parent) (f past : List ℕ) (base n year : ℕ) (t₀ out₀ : List ℕ) (from : ℕ) (t out : List ℕ) (i to accepted steps : ℕ) : Type 0 where
+-- the body stays one that the later orders can be served on
+written-on : {o : Ordinativo} {os : List Ordinativo} → Writables (o ∷ os) → Writable o × Writables os
+written-on (more w ws) = (w, ws)
+
+servable-on : {t : List ℕ} {base n year : ℕ} {o : Ordinativo} {os : List Ordinativo} → Servable t base n year (o ∷ os) → Servable (orderLeaves t base n year o) base n year os
+servable-on {t} {base} {n} {year} {o} s =
+    let v = s .inside in
+    let w = written-on (s .written) in
+    let k = order-kept t base n year o v (s .valid) (w .0) (s .dated) in
+    record { inside = omega (arith, k .long); few = s .few; valid = k .ok; dated = s .dated; written = w .1 }
+
+-- SERVING, while the orders are walked: those from i on are to come, their outcomes from `to` on, and the filter has the keys of the body's records
+pub record Serving (root : Parent) (f past : List ℕ) (base n year : ℕ) (t₀ out₀ : List ℕ) (from : ℕ) (t out marks : List ℕ) (i to accepted steps used : ℕ) : Type 0 where
   pub rooted : Rooted root f past i
-  pub slots : base + slotSize * n ≤ length t
+  pub body : Servable t base n year (ordersFrom root f i)
   pub room : to + 16 * length (ordersFrom root f i) ≤ length out
   pub few : accepted ≤ to
-  pub small : n ≤ maxSlots
   pub most : steps + maxSlots * length (ordersFrom root f i) ≤ maxSteps
   pub same-table : length t ≡ length t₀
   pub same-out : length out ≡ length out₀
@@ -61,16 +77,18 @@ pub record Serving (root : Parent) (f past : List ℕ) (base n year : ℕ) (t₀
   pub stepped : steps + allSteps t base n year (ordersFrom root f i) ≡ allSteps t₀ base n year (ordersFrom root f from)
   pub leaves : allLeave t base n year (ordersFrom root f i) ≡ allLeave t₀ base n year (ordersFrom root f from)
   pub outcomes : put out to (allOutcomes t base n year (ordersFrom root f i)) ≡ put out₀ 0 (allOutcomes t₀ base n year (ordersFrom root f from))
+  pub low : used ≤ n
+  pub keys : Filters marks used (recordsAt t base n)
 
 module _ (root : Parent) (f past : List ℕ) (base n year : ℕ) (t₀ out₀ : List ℕ) (from : ℕ) where
-  pub serving-start : Rooted root f past from → base + slotSize * n ≤ length t₀ → n ≤ maxSlots → 16 * length (ordersFrom root f from) ≤ length out₀
-      → maxSlots * length (ordersFrom root f from) ≤ maxSteps → Serving root f past base n year t₀ out₀ from t₀ out₀ from 0 0 0
-  serving-start r s v h m = record {
+  pub serving-start : {marks : List ℕ} {used : ℕ} → Rooted root f past from → Servable t₀ base n year (ordersFrom root f from) → 16 * length (ordersFrom root f from) ≤ length out₀
+      → maxSlots * length (ordersFrom root f from) ≤ maxSteps → used ≤ n → Filters marks used (recordsAt t₀ base n)
+      → Serving root f past base n year t₀ out₀ from t₀ out₀ marks from 0 0 0 used
+  serving-start r s h m l k = record {
     rooted = r;
-    slots = s;
+    body = s;
     room = omega arith;
     few = omega arith;
-    small = v;
     most = omega arith;
     same-table = refl;
     same-out = refl;
@@ -78,9 +96,11 @@ module _ (root : Parent) (f past : List ℕ) (base n year : ℕ) (t₀ out₀ : 
     stepped = omega arith;
     leaves = refl;
     outcomes = refl;
+    low = l;
+    keys = k;
   }
 
-  module _ (t out : List ℕ) (i to accepted steps : ℕ) (s : Serving root f past base n year t₀ out₀ from t out i to accepted steps) where
+  module _ (t out marks : List ℕ) (i to accepted steps used : ℕ) (s : Serving root f past base n year t₀ out₀ from t out marks i to accepted steps used) where
     pub serving-end : nextOf (those isOrder (keptFrom root f i)) ≡ Done
         → (accepted ≡ allAccepted t₀ base n year (ordersFrom root f from)) × (steps ≡ allSteps t₀ base n year (ordersFrom root f from)) × (t ≡ allLeave t₀ base n year (ordersFrom root f from)) × (out ≡ put out₀ 0 (allOutcomes t₀ base n year (ordersFrom root f from)))
     unfolding allAccepted allSteps allLeave allOutcomes
@@ -103,19 +123,20 @@ module _ (root : Parent) (f past : List ℕ) (base n year : ℕ) (t₀ out₀ : 
       pub serving-steps : (o : Ordinativo) {d : ℕ} → d ≡ orderSteps t base n year o → (steps + d) + maxSlots * length (ordersFrom root f (k .child .after)) ≤ maxSteps
       serving-steps o e =
           let h : steps + maxSlots * suc (length (ordersFrom root f (k .child .after))) ≤ maxSteps = rw (serving-order .rest) at (s .most) in
-          omega (arith, order-most t base n year o, s .small)
+          omega (arith, order-most t base n year o, s .body .few)
 
-      pub serving-step : {o : Order} {j : Ruling} {d code a : ℕ} {t′ out′ : List ℕ} → o ≡ orderOf f k → j ≡ orderComes t base n year (ordinativo o)
+      pub serving-step : {o : Order} {j : Ruling} {d code a used′ : ℕ} {t′ out′ marks′ : List ℕ} → o ≡ orderOf f k → j ≡ orderComes t base n year (ordinativo o)
           → d ≡ orderSteps t base n year (ordinativo o) → t′ ≡ orderLeaves t base n year (ordinativo o) → length t′ ≡ length t
           → code ≡ orderCode j → out′ ≡ put out to (outcomeBytes (ordinativo o) code) → length out′ ≡ length out → a ≡ cond (eqb code 0) 1 0 → a ≤ 1
-          → Serving root f past base n year t₀ out₀ from t′ out′ (k .child .after) (to + 16) (accepted + a) (steps + d)
+          → used′ ≡ usedAfter j used → marks′ ≡ set marks (markOf (keyFor year (ordinativo o))) 1
+          → Serving root f past base n year t₀ out₀ from t′ out′ marks′ (k .child .after) (to + 16) (accepted + a) (steps + d) used′
       unfolding allAccepted allSteps allLeave allOutcomes
-      serving-step {o} {j} {d} {code} {a} {t′} {out′} eo ej ed et lt ec eu lu ea la =
+      serving-step {o} {j} {d} {code} {a} {used′} {t′} {out′} {marks′} eo ej ed et lt ec eu lu ea la en em =
           let q = serving-order in
           let os = ordersFrom root f (k .child .after) in
           let l = q .lies in
-          let v = s .slots in
           let w = s .few in
+          let b : Servable t base n year (ordinativo (orderOf f k) ∷ os) = rw (q .rest) at (s .body) in
           let h : to + 16 * suc (length os) ≤ length out = rw (q .rest) at (s .room) in
           let c : accepted + (cond (eqb (orderCode (orderComes t base n year (ordinativo (orderOf f k)))) 0) 1 0 + allAccepted (orderLeaves t base n year (ordinativo (orderOf f k))) base n year os) ≡ allAccepted t₀ base n year (ordersFrom root f from) = rw (q .rest) at (s .counted) in
           let x : steps + (orderSteps t base n year (ordinativo (orderOf f k)) + allSteps (orderLeaves t base n year (ordinativo (orderOf f k))) base n year os) ≡ allSteps t₀ base n year (ordersFrom root f from) = rw (q .rest) at (s .stepped) in
@@ -128,10 +149,9 @@ module _ (root : Parent) (f past : List ℕ) (base n year : ℕ) (t₀ out₀ : 
           let uu : out′ ≡ put out to (outcomeBytes (ordinativo (orderOf f k)) (orderCode (orderComes t base n year (ordinativo (orderOf f k))))) = rw (← eo, ← ej, ← ec) eu in
           record {
             rooted = record { within = l .within; holds = q .on; noted = s .rooted .noted };
-            slots = omega arith;
+            body = rw tt (servable-on b);
             room = omega arith;
             few = omega arith;
-            small = s .small;
             most = serving-steps (ordinativo o) ed;
             same-table = lt ∙ s .same-table;
             same-out = lu ∙ s .same-out;
@@ -139,4 +159,6 @@ module _ (root : Parent) (f past : List ℕ) (base n year : ℕ) (t₀ out₀ : 
             stepped = rw (tt, dd) (omega arith);
             leaves = rw tt m;
             outcomes = rw (tt, uu) (put-put out to (outcomeBytes (ordinativo (orderOf f k)) (orderCode (orderComes t base n year (ordinativo (orderOf f k))))) _ (to + 16) (omega arith) (ap (λ (x : ℕ). to + x) (outcome-length (ordinativo (orderOf f k)) _)) ∙ p);
+            low = rw en (used-low j (s .low) (λ c i e. order-low t base n year (ordinativo o) c i (sym ej ∙ e)));
+            keys = rw (en, jj, em, eo, tt) (order-filtered t base n year (ordinativo (orderOf f k)) (b .inside) (b .valid) (written-on (b .written) .0) (b .dated) (s .keys));
           }

@@ -1,5 +1,5 @@
 -- The orders of a flow from a place on, as they are served.
-use Prim.Native.Nat.{ℕ, _≤_}
+use Prim.Native.Nat.{ℕ, _+_, _*_, _≤_}
 use mathlib.Core.Path.{_≡_}
 use mathlib.Core.Bool.{true}
 use mathlib.Core.List.{List, map}
@@ -10,7 +10,11 @@ use Rattle.rows.specs.Kept.{keptFrom}
 use Rattle.structure.specs.Structure.{allKept, keptHolds, fitsAt}
 use Rattle.order.specs.Ordinativo.{Ordinativo, ordinativo}
 use Rattle.orders.specs.Orders.{ordersIn}
+use Rattle.bounds.specs.Bounds.{maxSlots}
 use Rattle.words.specs.Numbers.{put}
+use Rattle.record.specs.Slot.{slotSize}
+use Rattle.body.specs.Body.{bodyOk}
+use Rattle.rules.specs.Inner.{Writables}
 use Rattle.service.specs.Service.{allLeave, allOutcomes, allAccepted, allSteps}
 use Rattle.serving.specs.declared.FlowSums.{FlowSums}
 
@@ -23,6 +27,14 @@ pub record Rooted (root : Parent) (f past : List ℕ) (from : ℕ) : Type 0 wher
   pub within : from ≤ length f
   pub holds : allKept (keptHolds (λ q a. fitsAt 3 q f a) f) (keptFrom root f from) ≡ true
   pub noted : Noted f past
+
+-- a body that these orders can be served on: its slots lie in the table and are valid, and a record can hold the orders and their year
+pub record Servable (t : List ℕ) (base n year : ℕ) (os : List Ordinativo) : Type 0 where
+  pub inside : base + slotSize * n ≤ length t
+  pub few : n ≤ maxSlots
+  pub valid : bodyOk t base n ≡ true
+  pub dated : (2000 ≤ year) × (year ≤ 2099)
+  pub written : Writables os
 
 -- the greatest sum of steps that a word can hold
 abbrev pub maxSteps : ℕ
