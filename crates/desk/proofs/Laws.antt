@@ -1,5 +1,5 @@
 -- One law for each way out of a flow's call.
-use mathlib.Core.Path.{_≡_, refl, ap, subst, _∙_}
+use mathlib.Core.Path.{_≡_, refl, ap, subst, subst⁻¹, _∙_}
 use mathlib.Core.List.{List, map}
 use mathlib.Core.Bool.{Bool, true, false}
 use Prim.Native.Nat.{ℕ, _*_, _-_, _≤_, _<_}
@@ -32,12 +32,14 @@ use Rattle.flow.specs.declared.Verdict.{Verdict}
 use Rattle.flow.specs.declared.Verdict.the-variants.{Stands}
 use Rattle.flow.specs.Flow.{verdictOf, headerOf, flowOrders}
 use Rattle.flow.proofs.Laws.{flow-stood}
+use Rattle.flow.proofs.Values.{orders-ok, header-ok}
 use Rattle.service.specs.Service.{allLeave, allOutcomes, allAccepted, allSteps}
 use Rattle.desk.specs.declared.FlowAnswer.{FlowAnswer}
 use Rattle.desk.specs.declared.FlowAnswer.the-variants.{InvalidTable, UnknownEdition, TooLong, OtherBank, ClosedYear, NoRoom, Taken}
 use Rattle.desk.specs.Desk.{withRoom, forBody, forBank, forFlow, flowReads, Gives, FlowPromise}
-use Rattle.serving.specs.Served.{ordersFrom, Rooted}
+use Rattle.serving.specs.Served.{ordersFrom, Rooted, Storable}
 use Rattle.desk.specs.Steps.{bodyFor}
+use Rattle.desk.proofs.Written.{writables}
 
 -- THE WAYS OUT, from the last check to the first
 module _ (t out : List ℕ) (os : List Ordinativo) where
@@ -83,6 +85,9 @@ module _ (e : Edition) (f : List ℕ) (at from : ℕ) (z : from ≡ whiteAt f at
     pub bank-within : Within f h
     bank-within = rw y (heading-within e f from)
 
+    bank-header : headerBy f h ≡ headerOf e f at
+    bank-header = rw (y, z) (heading-header e f (whiteAt f at))
+
     module _ (root : Parent) (x : root ≡ rootOf e) where
       pub bank-rooted : (past : List ℕ) → Noted f past → Rooted root f past (h .orders)
       bank-rooted past n = let b = heading-orders e f from bank-filled in rw (x, y) (record { within = b .within; holds = b .standing; noted = n })
@@ -90,12 +95,16 @@ module _ (e : Edition) (f : List ℕ) (at from : ℕ) (z : from ≡ whiteAt f at
       pub bank-orders : ordersFrom root f (h .orders) ≡ flowOrders e f at
       bank-orders = rw (x, y) (ap (map ordinativo) (heading-orders e f from bank-filled .same) ∙ rw z)
 
+      pub bank-storable : Storable (h .esercizio) (ordersFrom root f (h .orders))
+      bank-storable =
+          let s = flow-stood e f at v in
+          record { dated = subst⁻¹ (λ (x : Header). (2000 ≤ x .esercizio) × (x .esercizio ≤ 2099)) bank-header (header-ok e f at s .0 .esercizio); written = rw bank-orders (writables (flowOrders e f at) (orders-ok e f at s)) }
+
     pub bank-from : (t out : List ℕ) (os : List Ordinativo) → os ≡ flowOrders e f at → {r : FlowAnswer} {t′ out′ : List ℕ} → Gives t out (forBank t (length out) (headerBy f h) os) r t′ out′
         → Gives t out (forBank t (length out) (headerOf e f at) (flowOrders e f at)) r t′ out′
     bank-from t out os b {r} {t′} {out′} g =
-        let a : headerBy f h ≡ headerOf e f at = rw (y, z) (heading-header e f (whiteAt f at)) in
         subst (λ (os : List Ordinativo). Gives t out (forBank t (length out) (headerOf e f at) os) r t′ out′) b
-        (subst (λ (x : Header). Gives t out (forBank t (length out) x os) r t′ out′) a g)
+        (subst (λ (x : Header). Gives t out (forBank t (length out) x os) r t′ out′) bank-header g)
 
 pub verdict-read : (e : Edition) (t f out : List ℕ) {v : Verdict} {r : FlowAnswer} {t′ out′ : List ℕ} → verdictOf e f ≡ v → Gives t out (forFlow e t f (length out) v) r t′ out′
     → Gives t out (forFlow e t f (length out) (verdictOf e f)) r t′ out′

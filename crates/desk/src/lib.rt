@@ -12,14 +12,13 @@ ghost use mathlib.Core.Bool.{true};
 ghost use Prim.Native.Nat.{ℕ, _+_, _*_, _≤_, _<_};
 ghost use lib.ListN.{length};
 ghost use Rattle.markup.specs.Noted.{Noted};
-ghost use Rattle.bounds.specs.Bounds.{maxSlots, maxFlow};
-ghost use Rattle.record.specs.Slot.{slotSize};
+ghost use Rattle.bounds.specs.Bounds.{maxFlow};
 ghost use Rattle.table.specs.Table.{tableOk};
 ghost use Rattle.flow.specs.declared.Verdict.the-variants.{Stands};
 ghost use Rattle.header.specs.Heading.{headerBy, Within};
 ghost use Rattle.flow.specs.Flow.{verdictOf, headerOf, flowOrders};
 ghost use Rattle.desk.specs.Desk.{withRoom, forBank, forFlow, Gives, FlowPromise, SameReply, flowReply};
-ghost use Rattle.serving.specs.Served.{ordersFrom, Rooted};
+ghost use Rattle.serving.specs.Served.{ordersFrom, Rooted, Storable, Servable};
 ghost use Rattle.desk.specs.Steps.{bodyFor};
 
 // What a flow's call answers.
@@ -59,7 +58,7 @@ fn with_room(
     out: &mut [u8],
     past: &[u32],
 ) -> FlowAnswer
-    requires { ⌜ (base + slotSize * n ≤ length (now t)) × (n ≤ maxSlots) × Rooted root (now f) (now past) from × (length (now f) ≤ maxFlow) ⌝ }
+    requires { ⌜ Servable (now t) base n year (ordersFrom root (now f) from) × Rooted root (now f) (now past) from × (length (now f) ≤ maxFlow) ⌝ }
     ensures { λ r. ⌜ Gives (now (t .entry)) (now (out .entry))
         (withRoom (length (now (out .entry))) base n year (ordersFrom root (now (f .entry)) from)) r (now (t .exit)) (now (out .exit)) ⌝ }
 {
@@ -67,7 +66,7 @@ fn with_room(
     if out.len() < service::OUTCOME * count {
         return FlowAnswer::NoRoom;
     }
-    let s = serving::serve_all(t, f, from, root, base, n, year, out, past);
+    let s = serving::serve_all(t, f, from, root, base, n, year, out, past, count);
     FlowAnswer::Taken(count, s.accepted, s.steps)
 }
 
@@ -80,7 +79,8 @@ fn for_body(
     out: &mut [u8],
     past: &[u32],
 ) -> FlowAnswer
-    requires { ⌜ (tableOk (now t) ≡ true) × Within (now f) h × Rooted root (now f) (now past) (h .orders) × (length (now f) ≤ maxFlow) ⌝ }
+    requires { ⌜ (tableOk (now t) ≡ true) × Within (now f) h × Rooted root (now f) (now past) (h .orders) × (length (now f) ≤ maxFlow)
+        × Storable (h .esercizio) (ordersFrom root (now f) (h .orders)) ⌝ }
     ensures { λ r. ⌜ Gives (now (t .entry)) (now (out .entry))
         (bodyFor (now (t .entry)) (length (now (out .entry))) (headerBy (now (f .entry)) h) (ordersFrom root (now (f .entry)) (h .orders))) r
         (now (t .exit)) (now (out .exit)) ⌝ }

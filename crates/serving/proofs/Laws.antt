@@ -60,9 +60,9 @@ written-on (more w ws) = (w, ws)
 servable-on : {t : List ℕ} {base n year : ℕ} {o : Ordinativo} {os : List Ordinativo} → Servable t base n year (o ∷ os) → Servable (orderLeaves t base n year o) base n year os
 servable-on {t} {base} {n} {year} {o} s =
     let v = s .inside in
-    let w = written-on (s .written) in
-    let k = order-kept t base n year o v (s .valid) (w .0) (s .dated) in
-    record { inside = omega (arith, k .long); few = s .few; valid = k .ok; dated = s .dated; written = w .1 }
+    let w = written-on (s .orders .written) in
+    let k = order-kept t base n year o v (s .valid) (w .0) (s .orders .dated) in
+    record { inside = omega (arith, k .long); few = s .few; valid = k .ok; orders = record { dated = s .orders .dated; written = w .1 } }
 
 -- SERVING, while the orders are walked: those from i on are to come, their outcomes from `to` on, and the filter has the keys of the body's records
 pub record Serving (root : Parent) (f past : List ℕ) (base n year : ℕ) (t₀ out₀ : List ℕ) (from : ℕ) (t out marks : List ℕ) (i to accepted steps used : ℕ) : Type 0 where
@@ -160,5 +160,5 @@ module _ (root : Parent) (f past : List ℕ) (base n year : ℕ) (t₀ out₀ : 
             leaves = rw tt m;
             outcomes = rw (tt, uu) (put-put out to (outcomeBytes (ordinativo (orderOf f k)) (orderCode (orderComes t base n year (ordinativo (orderOf f k))))) _ (to + 16) (omega arith) (ap (λ (x : ℕ). to + x) (outcome-length (ordinativo (orderOf f k)) _)) ∙ p);
             low = rw en (used-low j (s .low) (λ c i e. order-low t base n year (ordinativo o) c i (sym ej ∙ e)));
-            keys = rw (en, jj, em, eo, tt) (order-filtered t base n year (ordinativo (orderOf f k)) (b .inside) (b .valid) (written-on (b .written) .0) (b .dated) (s .keys));
+            keys = rw (en, jj, em, eo, tt) (order-filtered t base n year (ordinativo (orderOf f k)) (b .inside) (b .valid) (written-on (b .orders .written) .0) (b .orders .dated) (s .keys));
           }

@@ -28,13 +28,17 @@ pub record Rooted (root : Parent) (f past : List ℕ) (from : ℕ) : Type 0 wher
   pub holds : allKept (keptHolds (λ q a. fitsAt 3 q f a) f) (keptFrom root f from) ≡ true
   pub noted : Noted f past
 
--- a body that these orders can be served on: its slots lie in the table and are valid, and a record can hold the orders and their year
+-- a record can hold these orders and their year, as those of a flow that stands
+pub record Storable (year : ℕ) (os : List Ordinativo) : Type 0 where
+  pub dated : (2000 ≤ year) × (year ≤ 2099)
+  pub written : Writables os
+
+-- a body that they can be served on: its slots lie in the table and are valid
 pub record Servable (t : List ℕ) (base n year : ℕ) (os : List Ordinativo) : Type 0 where
   pub inside : base + slotSize * n ≤ length t
   pub few : n ≤ maxSlots
   pub valid : bodyOk t base n ≡ true
-  pub dated : (2000 ≤ year) × (year ≤ 2099)
-  pub written : Writables os
+  pub orders : Storable year os
 
 -- the greatest sum of steps that a word can hold
 abbrev pub maxSteps : ℕ

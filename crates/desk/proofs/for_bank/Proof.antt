@@ -7,7 +7,7 @@ use Rattle.flow.specs.Flow.{flowOrders}
 use Rattle.flow.proofs.Laws.{flow-stood}
 use Rattle.serving.specs.Served.{ordersFrom}
 use Rattle.header.specs.Heading.{headerBy}
-use Rattle.desk.proofs.Laws.{bank-other, bank-own, bank-filled, bank-within, bank-rooted, bank-orders, bank-from}
+use Rattle.desk.proofs.Laws.{bank-other, bank-own, bank-filled, bank-within, bank-rooted, bank-storable, bank-orders, bank-from}
 use borrow.Author.Needs.{needs}
 use Rattle.desk.proofs.for_bank.Statement.{statement}
 use Rattle.desk.proofs.for_bank.Tie as tie
@@ -57,7 +57,7 @@ root-of-requires : tie.Need-root-of-requires
 root-of-requires c κs = search needs
 
 for-body-requires : tie.Need-for-body-requires
-for-body-requires c κs = (c .before .before .before .before .before .before .before .before .before .before .before .before .before .before .before .pre .0, bank-within (c .before .before .before .before .before .before .before .before .before .before .before .before .before .before .before .args .e) (c .before .before .before .before .before .before .before .before .before .before .before .before .before .before .before .args .f .now) (c .before .before .before .before .before .before .before .before .before .before .before .before .before .before .before .args .at) (c .before .before .before .before .before .before .before .before .before .before .white-end .result) (c .before .before .before .before .before .before .before .before .before .before .white-end .ensures) (c .before .before .before .before .before .before .before .before .before .before .before .before .before .before .before .pre .1) (c .before .before .before .before .before .before .before .before .before .header-from .result) (c .before .before .before .before .before .before .before .before .before .header-from .ensures), bank-rooted (c .before .before .before .before .before .before .before .before .before .before .before .before .before .before .before .args .e) (c .before .before .before .before .before .before .before .before .before .before .before .before .before .before .before .args .f .now) (c .before .before .before .before .before .before .before .before .before .before .before .before .before .before .before .args .at) (c .before .before .before .before .before .before .before .before .before .before .white-end .result) (c .before .before .before .before .before .before .before .before .before .before .white-end .ensures) (c .before .before .before .before .before .before .before .before .before .before .before .before .before .before .before .pre .1) (c .before .before .before .before .before .before .before .before .before .header-from .result) (c .before .before .before .before .before .before .before .before .before .header-from .ensures) (c .before .before .root-of .result) (c .before .before .root-of .ensures) (c .before .before .before .before .before .before .before .before .before .before .before .before .before .before .before .args .past .now) (c .before .before .before .before .before .before .before .before .before .before .before .before .before .before .before .pre .2), c .before .before .before .before .before .before .before .before .before .before .before .before .before .before .before .pre .3)
+for-body-requires c κs = (c .before .before .before .before .before .before .before .before .before .before .before .before .before .before .before .pre .0, bank-within (c .before .before .before .before .before .before .before .before .before .before .before .before .before .before .before .args .e) (c .before .before .before .before .before .before .before .before .before .before .before .before .before .before .before .args .f .now) (c .before .before .before .before .before .before .before .before .before .before .before .before .before .before .before .args .at) (c .before .before .before .before .before .before .before .before .before .before .white-end .result) (c .before .before .before .before .before .before .before .before .before .before .white-end .ensures) (c .before .before .before .before .before .before .before .before .before .before .before .before .before .before .before .pre .1) (c .before .before .before .before .before .before .before .before .before .header-from .result) (c .before .before .before .before .before .before .before .before .before .header-from .ensures), bank-rooted (c .before .before .before .before .before .before .before .before .before .before .before .before .before .before .before .args .e) (c .before .before .before .before .before .before .before .before .before .before .before .before .before .before .before .args .f .now) (c .before .before .before .before .before .before .before .before .before .before .before .before .before .before .before .args .at) (c .before .before .before .before .before .before .before .before .before .before .white-end .result) (c .before .before .before .before .before .before .before .before .before .before .white-end .ensures) (c .before .before .before .before .before .before .before .before .before .before .before .before .before .before .before .pre .1) (c .before .before .before .before .before .before .before .before .before .header-from .result) (c .before .before .before .before .before .before .before .before .before .header-from .ensures) (c .before .before .root-of .result) (c .before .before .root-of .ensures) (c .before .before .before .before .before .before .before .before .before .before .before .before .before .before .before .args .past .now) (c .before .before .before .before .before .before .before .before .before .before .before .before .before .before .before .pre .2), c .before .before .before .before .before .before .before .before .before .before .before .before .before .before .before .pre .3, bank-storable (c .before .before .before .before .before .before .before .before .before .before .before .before .before .before .before .args .e) (c .before .before .before .before .before .before .before .before .before .before .before .before .before .before .before .args .f .now) (c .before .before .before .before .before .before .before .before .before .before .before .before .before .before .before .args .at) (c .before .before .before .before .before .before .before .before .before .before .white-end .result) (c .before .before .before .before .before .before .before .before .before .before .white-end .ensures) (c .before .before .before .before .before .before .before .before .before .before .before .before .before .before .before .pre .1) (c .before .before .before .before .before .before .before .before .before .header-from .result) (c .before .before .before .before .before .before .before .before .before .header-from .ensures) (c .before .before .root-of .result) (c .before .before .root-of .ensures))
 
 same-length-2 : tie.Need-same-length-2
 same-length-2 c = search needs

@@ -39,7 +39,7 @@ returns c = year-closed (c .before .before .before .before .before .before .befo
 with-room-requires : tie.Need-with-room-requires
 with-room-requires c κs =
     let s = named-slots (c .before .before .before .before .before .before .before .before .before .before .before .before .before .before .before .before .args .t .now) _ (c .before .before .before .before .before .before .before .before .before .before .before .before .before .before .before .before .pre .0) (sym (c .before .before .before .before .before .before .before .before .body-named .ensures) ∙ c .before .before .before .before .before .before .e .given .1) in
-    (s .inside, s .few, c .before .before .before .before .before .before .before .before .before .before .before .before .before .before .before .before .pre .2, c .before .before .before .before .before .before .before .before .before .before .before .before .before .before .before .before .pre .3)
+    (record { inside = s .inside; few = s .few; valid = s .valid; orders = c .before .before .before .before .before .before .before .before .before .before .before .before .before .before .before .before .pre .4 }, c .before .before .before .before .before .before .before .before .before .before .before .before .before .before .before .before .pre .2, c .before .before .before .before .before .before .before .before .before .before .before .before .before .before .before .before .pre .3)
 
 enum-told : tie.Need-enum-told
 enum-told c = search needs

@@ -16,8 +16,8 @@ count-orders-requires c κs = search needs
 mul-if1 : tie.Need-mul-if1
 mul-if1 c =
     let e = orders-count (c .before .before .before .before .before .args .root) (c .before .before .before .before .before .args .f .now) (c .before .before .before .before .before .args .from) (c .count-orders .ensures) in
-    let m = orders-few (c .before .before .before .before .before .args .root) (c .before .before .before .before .before .args .f .now) (c .before .before .before .before .before .args .from) (c .before .before .before .before .before .pre .2 .within) in
-    let l = c .before .before .before .before .before .pre .3 in
+    let m = orders-few (c .before .before .before .before .before .args .root) (c .before .before .before .before .before .args .f .now) (c .before .before .before .before .before .args .from) (c .before .before .before .before .before .pre .1 .within) in
+    let l = c .before .before .before .before .before .pre .2 in
     omega arith
 
 returns : tie.Need-returns
@@ -28,10 +28,10 @@ returns c =
 serve-all-requires : tie.Need-serve-all-requires
 serve-all-requires c κs =
     let e = orders-count (c .before .before .before .before .before .before .before .before .args .root) (c .before .before .before .before .before .before .before .before .args .f .now) (c .before .before .before .before .before .before .before .before .args .from) (c .before .before .before .count-orders .ensures) in
-    let m = orders-few (c .before .before .before .before .before .before .before .before .args .root) (c .before .before .before .before .before .before .before .before .args .f .now) (c .before .before .before .before .before .before .before .before .args .from) (c .before .before .before .before .before .before .before .before .pre .2 .within) in
-    let l = c .before .before .before .before .before .before .before .before .pre .3 in
+    let m = orders-few (c .before .before .before .before .before .before .before .before .args .root) (c .before .before .before .before .before .before .before .before .args .f .now) (c .before .before .before .before .before .before .before .before .args .from) (c .before .before .before .before .before .before .before .before .pre .1 .within) in
+    let l = c .before .before .before .before .before .before .before .before .pre .2 in
     let g = c .before .before .if1 .left in
-    (c .before .before .before .before .before .before .before .before .pre .0, c .before .before .before .before .before .before .before .before .pre .1, c .before .before .before .before .before .before .before .before .pre .2, omega arith, omega arith)
+    (c .before .before .before .before .before .before .before .before .pre .0, c .before .before .before .before .before .before .before .before .pre .1, omega arith, omega arith)
 
 same-length : tie.Need-same-length
 same-length c = search needs
