@@ -2,19 +2,20 @@
 use mathlib.Core.Path.{_≡_, refl, sym, ap, _∙_}
 use mathlib.Core.List.{List, [], _∷_, _++_}
 use mathlib.Core.Bool.{Bool, true, false, cond, _&&_}
-use Prim.Native.Nat.{ℕ, zero, suc, _+_, _-_, _≤_, _<_}
+use Prim.Native.Nat.{ℕ, suc, _+_, _-_, _≤_, _<_}
 use native.Mathlib.Nat.{add-zero}
 use native.Mathlib.Omega.{arith}
-use lib.ListN.{length, getD, take, drop, length-drop, length-take, length-append}
+use lib.ListN.{length, drop, length-drop, length-take}
 use lib.Seq.{drop-drop, drop-append-le, take-append-le}
 use lib.Dec.{leb, eqb}
-use borrow.Author.Tests.{eqb-true, eq-eqb, leb-true}
+use borrow.Author.Tests.{eqb-true, leb-true}
 use Rattle.scan.specs.declared.Walk.{Walk}
 use Rattle.scan.specs.declared.Walk.the-variants.{Past, Broken}
 use Rattle.scan.specs.Bytes.{bytes, byte, byteAt, part, isLetter, isDigit, isNameByte, run, runEnd, startsWith, hasAt}
 use Rattle.scan.proofs.Laws.{both, cond-past, stands, has-within}
 use Rattle.tokens.specs.Tokens.{nameAt, endTagAt}
 use Rattle.tokens.proofs.Laws.{name-past, name-some, end-some}
+use Rattle.fields.specs.declared.Form.{Form}
 use Rattle.fields.specs.declared.Form.the-variants.{CodiceAbi, Identificativo, DataOra, CodiceEnte, Esercizio, TipoOperazione, Numero, Data, Importo, Progressivo, Anagrafica, DataOraZona}
 use Rattle.schema.specs.declared.Parent.{Parent}
 use Rattle.schema.specs.declared.Parent.the-variants.{FlussoOrdinativi, Mandato, Reversale, InformazioniBeneficiario, InformazioniVersante, Beneficiario, Versante, FlussoOpi, TestataFlusso}
@@ -26,7 +27,7 @@ use Rattle.schema.specs.Table.{Named, _is_, Row, table, nameIs, among, spotIn}
 use Rattle.tags.specs.declared.Tag.{Tag}
 use Rattle.tags.specs.declared.Tag.the-variants.{Opening, Other}
 use Rattle.tags.specs.Tags.{Opens, Seen}
-use Rattle.tags.specs.Inner.{tagAt, orderAt}
+use Rattle.tags.specs.Inner.{tagAt, orderAt, Heads}
 use Rattle.tags.proofs.Words.{has-join, has-same}
 
 -- what comes behind t says nothing of a run that ends in t, and nothing of bytes no longer than t
@@ -164,8 +165,12 @@ alone-opens p x row h e =
     record { lt = eqb-true (byteAt x 0) (byte "<") (t .0); name = past-at (nameAt x 1) (length x - 1) (u .0); gt = eqb-true (byteAt x (length x - 1)) (byte ">") (v .0); within = omega (arith, leb-true 1 (length x) (v .1)); spot = c .1 }
 
 -- what is seen where a tag of p's is compared
-pub told : (p : Parent) (x : List ℕ) (row : ℕ) (h : Holds) (s : List ℕ) (i : ℕ) (others r : Tag) → alone p x ≡ At row h → i ≤ length s → Seen p s i others → r ≡ tagAt x row h s i others → Seen p s i r
-told p x row h s i others r a w q e = rw e (seen p x row h s i others w (alone-opens p x row h a) q)
+module _ (p : Parent) (x : List ℕ) (row : ℕ) (h : Holds) (s : List ℕ) (i : ℕ) (others r : Tag) where
+  pub told-opens : Opens p x 0 (length x - 1) row h → i ≤ length s → Seen p s i others → r ≡ tagAt x row h s i others → Seen p s i r
+  told-opens o w q e = rw e (seen p x row h s i others w o q)
+
+  pub told : alone p x ≡ At row h → i ≤ length s → Seen p s i others → r ≡ tagAt x row h s i others → Seen p s i r
+  told a = told-opens (alone-opens p x row h a)
 
 -- THE TAGS of p's rows from n on, each by itself
 abbrev pub Spelled : Parent → ℕ → List Named → Type 0
@@ -188,9 +193,18 @@ pub spelled-names : (alone Beneficiario (bytes "<anagrafica_beneficiario>") ≡ 
 unfolding alone pastAt nameAt isLetter isDigit isNameByte run runEnd nameIs hasAt startsWith
 spelled-names = (refl, refl)
 
-pub spelled-headers : Spelled FlussoOrdinativi 0 (("<codice_ABI_BT>" is Text CodiceAbi) ∷ ("<identificativo_flusso>" is Text Identificativo) ∷ ("<data_ora_creazione_flusso>" is Text DataOra) ∷ ("<codice_ente_BT>" is Text CodiceEnte) ∷ ("<esercizio>" is Text Esercizio) ∷ []) × Spelled TestataFlusso 0 (("<codice_ABI_BT>" is Text CodiceAbi) ∷ ("<identificativo_flusso>" is Text Identificativo) ∷ ("<data_ora_creazione_flusso>" is Text DataOraZona) ∷ ("<codice_ente_BT>" is Text CodiceEnte) ∷ []) × Spelled FlussoOpi 0 (("<testata_flusso>" is Rows TestataFlusso) ∷ ("<esercizio>" is Text Esercizio) ∷ [])
+-- headers: their first four fields, and what else a root has before its orders
+heads : (p : Parent) (time : Form) → Spelled p 0 (("<codice_ABI_BT>" is Text CodiceAbi) ∷ ("<identificativo_flusso>" is Text Identificativo) ∷ ("<data_ora_creazione_flusso>" is Text time) ∷ ("<codice_ente_BT>" is Text CodiceEnte) ∷ []) → Heads time p
+heads p time a =
+    (alone-opens p (bytes "<codice_ABI_BT>") 0 (Text CodiceAbi) (a .0), alone-opens p (bytes "<identificativo_flusso>") 1 (Text Identificativo) (a .1 .0), alone-opens p (bytes "<data_ora_creazione_flusso>") 2 (Text time) (a .1 .1 .0), alone-opens p (bytes "<codice_ente_BT>") 3 (Text CodiceEnte) (a .1 .1 .1 .0))
+
+pub headed : Heads DataOra FlussoOrdinativi × Heads DataOraZona TestataFlusso
 unfolding alone pastAt nameAt isLetter isDigit isNameByte run runEnd nameIs hasAt startsWith
-spelled-headers = ((refl, (refl, (refl, (refl, (refl, tt))))), (refl, (refl, (refl, (refl, tt)))), (refl, (refl, tt)))
+headed = (heads FlussoOrdinativi DataOra (refl, (refl, (refl, (refl, tt)))), heads TestataFlusso DataOraZona (refl, (refl, (refl, (refl, tt)))))
+
+pub spelled-roots : (alone FlussoOrdinativi (bytes "<esercizio>") ≡ At 4 (Text Esercizio)) × Spelled FlussoOpi 0 (("<testata_flusso>" is Rows TestataFlusso) ∷ ("<esercizio>" is Text Esercizio) ∷ [])
+unfolding alone pastAt nameAt isLetter isDigit isNameByte run runEnd nameIs hasAt startsWith
+spelled-roots = (refl, (refl, (refl, tt)))
 
 -- orders, in their row of a root
 pub Ordered : Parent → ℕ → Type 0

@@ -7,7 +7,7 @@ ghost use Prim.Native.Nat.{_≤_, _<_};
 ghost use lib.ListN.{length};
 ghost use Rattle.scan.specs.Bytes.{bytes, hasAt};
 ghost use Rattle.tags.specs.Tags.{Seen};
-ghost use Rattle.tags.specs.Inner.{tagAt, orderAt};
+ghost use Rattle.tags.specs.Inner.{tagAt, orderAt, Heads, SeenBy};
 
 // A start tag of a parent's named child: the place of its `>`, its row and what it holds; or any other bytes, a tag or none.
 pub enum Tag {
@@ -67,9 +67,10 @@ fn order_at(s: &[u8], i: usize, row: usize) -> Tag
     )
 }
 
-fn in_flusso(s: &[u8], i: usize, want: usize) -> Tag
+// The fields that the headers of both editions begin with; the form of their time differs.
+fn header_at(s: &[u8], i: usize, want: usize, time: Form) -> Tag
     requires { ⌜ i ≤ length (now s) ⌝ }
-    ensures { λ r. ⌜ Seen Parent.FlussoOrdinativi (now (s .entry)) i r ⌝ }
+    ensures { λ r. ⌜ SeenBy (Heads time) (now (s .entry)) i r ⌝ }
 {
     match want {
         0 => tag_at(s, i, b"<codice_ABI_BT>", 0, Holds::Text(Form::CodiceAbi)),
@@ -80,17 +81,23 @@ fn in_flusso(s: &[u8], i: usize, want: usize) -> Tag
             1,
             Holds::Text(Form::Identificativo),
         ),
-        2 => tag_at(
-            s,
-            i,
-            b"<data_ora_creazione_flusso>",
-            2,
-            Holds::Text(Form::DataOra),
-        ),
+        2 => tag_at(s, i, b"<data_ora_creazione_flusso>", 2, Holds::Text(time)),
         3 => tag_at(s, i, b"<codice_ente_BT>", 3, Holds::Text(Form::CodiceEnte)),
-        4 => tag_at(s, i, b"<esercizio>", 4, Holds::Text(Form::Esercizio)),
-        _ => order_at(s, i, 5),
+        _ => Tag::Other,
     }
+}
+
+fn in_flusso(s: &[u8], i: usize, want: usize) -> Tag
+    requires { ⌜ i ≤ length (now s) ⌝ }
+    ensures { λ r. ⌜ Seen Parent.FlussoOrdinativi (now (s .entry)) i r ⌝ }
+{
+    if 5 <= want {
+        return order_at(s, i, 5);
+    }
+    if want == 4 {
+        return tag_at(s, i, b"<esercizio>", 4, Holds::Text(Form::Esercizio));
+    }
+    header_at(s, i, want, Form::DataOra)
 }
 
 fn in_opi(s: &[u8], i: usize, want: usize) -> Tag
@@ -107,31 +114,6 @@ fn in_opi(s: &[u8], i: usize, want: usize) -> Tag
         ),
         1 => tag_at(s, i, b"<esercizio>", 1, Holds::Text(Form::Esercizio)),
         _ => order_at(s, i, 2),
-    }
-}
-
-fn in_testata(s: &[u8], i: usize, want: usize) -> Tag
-    requires { ⌜ i ≤ length (now s) ⌝ }
-    ensures { λ r. ⌜ Seen Parent.TestataFlusso (now (s .entry)) i r ⌝ }
-{
-    match want {
-        0 => tag_at(s, i, b"<codice_ABI_BT>", 0, Holds::Text(Form::CodiceAbi)),
-        1 => tag_at(
-            s,
-            i,
-            b"<identificativo_flusso>",
-            1,
-            Holds::Text(Form::Identificativo),
-        ),
-        2 => tag_at(
-            s,
-            i,
-            b"<data_ora_creazione_flusso>",
-            2,
-            Holds::Text(Form::DataOraZona),
-        ),
-        3 => tag_at(s, i, b"<codice_ente_BT>", 3, Holds::Text(Form::CodiceEnte)),
-        _ => Tag::Other,
     }
 }
 
@@ -268,6 +250,6 @@ pub fn expected(s: &[u8], i: usize, parent: Parent, want: usize) -> Tag
         Parent::ErroriReversali => Tag::Other,
         Parent::ErroriMandati => Tag::Other,
         Parent::FlussoOpi => in_opi(s, i, want),
-        Parent::TestataFlusso => in_testata(s, i, want),
+        Parent::TestataFlusso => header_at(s, i, want, Form::DataOraZona),
     }
 }

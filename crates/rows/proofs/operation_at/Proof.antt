@@ -1,4 +1,4 @@
-use mathlib.Core.Path.{_≡_, sym, _∙_}
+use mathlib.Core.Path.{sym, _∙_}
 use borrow.Author.Tests.{not-false}
 use Rattle.scan.specs.Bytes.{bytes}
 use Rattle.scan.proofs.Laws.{has-within}

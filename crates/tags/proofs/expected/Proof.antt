@@ -1,16 +1,17 @@
-use Rattle.tags.proofs.Laws.{told, spelled-names}
+use Rattle.tags.proofs.Laws.{told, spelled-names, headed}
+use Rattle.schema.specs.declared.Parent.the-variants.{TestataFlusso}
 use Rattle.tags.specs.declared.Tag.the-variants.{Other}
 use borrow.Author.Needs.{needs}
 use Rattle.tags.proofs.expected.Statement.{statement}
 use Rattle.tags.proofs.expected.Tie as tie
 use Rattle.tags.proofs.expected.Reads as reads
 use Rattle.tags.proofs.expected.Lts as lts
+use Rattle.tags.proofs.header_at.Reads as header-at-reads
 use Rattle.tags.proofs.in_beneficiario_line.Reads as in-beneficiario-line-reads
 use Rattle.tags.proofs.in_flusso.Reads as in-flusso-reads
 use Rattle.tags.proofs.in_mandato.Reads as in-mandato-reads
 use Rattle.tags.proofs.in_opi.Reads as in-opi-reads
 use Rattle.tags.proofs.in_reversale.Reads as in-reversale-reads
-use Rattle.tags.proofs.in_testata.Reads as in-testata-reads
 use Rattle.tags.proofs.in_versante_line.Reads as in-versante-line-reads
 use Rattle.tags.proofs.tag_at.Reads as tag-at-reads
 
@@ -95,8 +96,8 @@ in-opi-requires c κs = search needs
 enum-told-13 : tie.Need-enum-told-13
 enum-told-13 c = search needs
 
-in-testata-requires : tie.Need-in-testata-requires
-in-testata-requires c κs = search needs
+header-at-requires : tie.Need-header-at-requires
+header-at-requires c κs = search needs
 
 returns : tie.Need-returns
 returns c = rw (c .before .enum-told .given .1) (c .in-flusso .ensures)
@@ -147,7 +148,7 @@ returns-16 : tie.Need-returns-16
 returns-16 c = rw (c .before .enum-told12 .given .1) (c .in-opi .ensures)
 
 returns-17 : tie.Need-returns-17
-returns-17 c = rw (c .before .enum-told13 .given .1) (c .in-testata .ensures)
+returns-17 c = rw (c .before .enum-told13 .given .1) (c .header-at .ensures TestataFlusso (headed .1))
 
 pub expected-spec : {M : Type 1} → statement M
 expected-spec =
@@ -180,7 +181,7 @@ expected-spec =
     enum-told-12
     in-opi-requires
     enum-told-13
-    in-testata-requires
+    header-at-requires
     returns
     returns-2
     returns-3

@@ -1,4 +1,4 @@
-use Rattle.tags.proofs.Laws.{told, told-order, ordered-roots, spelled-headers}
+use Rattle.tags.proofs.Laws.{told, told-order, ordered-roots, spelled-roots}
 use Rattle.tags.specs.declared.Tag.the-variants.{Other}
 use borrow.Author.Needs.{needs}
 use Rattle.tags.proofs.in_opi.Statement.{statement}
@@ -24,10 +24,10 @@ order-at-requires : tie.Need-order-at-requires
 order-at-requires c κs = search needs
 
 returns : tie.Need-returns
-returns c = told _ _ _ _ _ _ Other _ (spelled-headers .2 .0) (c .before .before .before .before .pre) tt (c .tag-at .ensures)
+returns c = told _ _ _ _ _ _ Other _ (spelled-roots .1 .0) (c .before .before .before .before .pre) tt (c .tag-at .ensures)
 
 returns-2 : tie.Need-returns-2
-returns-2 c = told _ _ _ _ _ _ Other _ (spelled-headers .2 .1 .0) (c .before .before .before .before .pre) tt (c .tag-at2 .ensures)
+returns-2 c = told _ _ _ _ _ _ Other _ (spelled-roots .1 .1 .0) (c .before .before .before .before .pre) tt (c .tag-at2 .ensures)
 
 returns-3 : tie.Need-returns-3
 returns-3 c = told-order _ _ _ _ _ (ordered-roots .1) (c .before .before .before .pre) (c .order-at .ensures)

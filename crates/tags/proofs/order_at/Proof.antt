@@ -1,5 +1,5 @@
 use Rattle.scan.proofs.Laws.{then-is, else-is}
-use mathlib.Core.Path.{sym, refl}
+use mathlib.Core.Path.{sym}
 use borrow.Author.Needs.{needs}
 use Rattle.tags.proofs.order_at.Statement.{statement}
 use Rattle.tags.proofs.order_at.Tie as tie
