@@ -2,6 +2,7 @@ use mathlib.Core.Path.{sym, _∙_}
 use borrow.Author.Tests.{not-true, not-false}
 use Rattle.flow.proofs.Laws.{root-other, root-judged}
 use borrow.Author.Needs.{needs}
+use native.Mathlib.Omega.{arith}
 use Rattle.flow.proofs.verdict_at.Statement.{statement}
 use Rattle.flow.proofs.verdict_at.Tie as tie
 
@@ -15,7 +16,7 @@ returns : tie.Need-returns
 returns c = sym (root-other (c .before .before .before .before .before .args .name .now) (c .before .before .before .before .before .args .root) (c .before .before .before .before .before .args .s .now) (c .before .before .before .before .before .args .lt) (c .before .before .before .before .before .args .e) (c .before .before .before .before .before .args .at) (sym (c .before .is .ensures) ∙ not-true _ (c .if1 .taken)))
 
 judge-on-requires : tie.Need-judge-on-requires
-judge-on-requires c κs = search needs
+judge-on-requires c κs = ((c .before .before .before .before .before .pre .2, omega arith, c .before .before .before .before .before .pre .3), c .before .before .before .before .before .pre .4 .goes)
 
 enum-told : tie.Need-enum-told
 enum-told c = search needs
