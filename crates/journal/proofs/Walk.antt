@@ -57,8 +57,11 @@ module _ {t : List ℕ} {base n used : ℕ} (W : Walked t base n used) (s : List
         (code-none (recordsAt t base n) m f (movementsAt s 0 j))
 
     module _ (i : ℕ) (f : findIn (recordsAt t base n) 0 (movementKey m) ≡ At i) where
-      pub below : i < used
+      below : i < used
       below = omega (arith, found-below (recordsAt t base n) (movementKey m) i (recordAt t 0) f, length-records t base n, W .known)
+
+      pub slot-in : base + slotSize * i + slotSize ≤ length t
+      slot-in = omega (arith, below, used-inside W)
 
       its-key : keyOf (recordAt t (base + slotSize * i)) ≡ movementKey m
       its-key = ap keyOf (sym (slot-record W i below)) ∙ found-key (recordsAt t base n) (movementKey m) i (recordAt t (base + slotSize * i)) f
@@ -79,8 +82,12 @@ module _ {t : List ℕ} {base n used : ℕ} (W : Walked t base n used) (s : List
             go (suc c) g x = ap (λ (d : ℕ). codeThen d (cond (anyOf (sameLine m) (movementsAt s 0 j)) 32 0)) g
 
         module _ (y : c ≡ 0) where
-          pub line-in : (1 ≤ m .line) × (m .line ≤ 8)
+          line-in : (1 ≤ m .line) × (m .line ≤ 8)
           line-in = by-line (recordAt t (base + slotSize * i)) m (sym z ∙ y)
+
+          -- its mark is one of 4,096
+          pub mark-in : (1 ≤ m .line) × (8 * i + (m .line - 1) < 4096)
+          mark-in = (line-in .0, omega (arith, below, used-few W, line-in .1))
 
           module _ (p : ℕ) (place : p ≡ 8 * i + (m .line - 1)) {marks : List ℕ} (M : Marks t base used marks (movementsAt s 0 j)) where
             by-mark : {b : Bool} → not (eqb (getD marks p 0) 0) ≡ b → movementCode (executedLines (recordsAt t base n)) (movementsAt s 0 j) m ≡ cond b 32 0

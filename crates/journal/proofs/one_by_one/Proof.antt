@@ -7,9 +7,7 @@ use native.Mathlib.Omega.{arith}
 use Rattle.slots.specs.Slots.{recordsAt}
 use Rattle.journal.specs.Journal.{movementSize, movementsAt, executedLines, journalCode}
 use Rattle.journal.proofs.Marks.{Marks, used-few}
-use Rattle.journal.proofs.Walk.{codeFrom, code-start, marks-start, used-inside, no-order, below, other-code, line-in, twice, goes-on, marked-too, left-over}
-use Rattle.journal.proofs.one_by_one.Statement.{statement}
-use Rattle.journal.proofs.one_by_one.Tie as tie
+use Rattle.journal.proofs.Walk.{codeFrom, code-start, marks-start, used-inside, no-order, slot-in, other-code, mark-in, twice, goes-on, marked-too, left-over}
 use Rattle.journal.proofs.one_by_one.Statement.{statement}
 use Rattle.journal.proofs.one_by_one.Tie as tie
 use Rattle.journal.proofs.one_by_one.Reads as reads
@@ -51,80 +49,37 @@ returns : tie.Need-returns Inv-loop μ-loop
 returns c = sym (c .before .before .before .before .before .before .loop .inv .1 .0 ∙ no-order (c .before .before .before .before .before .before .before .before .before .before .before .pre .0) (c .before .before .before .before .before .before .before .before .before .before .before .args .s .now) (c .before .before .before .before .before .before .before .before .before .before .before .args .count) (c .before .before .before .before .before .before .loop .j) (omega arith) (c .before .before .before .before .movement-at .ensures) (sym (c .before .before .order-of .ensures) ∙ c .enum-told .given .1))
 
 mul-code-by : tie.Need-mul-code-by Inv-loop μ-loop
-mul-code-by c =
-    let b = below (c .before .before .before .before .before .before .before .before .before .before .before .before .pre .0) (c .before .before .before .before .before .before .before .before .before .before .before .before .args .s .now) (c .before .before .before .before .before .before .before .before .before .before .before .before .args .count) (c .before .before .before .before .before .before .before .loop .j) (omega arith) (c .before .before .before .before .before .movement-at .ensures) _ (sym (c .before .before .before .order-of .ensures) ∙ c .before .i .given .1) in
-    let i = used-inside (c .before .before .before .before .before .before .before .before .before .before .before .before .pre .0) in
-    let f = used-few (c .before .before .before .before .before .before .before .before .before .before .before .before .pre .0) in
-    search needs
+mul-code-by c = omega (arith, slot-in (c .before .before .before .before .before .before .before .before .before .before .before .before .pre .0) (c .before .before .before .before .before .before .before .before .before .before .before .before .args .s .now) (c .before .before .before .before .before .before .before .before .before .before .before .before .args .count) (c .before .before .before .before .before .before .before .loop .j) (omega arith) (c .before .before .before .before .before .movement-at .ensures) _ (sym (c .before .before .before .order-of .ensures) ∙ c .before .i .given .1))
 
 add-code-by : tie.Need-add-code-by Inv-loop μ-loop
-add-code-by c =
-    let b = below (c .before .before .before .before .before .before .before .before .before .before .before .before .pre .0) (c .before .before .before .before .before .before .before .before .before .before .before .before .args .s .now) (c .before .before .before .before .before .before .before .before .before .before .before .before .args .count) (c .before .before .before .before .before .before .before .loop .j) (omega arith) (c .before .before .before .before .before .movement-at .ensures) _ (sym (c .before .before .before .order-of .ensures) ∙ c .before .i .given .1) in
-    let i = used-inside (c .before .before .before .before .before .before .before .before .before .before .before .before .pre .0) in
-    let f = used-few (c .before .before .before .before .before .before .before .before .before .before .before .before .pre .0) in
-    search needs
+add-code-by c = omega (arith, slot-in (c .before .before .before .before .before .before .before .before .before .before .before .before .pre .0) (c .before .before .before .before .before .before .before .before .before .before .before .before .args .s .now) (c .before .before .before .before .before .before .before .before .before .before .before .before .args .count) (c .before .before .before .before .before .before .before .loop .j) (omega arith) (c .before .before .before .before .before .movement-at .ensures) _ (sym (c .before .before .before .order-of .ensures) ∙ c .before .i .given .1))
 
 code-by-requires : tie.Need-code-by-requires Inv-loop μ-loop
-code-by-requires c κs =
-    let b = below (c .before .before .before .before .before .before .before .before .before .before .before .before .pre .0) (c .before .before .before .before .before .before .before .before .before .before .before .before .args .s .now) (c .before .before .before .before .before .before .before .before .before .before .before .before .args .count) (c .before .before .before .before .before .before .before .loop .j) (omega arith) (c .before .before .before .before .before .movement-at .ensures) _ (sym (c .before .before .before .order-of .ensures) ∙ c .before .i .given .1) in
-    let i = used-inside (c .before .before .before .before .before .before .before .before .before .before .before .before .pre .0) in
-    let f = used-few (c .before .before .before .before .before .before .before .before .before .before .before .before .pre .0) in
-    search needs
+code-by-requires c κs = omega (arith, slot-in (c .before .before .before .before .before .before .before .before .before .before .before .before .pre .0) (c .before .before .before .before .before .before .before .before .before .before .before .before .args .s .now) (c .before .before .before .before .before .before .before .before .before .before .before .before .args .count) (c .before .before .before .before .before .before .before .loop .j) (omega arith) (c .before .before .before .before .before .movement-at .ensures) _ (sym (c .before .before .before .order-of .ensures) ∙ c .before .i .given .1))
 
 returns-2 : tie.Need-returns-2 Inv-loop μ-loop
 returns-2 c = sym (c .before .before .before .before .before .before .before .before .before .loop .inv .1 .0 ∙ other-code (c .before .before .before .before .before .before .before .before .before .before .before .before .before .before .pre .0) (c .before .before .before .before .before .before .before .before .before .before .before .before .before .before .args .s .now) (c .before .before .before .before .before .before .before .before .before .before .before .before .before .before .args .count) (c .before .before .before .before .before .before .before .before .before .loop .j) (omega arith) (c .before .before .before .before .before .before .before .movement-at .ensures) _ (sym (c .before .before .before .before .before .order-of .ensures) ∙ c .before .before .before .i .given .1) (c .before .code-by .ensures) (c .if1 .taken))
 
 mul-p : tie.Need-mul-p Inv-loop μ-loop
-mul-p c =
-    let b = below (c .before .before .before .before .before .before .before .before .before .before .before .before .before .before .pre .0) (c .before .before .before .before .before .before .before .before .before .before .before .before .before .before .args .s .now) (c .before .before .before .before .before .before .before .before .before .before .before .before .before .before .args .count) (c .before .before .before .before .before .before .before .before .before .loop .j) (omega arith) (c .before .before .before .before .before .before .before .movement-at .ensures) _ (sym (c .before .before .before .before .before .order-of .ensures) ∙ c .before .before .before .i .given .1) in
-    let i = used-inside (c .before .before .before .before .before .before .before .before .before .before .before .before .before .before .pre .0) in
-    let f = used-few (c .before .before .before .before .before .before .before .before .before .before .before .before .before .before .pre .0) in
-    search needs
+mul-p c = omega (arith, mark-in (c .before .before .before .before .before .before .before .before .before .before .before .before .before .before .pre .0) (c .before .before .before .before .before .before .before .before .before .before .before .before .before .before .args .s .now) (c .before .before .before .before .before .before .before .before .before .before .before .before .before .before .args .count) (c .before .before .before .before .before .before .before .before .before .loop .j) (omega arith) (c .before .before .before .before .before .before .before .movement-at .ensures) _ (sym (c .before .before .before .before .before .order-of .ensures) ∙ c .before .before .before .i .given .1) (c .before .code-by .ensures) (c .if1 .left))
 
 add-p : tie.Need-add-p Inv-loop μ-loop
-add-p c =
-    let b = below (c .before .before .before .before .before .before .before .before .before .before .before .before .before .before .pre .0) (c .before .before .before .before .before .before .before .before .before .before .before .before .before .before .args .s .now) (c .before .before .before .before .before .before .before .before .before .before .before .before .before .before .args .count) (c .before .before .before .before .before .before .before .before .before .loop .j) (omega arith) (c .before .before .before .before .before .before .before .movement-at .ensures) _ (sym (c .before .before .before .before .before .order-of .ensures) ∙ c .before .before .before .i .given .1) in
-    let i = used-inside (c .before .before .before .before .before .before .before .before .before .before .before .before .before .before .pre .0) in
-    let f = used-few (c .before .before .before .before .before .before .before .before .before .before .before .before .before .before .pre .0) in
-    let y = c .if1 .left in
-    let l = line-in (c .before .before .before .before .before .before .before .before .before .before .before .before .before .before .pre .0) (c .before .before .before .before .before .before .before .before .before .before .before .before .before .before .args .s .now) (c .before .before .before .before .before .before .before .before .before .before .before .before .before .before .args .count) (c .before .before .before .before .before .before .before .before .before .loop .j) (omega arith) (c .before .before .before .before .before .before .before .movement-at .ensures) _ (sym (c .before .before .before .before .before .order-of .ensures) ∙ c .before .before .before .i .given .1) (c .before .code-by .ensures) y in
-    search needs
+add-p c = omega (arith, mark-in (c .before .before .before .before .before .before .before .before .before .before .before .before .before .before .pre .0) (c .before .before .before .before .before .before .before .before .before .before .before .before .before .before .args .s .now) (c .before .before .before .before .before .before .before .before .before .before .before .before .before .before .args .count) (c .before .before .before .before .before .before .before .before .before .loop .j) (omega arith) (c .before .before .before .before .before .before .before .movement-at .ensures) _ (sym (c .before .before .before .before .before .order-of .ensures) ∙ c .before .before .before .i .given .1) (c .before .code-by .ensures) (c .if1 .left))
 
 sub-p : tie.Need-sub-p Inv-loop μ-loop
-sub-p c =
-    let b = below (c .before .before .before .before .before .before .before .before .before .before .before .before .before .before .pre .0) (c .before .before .before .before .before .before .before .before .before .before .before .before .before .before .args .s .now) (c .before .before .before .before .before .before .before .before .before .before .before .before .before .before .args .count) (c .before .before .before .before .before .before .before .before .before .loop .j) (omega arith) (c .before .before .before .before .before .before .before .movement-at .ensures) _ (sym (c .before .before .before .before .before .order-of .ensures) ∙ c .before .before .before .i .given .1) in
-    let i = used-inside (c .before .before .before .before .before .before .before .before .before .before .before .before .before .before .pre .0) in
-    let f = used-few (c .before .before .before .before .before .before .before .before .before .before .before .before .before .before .pre .0) in
-    let y = c .if1 .left in
-    let l = line-in (c .before .before .before .before .before .before .before .before .before .before .before .before .before .before .pre .0) (c .before .before .before .before .before .before .before .before .before .before .before .before .before .before .args .s .now) (c .before .before .before .before .before .before .before .before .before .before .before .before .before .before .args .count) (c .before .before .before .before .before .before .before .before .before .loop .j) (omega arith) (c .before .before .before .before .before .before .before .movement-at .ensures) _ (sym (c .before .before .before .before .before .order-of .ensures) ∙ c .before .before .before .i .given .1) (c .before .code-by .ensures) y in
-    search needs
+sub-p c = omega (arith, mark-in (c .before .before .before .before .before .before .before .before .before .before .before .before .before .before .pre .0) (c .before .before .before .before .before .before .before .before .before .before .before .before .before .before .args .s .now) (c .before .before .before .before .before .before .before .before .before .before .before .before .before .before .args .count) (c .before .before .before .before .before .before .before .before .before .loop .j) (omega arith) (c .before .before .before .before .before .before .before .movement-at .ensures) _ (sym (c .before .before .before .before .before .order-of .ensures) ∙ c .before .before .before .i .given .1) (c .before .code-by .ensures) (c .if1 .left))
 
 array-read-if2 : tie.Need-array-read-if2 Inv-loop μ-loop
-array-read-if2 c =
-    let b = below (c .before .before .before .before .before .before .before .before .before .before .before .before .before .before .pre .0) (c .before .before .before .before .before .before .before .before .before .before .before .before .before .before .args .s .now) (c .before .before .before .before .before .before .before .before .before .before .before .before .before .before .args .count) (c .before .before .before .before .before .before .before .before .before .loop .j) (omega arith) (c .before .before .before .before .before .before .before .movement-at .ensures) _ (sym (c .before .before .before .before .before .order-of .ensures) ∙ c .before .before .before .i .given .1) in
-    let i = used-inside (c .before .before .before .before .before .before .before .before .before .before .before .before .before .before .pre .0) in
-    let f = used-few (c .before .before .before .before .before .before .before .before .before .before .before .before .before .before .pre .0) in
-    let y = c .if1 .left in
-    let l = line-in (c .before .before .before .before .before .before .before .before .before .before .before .before .before .before .pre .0) (c .before .before .before .before .before .before .before .before .before .before .before .before .before .before .args .s .now) (c .before .before .before .before .before .before .before .before .before .before .before .before .before .before .args .count) (c .before .before .before .before .before .before .before .before .before .loop .j) (omega arith) (c .before .before .before .before .before .before .before .movement-at .ensures) _ (sym (c .before .before .before .before .before .order-of .ensures) ∙ c .before .before .before .i .given .1) (c .before .code-by .ensures) y in
-    omega (arith, c .before .before .before .before .before .before .before .before .before .loop .inv .1 .1 .size)
+array-read-if2 c = omega (arith, mark-in (c .before .before .before .before .before .before .before .before .before .before .before .before .before .before .pre .0) (c .before .before .before .before .before .before .before .before .before .before .before .before .before .before .args .s .now) (c .before .before .before .before .before .before .before .before .before .before .before .before .before .before .args .count) (c .before .before .before .before .before .before .before .before .before .loop .j) (omega arith) (c .before .before .before .before .before .before .before .movement-at .ensures) _ (sym (c .before .before .before .before .before .order-of .ensures) ∙ c .before .before .before .i .given .1) (c .before .code-by .ensures) (c .if1 .left), c .before .before .before .before .before .before .before .before .before .loop .inv .1 .1 .size)
 
 returns-3 : tie.Need-returns-3 Inv-loop μ-loop
 returns-3 c =
-    let b = below (c .before .before .before .before .before .before .before .before .before .before .before .before .before .before .before .pre .0) (c .before .before .before .before .before .before .before .before .before .before .before .before .before .before .before .args .s .now) (c .before .before .before .before .before .before .before .before .before .before .before .before .before .before .before .args .count) (c .before .before .before .before .before .before .before .before .before .before .loop .j) (omega arith) (c .before .before .before .before .before .before .before .before .movement-at .ensures) _ (sym (c .before .before .before .before .before .before .order-of .ensures) ∙ c .before .before .before .before .i .given .1) in
-    let i = used-inside (c .before .before .before .before .before .before .before .before .before .before .before .before .before .before .before .pre .0) in
-    let f = used-few (c .before .before .before .before .before .before .before .before .before .before .before .before .before .before .before .pre .0) in
     let y = c .before .if1 .left in
-    let l = line-in (c .before .before .before .before .before .before .before .before .before .before .before .before .before .before .before .pre .0) (c .before .before .before .before .before .before .before .before .before .before .before .before .before .before .before .args .s .now) (c .before .before .before .before .before .before .before .before .before .before .before .before .before .before .before .args .count) (c .before .before .before .before .before .before .before .before .before .before .loop .j) (omega arith) (c .before .before .before .before .before .before .before .before .movement-at .ensures) _ (sym (c .before .before .before .before .before .before .order-of .ensures) ∙ c .before .before .before .before .i .given .1) (c .before .before .code-by .ensures) y in
+    let l = mark-in (c .before .before .before .before .before .before .before .before .before .before .before .before .before .before .before .pre .0) (c .before .before .before .before .before .before .before .before .before .before .before .before .before .before .before .args .s .now) (c .before .before .before .before .before .before .before .before .before .before .before .before .before .before .before .args .count) (c .before .before .before .before .before .before .before .before .before .before .loop .j) (omega arith) (c .before .before .before .before .before .before .before .before .movement-at .ensures) _ (sym (c .before .before .before .before .before .before .order-of .ensures) ∙ c .before .before .before .before .i .given .1) (c .before .before .code-by .ensures) y in
     sym (c .before .before .before .before .before .before .before .before .before .before .loop .inv .1 .0 ∙ twice (c .before .before .before .before .before .before .before .before .before .before .before .before .before .before .before .pre .0) (c .before .before .before .before .before .before .before .before .before .before .before .before .before .before .before .args .s .now) (c .before .before .before .before .before .before .before .before .before .before .before .before .before .before .before .args .count) (c .before .before .before .before .before .before .before .before .before .before .loop .j) (omega arith) (c .before .before .before .before .before .before .before .before .movement-at .ensures) _ (sym (c .before .before .before .before .before .before .order-of .ensures) ∙ c .before .before .before .before .i .given .1) (c .before .before .code-by .ensures) y _ (omega arith) (c .before .before .before .before .before .before .before .before .before .before .loop .inv .1 .1) (c .if2 .taken))
 
 array-write-marks : tie.Need-array-write-marks Inv-loop μ-loop
-array-write-marks c =
-    let b = below (c .before .before .before .before .before .before .before .before .before .before .before .before .before .before .before .pre .0) (c .before .before .before .before .before .before .before .before .before .before .before .before .before .before .before .args .s .now) (c .before .before .before .before .before .before .before .before .before .before .before .before .before .before .before .args .count) (c .before .before .before .before .before .before .before .before .before .before .loop .j) (omega arith) (c .before .before .before .before .before .before .before .before .movement-at .ensures) _ (sym (c .before .before .before .before .before .before .order-of .ensures) ∙ c .before .before .before .before .i .given .1) in
-    let i = used-inside (c .before .before .before .before .before .before .before .before .before .before .before .before .before .before .before .pre .0) in
-    let f = used-few (c .before .before .before .before .before .before .before .before .before .before .before .before .before .before .before .pre .0) in
-    let y = c .before .if1 .left in
-    let l = line-in (c .before .before .before .before .before .before .before .before .before .before .before .before .before .before .before .pre .0) (c .before .before .before .before .before .before .before .before .before .before .before .before .before .before .before .args .s .now) (c .before .before .before .before .before .before .before .before .before .before .before .before .before .before .before .args .count) (c .before .before .before .before .before .before .before .before .before .before .loop .j) (omega arith) (c .before .before .before .before .before .before .before .before .movement-at .ensures) _ (sym (c .before .before .before .before .before .before .order-of .ensures) ∙ c .before .before .before .before .i .given .1) (c .before .before .code-by .ensures) y in
-    omega (arith, c .before .before .before .before .before .before .before .before .before .before .loop .inv .1 .1 .size)
+array-write-marks c = omega (arith, mark-in (c .before .before .before .before .before .before .before .before .before .before .before .before .before .before .before .pre .0) (c .before .before .before .before .before .before .before .before .before .before .before .before .before .before .before .args .s .now) (c .before .before .before .before .before .before .before .before .before .before .before .before .before .before .before .args .count) (c .before .before .before .before .before .before .before .before .before .before .loop .j) (omega arith) (c .before .before .before .before .before .before .before .before .movement-at .ensures) _ (sym (c .before .before .before .before .before .before .order-of .ensures) ∙ c .before .before .before .before .i .given .1) (c .before .before .code-by .ensures) (c .before .if1 .left), c .before .before .before .before .before .before .before .before .before .before .loop .inv .1 .1 .size)
 
 add-j : tie.Need-add-j Inv-loop μ-loop
 add-j c = search needs
@@ -134,11 +89,8 @@ loop-less c = search needs
 
 loop-again : tie.Need-loop-again Inv-loop μ-loop
 loop-again c =
-    let b = below (c .before .before .before .before .before .before .before .before .before .before .before .before .before .before .before .pre .0) (c .before .before .before .before .before .before .before .before .before .before .before .before .before .before .before .args .s .now) (c .before .before .before .before .before .before .before .before .before .before .before .before .before .before .before .args .count) (c .before .before .before .before .before .before .before .before .before .before .loop .j) (omega arith) (c .before .before .before .before .before .before .before .before .movement-at .ensures) _ (sym (c .before .before .before .before .before .before .order-of .ensures) ∙ c .before .before .before .before .i .given .1) in
-    let i = used-inside (c .before .before .before .before .before .before .before .before .before .before .before .before .before .before .before .pre .0) in
-    let f = used-few (c .before .before .before .before .before .before .before .before .before .before .before .before .before .before .before .pre .0) in
     let y = c .before .if1 .left in
-    let l = line-in (c .before .before .before .before .before .before .before .before .before .before .before .before .before .before .before .pre .0) (c .before .before .before .before .before .before .before .before .before .before .before .before .before .before .before .args .s .now) (c .before .before .before .before .before .before .before .before .before .before .before .before .before .before .before .args .count) (c .before .before .before .before .before .before .before .before .before .before .loop .j) (omega arith) (c .before .before .before .before .before .before .before .before .movement-at .ensures) _ (sym (c .before .before .before .before .before .before .order-of .ensures) ∙ c .before .before .before .before .i .given .1) (c .before .before .code-by .ensures) y in
+    let l = mark-in (c .before .before .before .before .before .before .before .before .before .before .before .before .before .before .before .pre .0) (c .before .before .before .before .before .before .before .before .before .before .before .before .before .before .before .args .s .now) (c .before .before .before .before .before .before .before .before .before .before .before .before .before .before .before .args .count) (c .before .before .before .before .before .before .before .before .before .before .loop .j) (omega arith) (c .before .before .before .before .before .before .before .before .movement-at .ensures) _ (sym (c .before .before .before .before .before .before .order-of .ensures) ∙ c .before .before .before .before .i .given .1) (c .before .before .code-by .ensures) y in
     (omega arith, (c .before .before .before .before .before .before .before .before .before .before .loop .inv .1 .0 ∙ goes-on (c .before .before .before .before .before .before .before .before .before .before .before .before .before .before .before .pre .0) (c .before .before .before .before .before .before .before .before .before .before .before .before .before .before .before .args .s .now) (c .before .before .before .before .before .before .before .before .before .before .before .before .before .before .before .args .count) (c .before .before .before .before .before .before .before .before .before .before .loop .j) (omega arith) (c .before .before .before .before .before .before .before .before .movement-at .ensures) _ (sym (c .before .before .before .before .before .before .order-of .ensures) ∙ c .before .before .before .before .i .given .1) (c .before .before .code-by .ensures) y _ (omega arith) (c .before .before .before .before .before .before .before .before .before .before .loop .inv .1 .1) (c .if2 .left), marked-too (c .before .before .before .before .before .before .before .before .before .before .before .before .before .before .before .pre .0) (c .before .before .before .before .before .before .before .before .before .before .before .before .before .before .before .args .s .now) (c .before .before .before .before .before .before .before .before .before .before .before .before .before .before .before .args .count) (c .before .before .before .before .before .before .before .before .before .before .loop .j) (omega arith) (c .before .before .before .before .before .before .before .before .movement-at .ensures) _ (sym (c .before .before .before .before .before .before .order-of .ensures) ∙ c .before .before .before .before .i .given .1) (c .before .before .code-by .ensures) y _ (omega arith) (c .before .before .before .before .before .before .before .before .before .before .loop .inv .1 .1)))
 
 slice-aggregate-all-marked : tie.Need-slice-aggregate-all-marked Inv-loop μ-loop
