@@ -229,7 +229,7 @@ module _ (s : List ℕ) where
       let r = run-end-is s isNameByte (b ∷ t) p m e y in
       (name-some s p q (p + length (b ∷ t)) (sym r) (omega arith), q)
 
-  pub name-is : {n : List ℕ} (p : ℕ) → Name n → hasAt n s p ≡ true → byteAt s (p + length n) ≡ 62 → (nameAt s p ≡ Past (p + length n)) × (isLetter (byteAt s p) ≡ true)
+  name-is : {n : List ℕ} (p : ℕ) → Name n → hasAt n s p ≡ true → byteAt s (p + length n) ≡ 62 → (nameAt s p ≡ Past (p + length n)) × (isLetter (byteAt s p) ≡ true)
   unfolding isNameByte isLetter isDigit
   name-is p na e y = name-by p na e (rw y)
 
@@ -243,11 +243,48 @@ module _ (s : List ℕ) where
       let r = run-end-is s isNameByte v (p + 5) a (c .0) (rw y) in
       id-some s p (b .0) (p + 5 + length v) (sym r) (omega arith) (omega arith) (c .1)
 
-  pub end-is : (a e p : ℕ) (n : List ℕ) → e ≡ a + length n → hasAt n s a ≡ true → hasAt (bytes "</") s p ≡ true → hasAt n s (p + 2) ≡ true → byteAt s (p + 2 + length n) ≡ 62 → endTagAt s a e p ≡ Past (p + 2 + length n + 1)
+  end-is : (a e p : ℕ) (n : List ℕ) → e ≡ a + length n → hasAt n s a ≡ true → hasAt (bytes "</") s p ≡ true → hasAt n s (p + 2) ≡ true → byteAt s (p + 2 + length n) ≡ 62 → endTagAt s a e p ≡ Past (p + 2 + length n + 1)
   end-is a e p n z h o k y =
       let w : part s a e ≡ n = rw z (has-part s n a h) in
       let l : e - a ≡ length n = omega arith in
       end-some s a e p o (rw w k) (rw l y) ∙ rw l
+
+  -- an end tag that stands at p, of the name that stands at a
+  end-tag-is : (a p : ℕ) (n : List ℕ) → hasAt n s a ≡ true → hasAt (endTag n) s p ≡ true → (hasAt (bytes "</") s p ≡ true) × (endTagAt s a (a + length n) p ≡ Past (p + length (endTag n)))
+  end-tag-is a p n h k =
+      let l = length-append n (bytes ">") in
+      let b = has-split s (60 ∷ 47 ∷ n) (bytes ">") p (p + 2 + length n) (omega arith) k in
+      let o = has-split s (bytes "</") n p (p + 2) refl (b .0) in
+      let f : p + 2 + length n + 1 ≡ p + length (endTag n) = omega arith in
+      (o .0, end-is a (a + length n) p n refl h (o .0) (o .1) (has-byte s 62 [] (p + 2 + length n) (b .1)) ∙ ap Past f)
+
+-- AN ELEMENT of name n and content c that stands at p: where its parts stand
+pub record Laid (s : List ℕ) (p : ℕ) (n c : List ℕ) : Type 0 where
+  pub opens : byteAt s p ≡ 60
+  pub letter : isLetter (byteAt s (p + 1)) ≡ true
+  pub there : hasAt n s (p + 1) ≡ true
+  pub name : nameAt s (p + 1) ≡ Past (p + 1 + length n)
+  pub tag : byteAt s (p + 1 + length n) ≡ 62
+  pub inside : hasAt c s (p + 1 + length n + 1) ≡ true
+  pub closed : hasAt (bytes "</") s (p + 1 + length n + 1 + length c) ≡ true
+  pub ends : endTagAt s (p + 1) (p + 1 + length n) (p + 1 + length n + 1 + length c) ≡ Past (p + length (startTag n ++ c ++ endTag n))
+
+pub laid : (s : List ℕ) (p : ℕ) (n c : List ℕ) → Name n → hasAt (startTag n ++ c ++ endTag n) s p ≡ true → Laid s p n c
+laid s p n c na h =
+    let e = p + 1 + length n in
+    let m = e + 1 + length c in
+    let l₁ = length-append (startTag n ++ c) (endTag n) in
+    let l₂ = length-append (startTag n) c in
+    let l₃ = length-append n (bytes ">") in
+    let a₁ = has-split s (startTag n ++ c) (endTag n) p m (omega arith) h in
+    let a₂ = has-split s (startTag n) c p (e + 1) (omega arith) (a₁ .0) in
+    let a₃ = has-split s (60 ∷ n) (bytes ">") p e (omega arith) (a₂ .0) in
+    let a₄ = has-split s (bytes "<") n p (p + 1) refl (a₃ .0) in
+    let y = has-byte s 62 [] e (a₃ .1) in
+    let x = name-is s (p + 1) na (a₄ .1) y in
+    let t = end-tag-is s (p + 1) m n (a₄ .1) (a₁ .1) in
+    let f : m + length (endTag n) ≡ p + length (startTag n ++ c ++ endTag n) = omega arith in
+    record { opens = has-byte s 60 n p (a₃ .0); letter = x .1; there = a₄ .1; name = x .0; tag = y; inside = a₂ .1; closed = t .0; ends = t .1 ∙ ap Past f }
 
 -- what is to be shown of an element of d levels that stands at p: it is read, and begins with < and a letter
 pub record Read (s : List ℕ) (d p : ℕ) (e : List ℕ) : Type 0 where
@@ -310,22 +347,9 @@ module _ (s : List ℕ) (d : ℕ) (ih : Reads s d) where
   parts-is : (p : ℕ) (n c : List ℕ) → Name n → Content d c → hasAt (startTag n ++ c ++ endTag n) s p ≡ true → Read s (suc d) p (startTag n ++ c ++ endTag n)
   parts-is p n c na co h =
       let e = p + 1 + length n in
-      let m = e + 1 + length c in
-      let l₁ = length-append (startTag n ++ c) (endTag n) in
-      let l₂ = length-append (startTag n) c in
-      let l₃ = length-append n (bytes ">") in
-      let a₁ = has-split s (startTag n ++ c) (endTag n) p m (omega arith) h in
-      let a₂ = has-split s (startTag n) c p (e + 1) (omega arith) (a₁ .0) in
-      let a₃ = has-split s (60 ∷ n) (bytes ">") p e (omega arith) (a₂ .0) in
-      let a₄ = has-split s (bytes "<") n p (p + 1) refl (a₃ .0) in
-      let b₁ = has-split s (60 ∷ 47 ∷ n) (bytes ">") m (m + 2 + length n) (omega arith) (a₁ .1) in
-      let b₂ = has-split s (bytes "</") n m (m + 2) refl (b₁ .0) in
-      let y = has-byte s 62 [] e (a₃ .1) in
-      let x = name-is s (p + 1) na (a₄ .1) y in
-      let k : contentAt (suc d - 1) s (e + 1) ≡ Past m = rw sub-one (content-is (e + 1) c co (a₂ .1) (b₂ .0)) in
-      let t = end-is s (p + 1) e m n refl (a₄ .1) (b₂ .0) (b₂ .1) (has-byte s 62 [] (m + 2 + length n) (b₁ .1)) in
-      let f : m + 2 + length n + 1 ≡ p + length (startTag n ++ c ++ endTag n) = omega arith in
-      record { reads = element-ends (suc d) s (p + 1) (λ z. absurd (omega arith)) e (x .0) y m k ∙ t ∙ ap Past f; opens = has-byte s 60 n p (a₃ .0); named = x .1 }
+      let w = laid s p n c na h in
+      let k : contentAt (suc d - 1) s (e + 1) ≡ Past (e + 1 + length c) = rw sub-one (content-is (e + 1) c co (w .inside) (w .closed)) in
+      record { reads = element-ends (suc d) s (p + 1) (λ z. absurd (omega arith)) e (w .name) (w .tag) (e + 1 + length c) k ∙ w .ends; opens = w .opens; named = w .letter }
 
 levels : {d : ℕ} {e : List ℕ} → Element d e → (k : ℕ) × (d ≡ suc k)
 levels (element {d = k} na co) = (k, refl)
@@ -392,16 +416,13 @@ root-reads ids s p n a c na ta co h =
     let m = p + length a + length c in
     let l₁ = length-append (a ++ c) (endTag n) in
     let l₂ = length-append a c in
-    let l₃ = length-append n (bytes ">") in
     let a₁ = has-split s (a ++ c) (endTag n) p m (omega arith) h in
     let a₂ = has-split s a c p (p + length a) refl (a₁ .0) in
-    let b₁ = has-split s (60 ∷ 47 ∷ n) (bytes ">") m (m + 2 + length n) (omega arith) (a₁ .1) in
-    let b₂ = has-split s (bytes "</") n m (m + 2) refl (b₁ .0) in
     let t = tag-is ids s p na ta (a₂ .0) in
-    let k = content-is s 11 (element-is s 11) (p + length a) c co (a₂ .1) (b₂ .0) in
-    let f = end-is s (p + 1) (p + 1 + length n) m n refl (t .there) (b₂ .0) (b₂ .1) (has-byte s 62 [] (m + 2 + length n) (b₁ .1)) in
-    let q : m + 2 + length n + 1 ≡ p + length (a ++ c ++ endTag n) = omega arith in
-    record { head = t; inside = a₂ .1; closed = b₂ .0; holds = k; reads = λ z u x. root-ends ids s p (p + 1 + length n) (t .name) (p + length a) (t .tag) m k (p + length (a ++ c ++ endTag n)) (f ∙ ap Past q) z u x }
+    let e = end-tag-is s (p + 1) m n (t .there) (a₁ .1) in
+    let k = content-is s 11 (element-is s 11) (p + length a) c co (a₂ .1) (e .0) in
+    let q : m + length (endTag n) ≡ p + length (a ++ c ++ endTag n) = omega arith in
+    record { head = t; inside = a₂ .1; closed = e .0; holds = k; reads = λ z u x. root-ends ids s p (p + 1 + length n) (t .name) (p + length a) (t .tag) m k (p + length (a ++ c ++ endTag n)) (e .1 ∙ ap Past q) z u x }
 
 -- THE WHOLE FLOW
 pub starts-self : (t : List ℕ) → startsWith t t ≡ true

@@ -49,7 +49,7 @@ use Rattle.codes.specs.declared.Operation.the-variants.{Inserimento, Variazione
 use Rattle.tree.specs.Structure.{replacesIn, rowsIn}
 use Rattle.tree.proofs.ByName.{Fixed}
 use Rattle.tree.proofs.Levels.{KeptTree, keepTree, keptTrees, rowsOfTrees, allTrees, keptFits, fitsTree, fieldsHeld, fieldsOfTrees, fieldsTree, firstKids, headerTree, namedKids, namedFirst, namedTree, lineTree, linesTree, orderWith, orderTree, ordersTree, inPlaces, allInPlaces}
-use Rattle.tree.proofs.Names.{text-same, HasRow, has-names, inRowTrees, pick, asKept, row-picked}
+use Rattle.tree.proofs.Names.{text-same, HasRow, row-at, has-names, inRowTrees, pick, asKept, row-picked}
 use Rattle.tree.proofs.Orders.{one-name, all-row, Spelled, Order-words, mandato-words, reversale-words, orderNames, order-names}
 use Rattle.tree.proofs.Stand.{stand, allStand, Right, stand-both, stand-is}
 
@@ -330,13 +330,13 @@ module _ (p q z : Parent) (r : Bool) (w : Words) (sp : Spelled p q z r w) where
           let y = sp .structure e in
           let us = firstKids (childrenNamed (x ∷ []) ts) in
           let l = row-length (suc d) q ts i 3 x (Rows z) 1 1 y in
-          let k = kids-one x z 3 (suc d) ts (childrenNamed (x ∷ []) ts) (sp .named-fixed) (named-some (suc d) z w (sp .replaced-number)) refl l (row-right (suc d) q ts i 3 x (Rows z) 1 1 y) in
+          let k = kids-one x z 3 (suc d) ts (childrenNamed (x ∷ []) ts) (sp .named-fixed) (named-some (suc d) z w (row-at z (sp .replaced) 0 refl)) refl l (row-right (suc d) q ts i 3 x (Rows z) 1 1 y) in
           rw (first (childrenNamed (x ∷ []) ts) l) (record {
             structure = us;
             there = k .one;
-            number = numero-of (daSostituire "numero_" (w .name)) us (text-of d z us (k .right) 0 (daSostituire "numero_" (w .name)) _ (sp .replaced-number));
-            line = progressivo-of (daSostituire "progressivo_" (w .party)) us (text-of d z us (k .right) 1 (daSostituire "progressivo_" (w .party)) _ (sp .replaced-line));
-            esercizio = esercizio-of (daSostituire "esercizio_" (w .name)) us (text-of d z us (k .right) 2 (daSostituire "esercizio_" (w .name)) _ (sp .replaced-year));
+            number = numero-of (daSostituire "numero_" (w .name)) us (text-of d z us (k .right) 0 (daSostituire "numero_" (w .name)) _ (row-at z (sp .replaced) 0 refl));
+            line = progressivo-of (daSostituire "progressivo_" (w .party)) us (text-of d z us (k .right) 1 (daSostituire "progressivo_" (w .party)) _ (row-at z (sp .replaced) 1 refl));
+            esercizio = esercizio-of (daSostituire "esercizio_" (w .name)) us (text-of d z us (k .right) 2 (daSostituire "esercizio_" (w .name)) _ (row-at z (sp .replaced) 2 refl));
           })
       go false e = refl
 
@@ -361,15 +361,15 @@ module _ (p q z : Parent) (r : Bool) (w : Words) (sp : Spelled p q z r w) where
   unfolding fieldStands
   order-in d t n u i =
       let k = kidsIn (heldOf t) in
-      let o = text-of (suc (suc d)) p k i 0 "tipo_operazione" _ (sp .operation) in
+      let o = text-of (suc (suc d)) p k i 0 "tipo_operazione" _ (row-at p (sp .order) 0 refl) in
       record {
         name = n;
         kind = refl;
         operation = operazione-of "tipo_operazione" k o;
-        number = numero-of (joined "numero_" (w .name)) k (text-of (suc (suc d)) p k i 1 (joined "numero_" (w .name)) _ (sp .number));
-        date = data-of (joined "data_" (w .name)) k (text-of (suc (suc d)) p k i 2 (joined "data_" (w .name)) _ (sp .date));
-        total = importo-of (joined "importo_" (w .name)) k (text-of (suc (suc d)) p k i 3 (joined "importo_" (w .name)) _ (sp .total));
-        lines = lines-in (operationOf (tipoOperazione (textNamed "tipo_operazione" k))) (named-asked (textNamed "tipo_operazione" k) r u (o .stands) w) d 4 (childrenNamed (joined "informazioni_" (w .party) ∷ []) k) (row-right (suc (suc d)) p k i 4 (joined "informazioni_" (w .party)) (Rows q) 1 8 (sp .line));
+        number = numero-of (joined "numero_" (w .name)) k (text-of (suc (suc d)) p k i 1 (joined "numero_" (w .name)) _ (row-at p (sp .order) 1 refl));
+        date = data-of (joined "data_" (w .name)) k (text-of (suc (suc d)) p k i 2 (joined "data_" (w .name)) _ (row-at p (sp .order) 2 refl));
+        total = importo-of (joined "importo_" (w .name)) k (text-of (suc (suc d)) p k i 3 (joined "importo_" (w .name)) _ (row-at p (sp .order) 3 refl));
+        lines = lines-in (operationOf (tipoOperazione (textNamed "tipo_operazione" k))) (named-asked (textNamed "tipo_operazione" k) r u (o .stands) w) d 4 (childrenNamed (joined "informazioni_" (w .party) ∷ []) k) (row-right (suc (suc d)) p k i 4 (joined "informazioni_" (w .party)) (Rows q) 1 8 (row-at p (sp .order) 4 refl));
       }
 
 -- its lines, at most eight, come back from their places
@@ -395,7 +395,7 @@ Whole t o = AnOrder t o × (ordinativo (inPlaces o) ≡ o)
 order-whole : (p q z : Parent) (r : Bool) (w : Words) → Spelled p q z r w → (d : ℕ) (t : Tree) → Right (suc (suc d)) p (kidsIn (heldOf t)) → ordinativo (inPlaces (orderWith r w (kidsIn (heldOf t)))) ≡ orderWith r w (kidsIn (heldOf t))
 order-whole p q z r w sp d t i =
     let l = childrenNamed (joined "informazioni_" (w .party) ∷ []) (kidsIn (heldOf t)) in
-    let b = row-length (suc d) p (kidsIn (heldOf t)) i 4 (joined "informazioni_" (w .party)) (Rows q) 1 8 (sp .line) in
+    let b = row-length (suc d) p (kidsIn (heldOf t)) i 4 (joined "informazioni_" (w .party)) (Rows q) 1 8 (row-at p (sp .order) 4 refl) in
     let h = leb-true (length l) 8 (both (leb 1 (length l)) (leb (length l) 8) b .1) in
     let k : length (linesTree r w l) ≤ 8 = omega (arith, lines-length r w l) in
     rw (lines-back (linesTree r w l) k)
