@@ -23,9 +23,13 @@ use Rattle.rules.specs.Rules.{anyExecuted, situationIn, situationOf, row
 use Rattle.rules.specs.Inner.{meantCode, recordCode, namesCode, absentCode, newState}
 
 -- a code that isn't 0 comes first
-first-stops : (code next : ℕ) → (code ≡ 0 → ⊥) → firstCode code next ≡ code
+pub first-stops : (code next : ℕ) → (code ≡ 0 → ⊥) → firstCode code next ≡ code
 first-stops zero next h = absurd (h refl)
 first-stops (suc code) next h = refl
+
+pub unless-stops : {A : Type 0} (refuse : ℕ → A) (code : ℕ) (next : A) → (code ≡ 0 → ⊥) → unless refuse code next ≡ refuse code
+unless-stops refuse zero next h = absurd (h refl)
+unless-stops refuse (suc code) next h = refl
 
 -- THE WAYS OUT of the code
 module _ (o : Ordinativo) (r : Record) {c : Change} (a : c ≡ Annul) {b : Bool} (e : b ≡ sameOrder o r) where

@@ -22,8 +22,8 @@ use Rattle.rules.specs.declared.Ruling.{Ruling}
 use Rattle.rules.specs.declared.Ruling.the-variants.{Accepted, Refused}
 use Rattle.rules.specs.declared.Noticed.the-variants.{Moved, Unmoved}
 use Rattle.lines.specs.Lines.{lineCode}
-use Rattle.replacing.specs.Replacing.{namings, replaceCode}
-use Rattle.rules.specs.Inner.{namesCode}
+use Rattle.replacing.specs.Replacing.{namings, firstCode, replaceCode}
+use Rattle.rules.specs.Inner.{recordCode, namesCode}
 use Rattle.rules.specs.Rules.{changeOf, anyExecuted, situationIn, situationOf, stepCode, keyFor, sameOrder, firstEmpty, placed, unless, stepped, judgeOrder, lineMoves, noticeIn, noticeAt, judgeNotice}
 
 -- two constructors are never equal
@@ -41,7 +41,7 @@ unmoved e = let z : clash = cc in absurd (no z)
 
 -- AN ORDER'S RECORD
 
-pub there-is : (r : Record) → situationIn r ≡ Absent → ⊥
+there-is : (r : Record) → situationIn r ≡ Absent → ⊥
 unfolding situationIn
 there-is r e = go (eqb (r .state) 2) (anyExecuted (r .states)) e
   where
@@ -49,6 +49,16 @@ there-is r e = go (eqb (r .state) 2) (anyExecuted (r .states)) e
     go true b e = let z : clash = cc in no z
     go false true e = let z : clash = cc in no z
     go false false e = let z : clash = cc in no z
+
+-- so a replacement whose key is there is refused
+pub not-replaced : (o : Ordinativo) (r : Record) → recordCode Replace o r ≡ 0 → ⊥
+not-replaced o r e = go (situationIn r) (there-is r) e
+  where
+    go : (s : Situation) → (s ≡ Absent → ⊥) → firstCode (stepCode Replace s) 0 ≡ 0 → ⊥
+    go Absent h e = h refl
+    go Annulled h e = omega arith
+    go Waiting h e = omega arith
+    go Executed h e = omega arith
 
 -- acquired, all lines waiting
 pub record Waits (r : Record) : Type 0 where

@@ -499,23 +499,45 @@ module _ (slots year : ℕ) (o : Ordinativo) (rs : List Record) where
       no-room : WithNew (o .operation) → slots ≤ length rs → t ≡ lastTurn o → Late t c
       not-meant : o .operation ≡ Annullo → (r : Record) → Has rs key r → Differs o r → t ≡ lastTurn o → Late t c
 
-    module _ (numbered : numberedFrom 1 (o .lines) ≡ true) (summed : sumOf (o .lines) ≡ o .total) where
-      past-lines : {t c : ℕ} → Applies slots year o rs t c → 3 ≤ t
-      past-lines (misnumbered h) = absurd (h (true-numbered (o .lines) numbered))
-      past-lines (missummed h) = absurd (h summed)
-      past-lines (present w r h) = omega arith
-      past-lines (absent w h) = omega arith
-      past-lines (annulled w r h e) = omega arith
-      past-lines (executed w r h n k e) = omega arith
-      past-lines (no-order p j l h) = omega arith
-      past-lines (line-zero p j l h) = omega arith
-      past-lines (line-past p j l r h k) = omega arith
-      past-lines (not-executed p j l r h n) = omega arith
-      past-lines (named-before p j l i k e) = omega arith
-      past-lines (other-amount p j l r h n) = omega arith
-      past-lines (full w l) = omega arith
-      past-lines (differs p r h e) = omega arith
+    -- THE FIRST TURNS are those of the lines' numbers and of their sum
+    data Turn (t : ℕ) : Type 0 where
+      of-numbers : (numberedFrom 1 (o .lines) ≡ true → ⊥) → 1 ≤ t → Turn t
+      of-sum : (sumOf (o .lines) ≡ o .total → ⊥) → 2 ≤ t → Turn t
+      of-others : 3 ≤ t → Turn t
 
+    turn-of : {t c : ℕ} → Applies slots year o rs t c → Turn t
+    turn-of (misnumbered h) = of-numbers (λ n. h (true-numbered (o .lines) n)) (omega arith)
+    turn-of (missummed h) = of-sum h (omega arith)
+    turn-of (present w r h) = of-others (omega arith)
+    turn-of (absent w h) = of-others (omega arith)
+    turn-of (annulled w r h e) = of-others (omega arith)
+    turn-of (executed w r h n k e) = of-others (omega arith)
+    turn-of (no-order p j l h) = of-others (omega arith)
+    turn-of (line-zero p j l h) = of-others (omega arith)
+    turn-of (line-past p j l r h k) = of-others (omega arith)
+    turn-of (not-executed p j l r h n) = of-others (omega arith)
+    turn-of (named-before p j l i k e) = of-others (omega arith)
+    turn-of (other-amount p j l r h n) = of-others (omega arith)
+    turn-of (full w l) = of-others (omega arith)
+    turn-of (differs p r h e) = of-others (omega arith)
+
+    some-turn : {t : ℕ} → Turn t → 1 ≤ t
+    some-turn (of-numbers n h) = h
+    some-turn (of-sum n h) = omega arith
+    some-turn (of-others h) = omega arith
+
+    module _ (numbered : numberedFrom 1 (o .lines) ≡ true) where
+      past-numbers : {t : ℕ} → Turn t → 2 ≤ t
+      past-numbers (of-numbers n h) = absurd (n numbered)
+      past-numbers (of-sum n h) = h
+      past-numbers (of-others h) = omega arith
+
+      past-lines : sumOf (o .lines) ≡ o .total → {t : ℕ} → Turn t → 3 ≤ t
+      past-lines summed (of-numbers n h) = absurd (n numbered)
+      past-lines summed (of-sum n h) = absurd (n summed)
+      past-lines summed (of-others h) = h
+
+    module _ (numbered : numberedFrom 1 (o .lines) ≡ true) (summed : sumOf (o .lines) ≡ o .total) where
       late : step ≡ 0 → {t c : ℕ} → Applies slots year o rs t c → Late t c
       late z (misnumbered h) = absurd (h (true-numbered (o .lines) numbered))
       late z (missummed h) = absurd (h summed)
@@ -667,7 +689,7 @@ module _ (slots year : ℕ) (o : Ordinativo) (rs : List Record) where
     steps : (numbered : numberedFrom 1 (o .lines) ≡ true) → sumOf (o .lines) ≡ o .total → (n : ℕ) → step ≡ suc n → Decided
     unfolding judgeOrder stepped lineCode situationOf situationIn
     steps numbered summed n e =
-        stopped (record { turn = 3; with = suc n; is = rw (numbered, eq-eqb (sumOf (o .lines)) (o .total) summed, e); applies = go (o .operation) refl found refl e; first = past-lines numbered summed })
+        stopped (record { turn = 3; with = suc n; is = rw (numbered, eq-eqb (sumOf (o .lines)) (o .total) summed, e); applies = go (o .operation) refl found refl e; first = λ a. past-lines numbered summed (turn-of a) })
       where
         kept-as : {x : ℕ} → Applies slots year o rs 3 x → x ≡ suc n → Applies slots year o rs 3 (suc n)
         kept-as a q = subst (Applies slots year o rs 3) q a
@@ -698,40 +720,8 @@ module _ (slots year : ℕ) (o : Ordinativo) (rs : List Record) where
     decide = go (numberedFrom 1 (o .lines)) (eqb (sumOf (o .lines)) (o .total)) refl refl
       where
         go : (a b : Bool) → numberedFrom 1 (o .lines) ≡ a → eqb (sumOf (o .lines)) (o .total) ≡ b → Decided
-        go false b p q = stopped (record { turn = 1; with = 12; is = rw p; applies = misnumbered (λ n. false-true (sym p ∙ numbered-true (o .lines) n)); first = at-least })
-          where
-            at-least : {t c : ℕ} → Applies slots year o rs t c → 1 ≤ t
-            at-least (misnumbered h) = omega arith
-            at-least (missummed h) = omega arith
-            at-least (present w r h) = omega arith
-            at-least (absent w h) = omega arith
-            at-least (annulled w r h e) = omega arith
-            at-least (executed w r h n k e) = omega arith
-            at-least (no-order p j l h) = omega arith
-            at-least (line-zero p j l h) = omega arith
-            at-least (line-past p j l r h k) = omega arith
-            at-least (not-executed p j l r h n) = omega arith
-            at-least (named-before p j l i k e) = omega arith
-            at-least (other-amount p j l r h n) = omega arith
-            at-least (full w l) = omega arith
-            at-least (differs p r h e) = omega arith
-        go true false p q = stopped (record { turn = 2; with = 13; is = rw (p, q); applies = missummed (eqb-false _ _ q); first = at-least })
-          where
-            at-least : {t c : ℕ} → Applies slots year o rs t c → 2 ≤ t
-            at-least (misnumbered h) = absurd (h (true-numbered (o .lines) p))
-            at-least (missummed h) = omega arith
-            at-least (present w r h) = omega arith
-            at-least (absent w h) = omega arith
-            at-least (annulled w r h e) = omega arith
-            at-least (executed w r h n k e) = omega arith
-            at-least (no-order p j l h) = omega arith
-            at-least (line-zero p j l h) = omega arith
-            at-least (line-past p j l r h k) = omega arith
-            at-least (not-executed p j l r h n) = omega arith
-            at-least (named-before p j l i k e) = omega arith
-            at-least (other-amount p j l r h n) = omega arith
-            at-least (full w l) = omega arith
-            at-least (differs p r h e) = omega arith
+        go false b p q = stopped (record { turn = 1; with = 12; is = rw p; applies = misnumbered (λ n. false-true (sym p ∙ numbered-true (o .lines) n)); first = λ a. some-turn (turn-of a) })
+        go true false p q = stopped (record { turn = 2; with = 13; is = rw (p, q); applies = missummed (eqb-false _ _ q); first = λ a. past-numbers p (turn-of a) })
         go true true p q = stepping step refl
           where
             stepping : (n : ℕ) → step ≡ n → Decided

@@ -9,7 +9,7 @@ ghost use lib.ListN.{replicate};
 ghost use lib.Dec.{ltb};
 ghost use Rattle.order.specs.Ordinativo.{linesThere, ordinativo};
 ghost use Rattle.record.specs.Slot.{acquiredState, annulledState, waitingLine, keyOf, recordWith};
-ghost use Rattle.rules.specs.Rules.{wasExecuted, anyExecuted, situationIn, stepCode, eightPlaces, amountsOf, sameList, sameOrder, keyFor, recordOf, written, lineMoves, noticeIn};
+ghost use Rattle.rules.specs.Rules.{wasExecuted, anyExecuted, situationIn, stepCode, eightPlaces, amountsOf, sameList, sameOrder, keyFor, recordOf, written, lineMoves, movedTo, noticeIn};
 ghost use Rattle.rules.specs.Inner.{rowOf, columnOf, meantCode, recordCode, absentCode, newState};
 
 // Where the step table's columns stand.
@@ -307,6 +307,17 @@ fn line_moves(executing: bool, state: u8) -> u8
         if was_executed(state) { 21 } else { 0 }
     } else {
         if state == record::EXECUTED { 0 } else { 22 }
+    }
+}
+
+// The state that an accepted notice gives its line.
+pub fn moved_to(executing: bool) -> u8
+    ensures { λ r. ⌜ r ≡ movedTo executing ⌝ }
+{
+    if executing {
+        record::EXECUTED
+    } else {
+        record::WAITING
     }
 }
 

@@ -1,5 +1,5 @@
 -- Laws of orders and notices on a body's bytes, one way out of the code at a time.
-use Prim.Native.Nat.{ℕ, zero, suc, _+_, _*_, _≤_, _<_}
+use Prim.Native.Nat.{ℕ, zero, suc, _+_, _-_, _*_, _≤_, _<_}
 use mathlib.Core.Bool.{Bool, true}
 use mathlib.Core.List.{List, [], _∷_, _++_}
 use mathlib.Core.Path.{_≡_, refl, sym, ap, _∙_}
@@ -13,7 +13,7 @@ use Rattle.ranges.specs.declared.Found.the-variants.{At, Nothing}
 use Rattle.order.specs.Ordinativo.{Ordinativo}
 use Rattle.record.specs.declared.Record.{Record}
 use Rattle.record.specs.declared.Key.{Key}
-use Rattle.record.specs.Slot.{slotSize, acquiredState, recordAt, recordBytes}
+use Rattle.record.specs.Slot.{slotSize, statesOffset, acquiredState, recordAt, recordBytes}
 use Rattle.slots.specs.declared.Sought.{Sought}
 use Rattle.slots.specs.declared.Sought.the-variants as sought
 use Rattle.slots.specs.Slots.{recordsAt, findIn, nth, noRecord}
@@ -25,41 +25,30 @@ use Rattle.slots.proofs.Index.{length-records}
 use Rattle.slots.proofs.Held.{Held, held, search-held}
 use Rattle.body.proofs.Slots.{valid-at}
 use Rattle.valid.proofs.Valid.{ok-bounds}
-use Rattle.replacing.specs.Replacing.{namings, firstCode, replaceCode}
+use Rattle.replacing.specs.Replacing.{namings, replaceCode}
 use Rattle.replacing.proofs.Kept.{lines-long}
-use Rattle.rules.specs.declared.Situation.{Situation}
-use Rattle.rules.specs.declared.Situation.the-variants.{Absent, Annulled, Waiting, Executed}
 use Rattle.rules.specs.declared.Change.{Change}
 use Rattle.rules.specs.declared.Change.the-variants.{Insert, Vary, Annul, Replace}
 use Rattle.rules.specs.declared.Ruling.{Ruling}
 use Rattle.rules.specs.declared.Ruling.the-variants.{Accepted, Refused}
+use Rattle.rules.specs.declared.Noticed.{Noticed}
 use Rattle.rules.specs.declared.Noticed.the-variants.{Moved, Unmoved}
 use Rattle.lines.specs.Lines.{lineCode}
-use Rattle.rules.specs.Rules.{changeOf, situationIn, stepCode, keyFor, unless, stepped, judgeChange, judgeOrder, recordOf, written, noticeIn, noticeAt, judgeNotice}
+use Rattle.rules.specs.Rules.{changeOf, keyFor, unless, stepped, judgeChange, judgeOrder, recordOf, written, noticeIn, noticeAt, judgeNotice}
 use Rattle.rules.specs.Inner.{recordCode, namesCode, absentCode, newState}
 use Rattle.rules.specs.Searches.{stepsOf}
-use Rattle.rules.proofs.Judging.{there-is, accepted-slot, moved}
-use Rattle.rules.proofs.Codes.{stepped-at, stepped-none, New, absent-zero}
+use Rattle.rules.proofs.Judging.{not-replaced, accepted-slot, moved}
+use Rattle.rules.proofs.Codes.{unless-stops, stepped-at, stepped-none, New, absent-zero}
 use Rattle.service.specs.declared.Counted.{Counted}
 use Rattle.service.specs.Inner.{onRecord, onNone, recordStored, Ruled}
 use Rattle.service.specs.Service.{orderComes, besidesPut, orderStored, OrderServed, outcomeBytes, noticeComes, noticeStored, noticeLeaves}
 
 -- AN ORDER
 
--- a code that isn't 0 is the answer
-unless-stop : (code : ℕ) (next : Ruling) → (code ≡ 0 → ⊥) → unless Refused code next ≡ Refused code
-unless-stop zero next h = absurd (h refl)
-unless-stop (suc code) next h = refl
-
--- and no search is counted
-unless-none : (code steps : ℕ) → (code ≡ 0 → ⊥) → unless (λ c. 0) code steps ≡ 0
-unless-none zero steps h = absurd (h refl)
-unless-none (suc code) steps h = refl
-
 -- refused by a code
 module _ (leaves : Ruling → List ℕ) (next : Ruling) {code′ code : ℕ} (e : code ≡ code′) where
   pub ruled-refused : (code ≡ 0 → ⊥) → {t : List ℕ} → t ≡ leaves (Refused code) → Ruled leaves (unless Refused code′ next) (Refused code) t
-  ruled-refused h q = rw (← e) (sym (unless-stop code next h), q)
+  ruled-refused h q = rw (← e) (sym (unless-stops Refused code next h), q)
 
   pub ruled-stored : {j : Ruling} {t′ : List ℕ} → next ≡ j → code ≡ 0 → t′ ≡ leaves j → Ruled leaves (unless Refused code′ next) j t′
   ruled-stored n h s = rw (← e, h) (sym n, s)
@@ -95,17 +84,11 @@ at-stored : (t : List ℕ) (base n year : ℕ) (o : Ordinativo) (i : ℕ) (c : C
 unfolding orderStored
 at-stored t base n year o i c = go (recordCode c o (recordAt t (base + slotSize * i))) refl
   where
-    there : (s : Situation) → (s ≡ Absent → ⊥) → firstCode (stepCode Replace s) 0 ≡ 0 → ⊥
-    there Absent h e = h refl
-    there Annulled h e = omega arith
-    there Waiting h e = omega arith
-    there Executed h e = omega arith
-
     beside : (c : Change) → recordCode c o (recordAt t (base + slotSize * i)) ≡ 0 → t ≡ besidesPut t base n o c
     beside Insert e = refl
     beside Vary e = refl
     beside Annul e = refl
-    beside Replace e = absurd (there (situationIn (recordAt t (base + slotSize * i))) (there-is (recordAt t (base + slotSize * i))) e)
+    beside Replace e = absurd (not-replaced o (recordAt t (base + slotSize * i)) e)
 
     go : (k : ℕ) → recordCode c o (recordAt t (base + slotSize * i)) ≡ k
         → recordStored t base year o (unless Refused k (Accepted c i)) ≡ orderStored t base n year o (unless Refused k (Accepted c i))
@@ -143,7 +126,7 @@ module _ (t : List ℕ) (base n year : ℕ) (o : Ordinativo) (c : Change) {code 
 
   pub steps-lines : (code ≡ 0 → ⊥) → 0 ≡ stepsOf year o (recordsAt t base n)
   unfolding stepsOf
-  steps-lines h = rw (← e) (sym (unless-none code _ h))
+  steps-lines h = rw (← e) (sym (unless-stops (λ c. 0) code _ h))
 
   module _ {f : Sought} {k : Key} (h : code ≡ 0) (q : k ≡ keyFor year o) (g : f ≡ seekIn (recordsAt t base n) 0 k) where
     seek-here : {x : Sought} → f ≡ x → seekIn (recordsAt t base n) 0 (keyFor year o) ≡ x
@@ -241,6 +224,13 @@ module _ (t : List ℕ) (base n : ℕ) (executing : Bool) (k : Key) (line : ℕ)
       let l = notice-lines refl (m .0) refl b in
       let q : nth (recordsAt t base n) i .lines ≡ recordAt t (base + slotSize * i) .lines = ap (λ (x : Record). x .lines) (h .same) in
       record { low = h .low; first = m .1 .first; last = omega (arith, m .1 .last) }
+
+  -- whose state is a byte of the body's slots
+  pub notice-place : {i cents : ℕ} {m : Noticed} → base + slotSize * n ≤ length t → bodyOk t base n ≡ true → m ≡ noticeComes t base n executing k line → m ≡ Moved i cents
+      → (1 ≤ line) × (base + slotSize * i + statesOffset + (line - 1) < length t)
+  notice-place {i} {cents} h b e q =
+      let l = notice-line i cents b (sym e ∙ q) in
+      (l .first, omega arith)
 
   pub notice-refused : (e : ℕ) {c : ℕ} → noticeComes t base n executing k line ≡ Unmoved c → t ≡ noticeLeaves t e base n executing k line
   unfolding noticeStored

@@ -19,7 +19,7 @@ ghost use Rattle.slots.specs.Slots.{recordsAt};
 ghost use Rattle.slots.specs.Inner.{filterSize, markOf, Filters};
 ghost use Rattle.body.specs.Body.{bodyOk};
 ghost use Rattle.entries.specs.Entry.{entryFixed, closedPlace, kept};
-ghost use Rattle.rules.specs.Rules.{keyFor, judgeChange, movedTo};
+ghost use Rattle.rules.specs.Rules.{keyFor, judgeChange};
 ghost use Rattle.rules.specs.Searches.{stepsOf};
 ghost use Rattle.rules.specs.Inner.{namesCode};
 ghost use Rattle.service.specs.Service.{besidesPut, orderStored, outcomeSize, OrderServed, outcomeBytes, noticeComes, NoticeServed};
@@ -196,16 +196,6 @@ pub fn put_outcome(out: &mut [u8], at: usize, o: Order, code: u8)
     words::write8(out, at + 8, o.total);
 }
 
-fn moved_to(executing: bool) -> u8
-    ensures { λ r. ⌜ r ≡ movedTo executing ⌝ }
-{
-    if executing {
-        record::EXECUTED
-    } else {
-        record::WAITING
-    }
-}
-
 // What a notice comes to.
 pub fn judge_notice(
     t: &[u8],
@@ -275,7 +265,7 @@ pub fn serve_notice(
     match m {
         Noticed::Moved(i, cents) => {
             let at = base + record::SLOT * i + record::STATES + ((line - 1) as usize);
-            let state = [moved_to(executing)];
+            let state = [rules::moved_to(executing)];
             words::copy_in(t, at, &state);
             move_kept(t, e, executing, key.kind, cents);
             Noticed::Moved(i, cents)

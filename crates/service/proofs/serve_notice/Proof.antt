@@ -1,7 +1,7 @@
 use borrow.Author.Needs.{needs}
 use mathlib.Core.Path.{sym, _∙_}
 use native.Mathlib.Omega.{arith}
-use Rattle.service.proofs.Laws.{notice-line, notice-refused}
+use Rattle.service.proofs.Laws.{notice-place, notice-refused}
 use Rattle.service.proofs.Moved.{notice-movable, notice-stored}
 use Rattle.service.proofs.serve_notice.Statement.{statement}
 use Rattle.service.proofs.serve_notice.Tie as tie
@@ -15,39 +15,19 @@ enum-known-m : tie.Need-enum-known-m
 enum-known-m c = search needs
 
 mul-at : tie.Need-mul-at
-mul-at c =
-    let S = c .before .before .before .before .before .before .pre in
-    let w = S .inside in
-    let l = notice-line (c .before .before .before .before .before .before .args .t .now) (c .before .before .before .before .before .before .args .base) (c .before .before .before .before .before .before .args .n) (c .before .before .before .before .before .before .args .executing) (c .before .before .before .before .before .before .args .key) (c .before .before .before .before .before .before .args .line) (c .before .m .given .0 .0) (c .before .m .given .0 .1 .0) (S .valid) (sym (c .before .before .before .judge-notice .ensures) ∙ c .before .m .given .1) in
-    omega (arith, l)
+mul-at c = omega (arith, notice-place (c .before .before .before .before .before .before .args .t .now) (c .before .before .before .before .before .before .args .base) (c .before .before .before .before .before .before .args .n) (c .before .before .before .before .before .before .args .executing) (c .before .before .before .before .before .before .args .key) (c .before .before .before .before .before .before .args .line) (c .before .before .before .before .before .before .pre .inside) (c .before .before .before .before .before .before .pre .valid) (c .before .before .before .judge-notice .ensures) (c .before .m .given .1))
 
 add-at : tie.Need-add-at
-add-at c =
-    let S = c .before .before .before .before .before .before .pre in
-    let w = S .inside in
-    let l = notice-line (c .before .before .before .before .before .before .args .t .now) (c .before .before .before .before .before .before .args .base) (c .before .before .before .before .before .before .args .n) (c .before .before .before .before .before .before .args .executing) (c .before .before .before .before .before .before .args .key) (c .before .before .before .before .before .before .args .line) (c .before .m .given .0 .0) (c .before .m .given .0 .1 .0) (S .valid) (sym (c .before .before .before .judge-notice .ensures) ∙ c .before .m .given .1) in
-    omega (arith, l)
+add-at c = omega (arith, notice-place (c .before .before .before .before .before .before .args .t .now) (c .before .before .before .before .before .before .args .base) (c .before .before .before .before .before .before .args .n) (c .before .before .before .before .before .before .args .executing) (c .before .before .before .before .before .before .args .key) (c .before .before .before .before .before .before .args .line) (c .before .before .before .before .before .before .pre .inside) (c .before .before .before .before .before .before .pre .valid) (c .before .before .before .judge-notice .ensures) (c .before .m .given .1))
 
 add-at-2 : tie.Need-add-at-2
-add-at-2 c =
-    let S = c .before .before .before .before .before .before .pre in
-    let w = S .inside in
-    let l = notice-line (c .before .before .before .before .before .before .args .t .now) (c .before .before .before .before .before .before .args .base) (c .before .before .before .before .before .before .args .n) (c .before .before .before .before .before .before .args .executing) (c .before .before .before .before .before .before .args .key) (c .before .before .before .before .before .before .args .line) (c .before .m .given .0 .0) (c .before .m .given .0 .1 .0) (S .valid) (sym (c .before .before .before .judge-notice .ensures) ∙ c .before .m .given .1) in
-    omega (arith, l)
+add-at-2 c = omega (arith, notice-place (c .before .before .before .before .before .before .args .t .now) (c .before .before .before .before .before .before .args .base) (c .before .before .before .before .before .before .args .n) (c .before .before .before .before .before .before .args .executing) (c .before .before .before .before .before .before .args .key) (c .before .before .before .before .before .before .args .line) (c .before .before .before .before .before .before .pre .inside) (c .before .before .before .before .before .before .pre .valid) (c .before .before .before .judge-notice .ensures) (c .before .m .given .1))
 
 sub-at : tie.Need-sub-at
-sub-at c =
-    let S = c .before .before .before .before .before .before .pre in
-    let w = S .inside in
-    let l = notice-line (c .before .before .before .before .before .before .args .t .now) (c .before .before .before .before .before .before .args .base) (c .before .before .before .before .before .before .args .n) (c .before .before .before .before .before .before .args .executing) (c .before .before .before .before .before .before .args .key) (c .before .before .before .before .before .before .args .line) (c .before .m .given .0 .0) (c .before .m .given .0 .1 .0) (S .valid) (sym (c .before .before .before .judge-notice .ensures) ∙ c .before .m .given .1) in
-    omega (arith, l)
+sub-at c = omega (arith, notice-place (c .before .before .before .before .before .before .args .t .now) (c .before .before .before .before .before .before .args .base) (c .before .before .before .before .before .before .args .n) (c .before .before .before .before .before .before .args .executing) (c .before .before .before .before .before .before .args .key) (c .before .before .before .before .before .before .args .line) (c .before .before .before .before .before .before .pre .inside) (c .before .before .before .before .before .before .pre .valid) (c .before .before .before .judge-notice .ensures) (c .before .m .given .1))
 
 add-at-3 : tie.Need-add-at-3
-add-at-3 c =
-    let S = c .before .before .before .before .before .before .pre in
-    let w = S .inside in
-    let l = notice-line (c .before .before .before .before .before .before .args .t .now) (c .before .before .before .before .before .before .args .base) (c .before .before .before .before .before .before .args .n) (c .before .before .before .before .before .before .args .executing) (c .before .before .before .before .before .before .args .key) (c .before .before .before .before .before .before .args .line) (c .before .m .given .0 .0) (c .before .m .given .0 .1 .0) (S .valid) (sym (c .before .before .before .judge-notice .ensures) ∙ c .before .m .given .1) in
-    omega (arith, l)
+add-at-3 c = omega (arith, notice-place (c .before .before .before .before .before .before .args .t .now) (c .before .before .before .before .before .before .args .base) (c .before .before .before .before .before .before .args .n) (c .before .before .before .before .before .before .args .executing) (c .before .before .before .before .before .before .args .key) (c .before .before .before .before .before .before .args .line) (c .before .before .before .before .before .before .pre .inside) (c .before .before .before .before .before .before .pre .valid) (c .before .before .before .judge-notice .ensures) (c .before .m .given .1))
 
 moved-to-requires : tie.Need-moved-to-requires
 moved-to-requires c κs = search needs
@@ -56,11 +36,7 @@ slice-aggregate-copy-in : tie.Need-slice-aggregate-copy-in
 slice-aggregate-copy-in c = search needs
 
 copy-in-requires : tie.Need-copy-in-requires
-copy-in-requires c κs =
-    let S = c .before .before .before .before .before .before .before .before .before .pre in
-    let w = S .inside in
-    let l = notice-line (c .before .before .before .before .before .before .before .before .before .args .t .now) (c .before .before .before .before .before .before .before .before .before .args .base) (c .before .before .before .before .before .before .before .before .before .args .n) (c .before .before .before .before .before .before .before .before .before .args .executing) (c .before .before .before .before .before .before .before .before .before .args .key) (c .before .before .before .before .before .before .before .before .before .args .line) (c .before .before .before .before .m .given .0 .0) (c .before .before .before .before .m .given .0 .1 .0) (S .valid) (sym (c .before .before .before .before .before .before .judge-notice .ensures) ∙ c .before .before .before .before .m .given .1) in
-    omega (arith, l)
+copy-in-requires c κs = omega (arith, notice-place (c .before .before .before .before .before .before .before .before .before .args .t .now) (c .before .before .before .before .before .before .before .before .before .args .base) (c .before .before .before .before .before .before .before .before .before .args .n) (c .before .before .before .before .before .before .before .before .before .args .executing) (c .before .before .before .before .before .before .before .before .before .args .key) (c .before .before .before .before .before .before .before .before .before .args .line) (c .before .before .before .before .before .before .before .before .before .pre .inside) (c .before .before .before .before .before .before .before .before .before .pre .valid) (c .before .before .before .before .before .before .judge-notice .ensures) (c .before .before .before .before .m .given .1))
 
 move-kept-requires : tie.Need-move-kept-requires
 move-kept-requires c κs =
