@@ -22,20 +22,18 @@ use Rattle.replacing.specs.declared.Naming.{Naming}
 use Rattle.replacing.specs.Replacing.{namingsOf, namings, lineNamedIn, namedAt, namedCode, withReplacedAt, withReplaced, firstCode, replaceCode, replacedBy}
 use Rattle.replacing.specs.Inner.{namingAt}
 use Rattle.replacing.proofs.Marks.{in-zero, replaced-length}
-use Rattle.rules.specs.declared.Situation.{Situation}
-use Rattle.rules.specs.declared.Situation.the-variants.{Absent, Annulled, Waiting, Executed}
 use Rattle.rules.specs.declared.Change.{Change}
 use Rattle.rules.specs.declared.Change.the-variants.{Insert, Vary, Annul, Replace}
 use Rattle.rules.specs.declared.Ruling.{Ruling}
 use Rattle.rules.specs.declared.Ruling.the-variants.{Accepted, Refused}
 use Rattle.rules.specs.declared.Noticed.{Noticed}
 use Rattle.rules.specs.declared.Noticed.the-variants.{Moved, Unmoved}
-use Rattle.rules.specs.Rules.{changeOf, situationIn, stepCode, keyFor, unless, stepped, judgeChange, judgeOrder, recordOf, written, movedTo, noticeIn, noticeAt, judgeNotice}
+use Rattle.rules.specs.Rules.{changeOf, keyFor, unless, stepped, judgeChange, judgeOrder, recordOf, written, movedTo, noticeIn, noticeAt, judgeNotice}
 use Rattle.rules.specs.Inner.{recordCode, namesCode, absentCode, newState}
 use Rattle.rules.specs.Effects.{storedAt, besides, recordsBy, recordsMoved}
 use Rattle.rules.specs.Searches.{lookedAt, stepsOf}
-use Rattle.rules.proofs.Judging.{there-is, moved}
-use Rattle.rules.proofs.Codes.{stepped-at, stepped-none, New, absent-zero}
+use Rattle.rules.proofs.Judging.{not-replaced, moved}
+use Rattle.rules.proofs.Codes.{first-stops, unless-stops, stepped-at, stepped-none, New, absent-zero}
 use Rattle.training.specs.Training.{Eight, OrderTaken}
 use Rattle.training.specs.Inner.{onRecord, onNone, Ruled, ChangeTaken, Marks}
 
@@ -56,6 +54,10 @@ taken-low zero l i h = absurd (omega arith)
 taken-low (suc n) [] i h = absurd (omega arith)
 taken-low (suc n) (x ∷ l) zero h = (omega arith, omega arith)
 taken-low (suc n) (x ∷ l) (suc i) h = let r = taken-low n l i (omega arith) in (omega arith, omega arith)
+
+-- the index of one that counts is an index of the array
+pub index-in : {B : Type 0} (f : Record → B) (n : ℕ) (l : List Record) (i m : ℕ) → length (map f l) ≡ m → i < length (take n l) → (length l ≡ m) × (i < length l)
+index-in f n l i m e h = (unmapped f l m e, taken-low n l i h .1)
 
 -- fewer than there are places: they are as many as it says
 pub taken-short : (n : ℕ) (l : List Record) → length (take n l) < length l → n < length l
@@ -131,10 +133,6 @@ pub record Marking (rs₀ rs : List Record) (kind : ℕ) (ls : List Line) (j : �
   pub codes : replaceCode rs (namingsOf kind (drop j ls)) ≡ replaceCode rs₀ (namingsOf kind ls)
   pub lists : replacedBy rs (namingsOf kind (drop j ls)) ≡ replacedBy rs₀ (namingsOf kind ls)
 
-first-stops : (code next : ℕ) → (code ≡ 0 → ⊥) → firstCode code next ≡ code
-first-stops zero next h = absurd (h refl)
-first-stops (suc code) next h = refl
-
 module _ (rs₀ : List Record) (kind : ℕ) (ls : List Line) where
   pub marking-start : Marking rs₀ rs₀ kind ls 0
   marking-start = record { low = omega arith; codes = refl; lists = refl }
@@ -188,17 +186,9 @@ module _ (rs : List Record) (o : Ordinativo) (c : Change) where
 
 -- A CHANGE
 
-unless-stop : (code : ℕ) (next : Ruling) → (code ≡ 0 → ⊥) → unless Refused code next ≡ Refused code
-unless-stop zero next h = absurd (h refl)
-unless-stop (suc code) next h = refl
-
-unless-none : (code steps : ℕ) → (code ≡ 0 → ⊥) → unless (λ c. 0) code steps ≡ 0
-unless-none zero steps h = absurd (h refl)
-unless-none (suc code) steps h = refl
-
 module _ (year : ℕ) (o : Ordinativo) (rs : List Record) (next : Ruling) {code′ code : ℕ} (e : code ≡ code′) where
   ruled-refused : (code ≡ 0 → ⊥) → Ruled year o rs (unless Refused code′ next) (Refused code) rs
-  ruled-refused h = (sym (ap (λ (x : ℕ). unless Refused x next) (sym e) ∙ unless-stop code next h), refl)
+  ruled-refused h = (sym (ap (λ (x : ℕ). unless Refused x next) (sym e) ∙ unless-stops Refused code next h), refl)
 
   ruled-next : {j : Ruling} {rs′ : List Record} → code ≡ 0 → j ≡ next → rs′ ≡ recordsBy year o rs j → Ruled year o rs (unless Refused code′ next) j rs′
   ruled-next h q s = (q ∙ sym (ap (λ (x : ℕ). unless Refused x next) (sym e ∙ h)), s)
@@ -215,17 +205,11 @@ module _ (year : ℕ) (o : Ordinativo) (rs : List Record) (i : ℕ) (c : Change)
   beside : code ≡ 0 → rs ≡ besides c o rs
   beside h = go c (sym record-code ∙ h)
     where
-      there : (s : Situation) → (s ≡ Absent → ⊥) → firstCode (stepCode Replace s) 0 ≡ 0 → ⊥
-      there Absent h e = h refl
-      there Annulled h e = omega arith
-      there Waiting h e = omega arith
-      there Executed h e = omega arith
-
       go : (c : Change) → recordCode c o (nth rs i) ≡ 0 → rs ≡ besides c o rs
       go Insert e = refl
       go Vary e = refl
       go Annul e = refl
-      go Replace e = absurd (there (situationIn (nth rs i)) (there-is (nth rs i)) e)
+      go Replace e = absurd (not-replaced o (nth rs i) e)
 
   pub record-taken : {w : Record} {rs′ : List Record} → code ≡ 0 → w ≡ written year o r c → rs′ ≡ set rs i w → Ruled year o rs (onRecord rs i o c) (Accepted c i) rs′
   record-taken h x s =
@@ -277,7 +261,7 @@ module _ (slots year : ℕ) (o : Ordinativo) (rs : List Record) (c : Change) {co
   pub change-lines : (code ≡ 0 → ⊥) → ChangeTaken slots year o rs c (Refused code) 0 rs
   unfolding stepsOf
   change-lines h =
-      (ruled-refused year o rs (stepped slots o rs c (findIn rs 0 (keyFor year o))) e h, rw (← e) (sym (unless-none code _ h)))
+      (ruled-refused year o rs (stepped slots o rs c (findIn rs 0 (keyFor year o))) e h, rw (← e) (sym (unless-stops (λ c. 0) code _ h)))
 
   module _ {f : Found} (h : code ≡ 0) (g : f ≡ findIn rs 0 (keyFor year o)) where
     by-search : {x : Found} → f ≡ x → judgeChange slots year o rs c ≡ stepped slots o rs c x

@@ -18,7 +18,7 @@ ghost use Rattle.order.specs.Ordinativo.{ordinativo};
 ghost use Rattle.record.specs.Slot.{keyIs, withState};
 ghost use Rattle.slots.specs.Slots.{nth, findIn};
 ghost use Rattle.replacing.specs.Replacing.{namings, namedCode, withReplaced, replaceCode, replacedBy};
-ghost use Rattle.rules.specs.Rules.{movedTo, judgeNotice};
+ghost use Rattle.rules.specs.Rules.{judgeNotice};
 ghost use Rattle.rules.specs.Inner.{namesCode};
 ghost use Rattle.rules.specs.Effects.{besides, recordsMoved};
 ghost use Rattle.training.specs.Training.{places, listOf, Eight, OrderTaken};
@@ -287,16 +287,6 @@ fn judge_notice(b: Book, executing: bool, key: Key, line: u64) -> Noticed
     }
 }
 
-fn moved_to(executing: bool) -> u8
-    ensures { λ r. ⌜ r ≡ movedTo executing ⌝ }
-{
-    if executing {
-        record::EXECUTED
-    } else {
-        record::WAITING
-    }
-}
-
 // Takes a notice: one line's state changes where it is accepted, nothing where it is refused.
 pub fn take_notice(b: Book, executing: bool, key: Key, line: u64) -> NoticeServed
     requires { ⌜ Eight (listOf b) ⌝ }
@@ -305,7 +295,7 @@ pub fn take_notice(b: Book, executing: bool, key: Key, line: u64) -> NoticeServe
     match judge_notice(b, executing, key, line) {
         Noticed::Moved(i, cents) => {
             let k = (line - 1) as usize;
-            let w = with_state(order_at(b, i), k, moved_to(executing));
+            let w = with_state(order_at(b, i), k, rules::moved_to(executing));
             NoticeServed {
                 noticed: Noticed::Moved(i, cents),
                 book: replaced(b, i, w),
