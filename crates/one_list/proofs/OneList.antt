@@ -28,6 +28,22 @@ pub data Answer : Type 0 where
   ofOrders : ℕ → ℕ → List ℕ → Answer
   ofNotice : Noticed → Answer
 
+-- one body alone, kept as S: its calls name no other, and nothing is said of parts
+abbrev pub alone : (S : Type 0) → (Call → S → Answer) → (Call → S → S) → Machine
+alone S answer next = record {
+  State = S;
+  Call = Call;
+  Answer = Answer;
+  Part = Unit {0};
+  Rest = Unit {0};
+  count = 0;
+  who = λ c. none;
+  answer = answer;
+  next = next;
+  part = λ b s. tt;
+  rest = λ s. tt;
+}
+
 -- IN A TABLE: its entry begins at e, its n slots at base
 module _ (e base n : ℕ) where
   abbrev pub tableAnswer : Call → List ℕ → Answer
@@ -39,19 +55,7 @@ module _ (e base n : ℕ) where
   tableAfter (notice executing k line) t = noticeLeaves t e base n executing k line
 
   abbrev pub inTable : Machine
-  inTable = record {
-    State = List ℕ;
-    Call = Call;
-    Answer = Answer;
-    Part = Unit {0};
-    Rest = Unit {0};
-    count = 0;
-    who = λ c. none;
-    answer = tableAnswer;
-    next = tableAfter;
-    part = λ b t. tt;
-    rest = λ t. tt;
-  }
+  inTable = alone (List ℕ) tableAnswer tableAfter
 
 -- AS A LIST, of a body with n slots
 module _ (n : ℕ) where
@@ -64,19 +68,7 @@ module _ (n : ℕ) where
   listAfter (notice executing k line) rs = recordsMoved executing line rs (judgeNotice executing k line rs)
 
   abbrev pub asList : Machine
-  asList = record {
-    State = List Record;
-    Call = Call;
-    Answer = Answer;
-    Part = Unit {0};
-    Rest = Unit {0};
-    count = 0;
-    who = λ c. none;
-    answer = listAnswer;
-    next = listAfter;
-    part = λ b rs. tt;
-    rest = λ rs. tt;
-  }
+  asList = alone (List Record) listAnswer listAfter
 
 -- of a body that calls can be served on, for every sequence of its calls
 pub record OneList : Type 0 where
