@@ -7,8 +7,10 @@ use native.Mathlib.Omega.{arith}
 use lib.ListN.{length, length-append}
 use lib.Dec.{leb}
 use borrow.Author.Tests.{le-leb, lt-leb}
+use Rattle.bounds.specs.Bounds.{maxSlots}
 use Rattle.words.specs.Numbers.{put, bytes2, bytes4}
 use Rattle.words.proofs.Laws.{put-put}
+use Rattle.record.specs.Slot.{slotSize}
 use Rattle.body.specs.Body.{centsOf}
 use Rattle.entries.specs.Entry.{entrySize, entryFixed, keptBytes, closedOf, slotsOf, placeOf}
 use Rattle.table.specs.Table.{table2, headSize, bodies, contentsOk, recordsOf, entryOf}
@@ -30,6 +32,13 @@ module _ (t : List ℕ) (ok : contentsOk table2 t ≡ true) (at left : ℕ) {n :
 
   pub turn : Fits t at
   turn = subst (Fits t) here (fits-of t ok (n - left) (omega arith))
+
+  pub turn-inside : at + entrySize ≤ length t
+  turn-inside = omega (arith, turn .past, turn .inside)
+
+  -- its slots, of the place and the number that were read
+  pub turn-slots : {p s : ℕ} → p ≡ placeOf t at → s ≡ slotsOf t at → (p + slotSize * s ≤ length t) × (s ≤ maxSlots)
+  turn-slots e f = (omega (arith, turn .inside), omega (arith, turn .few))
 
   pub turn-right : contentsOk table2 (bodyRepaired t at) ≡ true
   turn-right = subst (λ (p : ℕ). contentsOk table2 (bodyRepaired t p) ≡ true) here (step-right t ok (n - left) (omega arith))

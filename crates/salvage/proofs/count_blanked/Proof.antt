@@ -7,7 +7,7 @@ use mathlib.Core.Path.{_≡_, refl, sym, ap, _∙_}
 use Rattle.entries.specs.Entry.{entrySize}
 use Rattle.table.specs.Table.{headSize}
 use Rattle.salvage.specs.Salvage.{blanked, blankedIn}
-use Rattle.salvage.proofs.Laws.{turn, few-bodies, count-more, blanked-done}
+use Rattle.salvage.proofs.Laws.{turn-inside, turn-slots, few-bodies, count-more, blanked-done}
 use Rattle.salvage.proofs.count_blanked.Statement.{statement}
 use Rattle.salvage.proofs.count_blanked.Tie as tie
 use Rattle.salvage.proofs.count_blanked.Reads as reads
@@ -29,52 +29,22 @@ loop-holds c =
     (refl, ap (λ (m : ℕ). length (blankedIn (c .before .args .t .now) headSize m)) (sym e) ∙ omega arith, omega arith)
 
 place-of-requires : tie.Need-place-of-requires Inv-loop μ-loop
-place-of-requires c κs =
-    let F = turn (c .before .before .before .args .t .now) (c .before .before .before .pre .0) (c .before .loop .at) (c .before .loop .left) (c .before .before .before .pre .1) (c .before .loop .inv .0) (omega arith) in
-    let p = F .past in
-    let i = F .inside in
-    let w = few-bodies (c .before .before .before .args .t .now) (c .before .before .before .pre .0) in
-    omega arith
+place-of-requires c κs = omega (arith, turn-inside (c .before .before .before .args .t .now) (c .before .before .before .pre .0) (c .before .loop .at) (c .before .loop .left) (c .before .before .before .pre .1) (c .before .loop .inv .0) (omega arith))
 
 slots-of-requires : tie.Need-slots-of-requires Inv-loop μ-loop
-slots-of-requires c κs =
-    let F = turn (c .before .before .before .before .args .t .now) (c .before .before .before .before .pre .0) (c .before .before .loop .at) (c .before .before .loop .left) (c .before .before .before .before .pre .1) (c .before .before .loop .inv .0) (omega arith) in
-    let p = F .past in
-    let i = F .inside in
-    let w = few-bodies (c .before .before .before .before .args .t .now) (c .before .before .before .before .pre .0) in
-    omega arith
+slots-of-requires c κs = omega (arith, turn-inside (c .before .before .before .before .args .t .now) (c .before .before .before .before .pre .0) (c .before .before .loop .at) (c .before .before .loop .left) (c .before .before .before .before .pre .1) (c .before .before .loop .inv .0) (omega arith))
 
 closed-of-requires : tie.Need-closed-of-requires Inv-loop μ-loop
-closed-of-requires c κs =
-    let F = turn (c .before .before .before .before .before .args .t .now) (c .before .before .before .before .before .pre .0) (c .before .before .before .loop .at) (c .before .before .before .loop .left) (c .before .before .before .before .before .pre .1) (c .before .before .before .loop .inv .0) (omega arith) in
-    let p = F .past in
-    let i = F .inside in
-    let w = few-bodies (c .before .before .before .before .before .args .t .now) (c .before .before .before .before .before .pre .0) in
-    omega arith
+closed-of-requires c κs = omega (arith, turn-inside (c .before .before .before .before .before .args .t .now) (c .before .before .before .before .before .pre .0) (c .before .before .before .loop .at) (c .before .before .before .loop .left) (c .before .before .before .before .before .pre .1) (c .before .before .before .loop .inv .0) (omega arith))
 
 blanked-in-requires : tie.Need-blanked-in-requires Inv-loop μ-loop
-blanked-in-requires c κs =
-    let F = turn (c .before .before .before .before .before .before .args .t .now) (c .before .before .before .before .before .before .pre .0) (c .before .before .before .before .loop .at) (c .before .before .before .before .loop .left) (c .before .before .before .before .before .before .pre .1) (c .before .before .before .before .loop .inv .0) (omega arith) in
-    let p = F .past in
-    let i = F .inside in
-    let w = few-bodies (c .before .before .before .before .before .before .args .t .now) (c .before .before .before .before .before .before .pre .0) in
-    (omega (arith, c .before .before .place-of .ensures .0, c .before .slots-of .ensures .0), omega (arith, c .before .slots-of .ensures .0, F .few))
+blanked-in-requires c κs = turn-slots (c .before .before .before .before .before .before .args .t .now) (c .before .before .before .before .before .before .pre .0) (c .before .before .before .before .loop .at) (c .before .before .before .before .loop .left) (c .before .before .before .before .before .before .pre .1) (c .before .before .before .before .loop .inv .0) (omega arith) (c .before .before .place-of .ensures .0) (c .before .slots-of .ensures .0)
 
 add-count : tie.Need-add-count Inv-loop μ-loop
-add-count c =
-    let F = turn (c .before .before .before .before .before .before .before .args .t .now) (c .before .before .before .before .before .before .before .pre .0) (c .before .before .before .before .before .loop .at) (c .before .before .before .before .before .loop .left) (c .before .before .before .before .before .before .before .pre .1) (c .before .before .before .before .before .loop .inv .0) (omega arith) in
-    let p = F .past in
-    let i = F .inside in
-    let w = few-bodies (c .before .before .before .before .before .before .before .args .t .now) (c .before .before .before .before .before .before .before .pre .0) in
-    omega (arith, c .blanked-in .ensures .1, c .before .before .slots-of .ensures .0, F .few, c .before .before .before .before .before .before .before .pre .1)
+add-count c = omega (arith, few-bodies (c .before .before .before .before .before .before .before .args .t .now) (c .before .before .before .before .before .before .before .pre .0), c .before .before .before .before .before .before .before .pre .1)
 
 add-at : tie.Need-add-at Inv-loop μ-loop
-add-at c =
-    let F = turn (c .before .before .before .before .before .before .before .args .t .now) (c .before .before .before .before .before .before .before .pre .0) (c .before .before .before .before .before .loop .at) (c .before .before .before .before .before .loop .left) (c .before .before .before .before .before .before .before .pre .1) (c .before .before .before .before .before .loop .inv .0) (omega arith) in
-    let p = F .past in
-    let i = F .inside in
-    let w = few-bodies (c .before .before .before .before .before .before .before .args .t .now) (c .before .before .before .before .before .before .before .pre .0) in
-    omega (arith, c .before .before .before .before .before .before .before .pre .1)
+add-at c = omega (arith, turn-inside (c .before .before .before .before .before .before .before .args .t .now) (c .before .before .before .before .before .before .before .pre .0) (c .before .before .before .before .before .loop .at) (c .before .before .before .before .before .loop .left) (c .before .before .before .before .before .before .before .pre .1) (c .before .before .before .before .before .loop .inv .0) (omega arith))
 
 sub-left : tie.Need-sub-left Inv-loop μ-loop
 sub-left c = search needs
@@ -84,12 +54,9 @@ loop-less c = search needs
 
 loop-again : tie.Need-loop-again Inv-loop μ-loop
 loop-again c =
-    let F = turn (c .before .before .before .before .before .before .before .args .t .now) (c .before .before .before .before .before .before .before .pre .0) (c .before .before .before .before .before .loop .at) (c .before .before .before .before .before .loop .left) (c .before .before .before .before .before .before .before .pre .1) (c .before .before .before .before .before .loop .inv .0) (omega arith) in
-    let p = F .past in
-    let i = F .inside in
-    let w = few-bodies (c .before .before .before .before .before .before .before .args .t .now) (c .before .before .before .before .before .before .before .pre .0) in
+    let b = turn-slots (c .before .before .before .before .before .before .before .args .t .now) (c .before .before .before .before .before .before .before .pre .0) (c .before .before .before .before .before .loop .at) (c .before .before .before .before .before .loop .left) (c .before .before .before .before .before .before .before .pre .1) (c .before .before .before .before .before .loop .inv .0) (omega arith) (c .before .before .before .place-of .ensures .0) (c .before .before .slots-of .ensures .0) in
     let k = count-more (c .before .before .before .before .before .before .before .args .t .now) (c .before .before .before .before .before .loop .at) (c .before .before .before .before .before .loop .left) (omega arith) (c .before .before .before .place-of .ensures .0) (c .before .before .slots-of .ensures .0) (c .before .closed-of .ensures .0) in
-    (omega arith, c .before .before .before .before .before .loop .inv .1 ∙ omega (arith, c .blanked-in .ensures .0), omega (arith, c .blanked-in .ensures .1, c .before .before .slots-of .ensures .0, F .few))
+    (omega arith, c .before .before .before .before .before .loop .inv .1 ∙ omega (arith, c .blanked-in .ensures .0), omega (arith, c .blanked-in .ensures .1))
 
 returns : tie.Need-returns Inv-loop μ-loop
 returns c =

@@ -11,7 +11,7 @@ use Rattle.table.specs.Table.{headSize}
 use Rattle.keeping.specs.Keeping.{keepsAt, blankedFrom, eachBytes}
 use Rattle.keeping.proofs.Laws.{put-none}
 use Rattle.salvage.specs.Salvage.{blanked, blankedIn}
-use Rattle.salvage.proofs.Laws.{turn, few-bodies, count-more, blanked-more, blanked-done, places-more, each-four}
+use Rattle.salvage.proofs.Laws.{turn-inside, turn-slots, few-bodies, count-more, blanked-more, blanked-done, places-more, each-four}
 use Rattle.salvage.proofs.put_blanked.Statement.{statement}
 use Rattle.salvage.proofs.put_blanked.Tie as tie
 use Rattle.salvage.proofs.put_blanked.Reads as reads
@@ -42,45 +42,22 @@ loop-holds c =
     (refl, ap (λ (m : ℕ). 2 * c .before .before .args .n + 4 * length (blankedIn (c .before .before .args .t .now) headSize m)) (sym e), refl, ap (λ (m : ℕ). put (c .before .before .args .r .now) (2 * c .before .before .args .n) (eachBytes bytes4 (blankedIn (c .before .before .args .t .now) headSize m))) (sym e))
 
 place-of-requires : tie.Need-place-of-requires Inv-loop μ-loop
-place-of-requires c κs =
-    let F = turn (c .before .before .before .before .args .t .now) (c .before .before .before .before .pre .0) (c .before .loop .at) (c .before .loop .left) (c .before .before .before .before .pre .1) (c .before .loop .inv .0) (omega arith) in
-    let p = F .past in
-    let i = F .inside in
-    let w = few-bodies (c .before .before .before .before .args .t .now) (c .before .before .before .before .pre .0) in
-    omega arith
+place-of-requires c κs = omega (arith, turn-inside (c .before .before .before .before .args .t .now) (c .before .before .before .before .pre .0) (c .before .loop .at) (c .before .loop .left) (c .before .before .before .before .pre .1) (c .before .loop .inv .0) (omega arith))
 
 slots-of-requires : tie.Need-slots-of-requires Inv-loop μ-loop
-slots-of-requires c κs =
-    let F = turn (c .before .before .before .before .before .args .t .now) (c .before .before .before .before .before .pre .0) (c .before .before .loop .at) (c .before .before .loop .left) (c .before .before .before .before .before .pre .1) (c .before .before .loop .inv .0) (omega arith) in
-    let p = F .past in
-    let i = F .inside in
-    let w = few-bodies (c .before .before .before .before .before .args .t .now) (c .before .before .before .before .before .pre .0) in
-    omega arith
+slots-of-requires c κs = omega (arith, turn-inside (c .before .before .before .before .before .args .t .now) (c .before .before .before .before .before .pre .0) (c .before .before .loop .at) (c .before .before .loop .left) (c .before .before .before .before .before .pre .1) (c .before .before .loop .inv .0) (omega arith))
 
 closed-of-requires : tie.Need-closed-of-requires Inv-loop μ-loop
-closed-of-requires c κs =
-    let F = turn (c .before .before .before .before .before .before .args .t .now) (c .before .before .before .before .before .before .pre .0) (c .before .before .before .loop .at) (c .before .before .before .loop .left) (c .before .before .before .before .before .before .pre .1) (c .before .before .before .loop .inv .0) (omega arith) in
-    let p = F .past in
-    let i = F .inside in
-    let w = few-bodies (c .before .before .before .before .before .before .args .t .now) (c .before .before .before .before .before .before .pre .0) in
-    omega arith
+closed-of-requires c κs = omega (arith, turn-inside (c .before .before .before .before .before .before .args .t .now) (c .before .before .before .before .before .before .pre .0) (c .before .before .before .loop .at) (c .before .before .before .loop .left) (c .before .before .before .before .before .before .pre .1) (c .before .before .before .loop .inv .0) (omega arith))
 
 places-in-requires : tie.Need-places-in-requires Inv-loop μ-loop
 places-in-requires c κs =
-    let F = turn (c .before .before .before .before .before .before .before .before .args .t .now) (c .before .before .before .before .before .before .before .before .pre .0) (c .before .before .before .before .before .loop .at) (c .before .before .before .before .before .loop .left) (c .before .before .before .before .before .before .before .before .pre .1) (c .before .before .before .before .before .loop .inv .0) (omega arith) in
-    let p = F .past in
-    let i = F .inside in
-    let w = few-bodies (c .before .before .before .before .before .before .before .before .args .t .now) (c .before .before .before .before .before .before .before .before .pre .0) in
+    let b = turn-slots (c .before .before .before .before .before .before .before .before .args .t .now) (c .before .before .before .before .before .before .before .before .pre .0) (c .before .before .before .before .before .loop .at) (c .before .before .before .before .before .loop .left) (c .before .before .before .before .before .before .before .before .pre .1) (c .before .before .before .before .before .loop .inv .0) (omega arith) (c .before .before .before .place-of .ensures .0) (c .before .before .slots-of .ensures .0) in
     let k = count-more (c .before .before .before .before .before .before .before .before .args .t .now) (c .before .before .before .before .before .loop .at) (c .before .before .before .before .before .loop .left) (omega arith) (c .before .before .before .place-of .ensures .0) (c .before .before .slots-of .ensures .0) (c .before .closed-of .ensures .0) in
-    (omega (arith, c .before .before .before .place-of .ensures .0, c .before .before .slots-of .ensures .0), omega (arith, c .before .before .slots-of .ensures .0, F .few), omega (arith, c .before .before .before .before .before .loop .inv .1, c .before .before .before .before .before .loop .inv .2))
+    (b .0, b .1, omega (arith, c .before .before .before .before .before .loop .inv .1, c .before .before .before .before .before .loop .inv .2))
 
 add-at : tie.Need-add-at Inv-loop μ-loop
-add-at c =
-    let F = turn (c .before .before .before .before .before .before .before .before .before .before .before .args .t .now) (c .before .before .before .before .before .before .before .before .before .before .before .pre .0) (c .before .before .before .before .before .before .before .before .loop .at) (c .before .before .before .before .before .before .before .before .loop .left) (c .before .before .before .before .before .before .before .before .before .before .before .pre .1) (c .before .before .before .before .before .before .before .before .loop .inv .0) (omega arith) in
-    let p = F .past in
-    let i = F .inside in
-    let w = few-bodies (c .before .before .before .before .before .before .before .before .before .before .before .args .t .now) (c .before .before .before .before .before .before .before .before .before .before .before .pre .0) in
-    omega (arith, c .before .before .before .before .before .before .before .before .before .before .before .pre .1)
+add-at c = omega (arith, turn-inside (c .before .before .before .before .before .before .before .before .before .before .before .args .t .now) (c .before .before .before .before .before .before .before .before .before .before .before .pre .0) (c .before .before .before .before .before .before .before .before .loop .at) (c .before .before .before .before .before .before .before .before .loop .left) (c .before .before .before .before .before .before .before .before .before .before .before .pre .1) (c .before .before .before .before .before .before .before .before .loop .inv .0) (omega arith))
 
 sub-left : tie.Need-sub-left Inv-loop μ-loop
 sub-left c = search needs

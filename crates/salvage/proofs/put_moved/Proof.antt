@@ -11,7 +11,7 @@ use Rattle.table.specs.Table.{headSize}
 use Rattle.keeping.specs.Keeping.{eachBytes}
 use Rattle.keeping.proofs.Laws.{put-more, put-none}
 use Rattle.salvage.specs.Salvage.{movedIn}
-use Rattle.salvage.proofs.Laws.{turn, few-bodies, moved-more, moved-done}
+use Rattle.salvage.proofs.Laws.{turn-inside, turn-slots, few-bodies, moved-more, moved-done}
 use Rattle.salvage.proofs.put_moved.Statement.{statement}
 use Rattle.salvage.proofs.put_moved.Tie as tie
 use Rattle.salvage.proofs.put_moved.Reads as reads
@@ -36,55 +36,25 @@ loop-holds : tie.Need-loop-holds Inv-loop μ-loop
 loop-holds c = (refl, omega arith, refl, refl)
 
 place-of-requires : tie.Need-place-of-requires Inv-loop μ-loop
-place-of-requires c κs =
-    let F = turn (c .before .before .before .before .args .t .now) (c .before .before .before .before .pre .0) (c .before .loop .at) (c .before .loop .left) (c .before .before .before .before .pre .1) (c .before .loop .inv .0) (omega arith) in
-    let p = F .past in
-    let i = F .inside in
-    let w = few-bodies (c .before .before .before .before .args .t .now) (c .before .before .before .before .pre .0) in
-    omega arith
+place-of-requires c κs = omega (arith, turn-inside (c .before .before .before .before .args .t .now) (c .before .before .before .before .pre .0) (c .before .loop .at) (c .before .loop .left) (c .before .before .before .before .pre .1) (c .before .loop .inv .0) (omega arith))
 
 slots-of-requires : tie.Need-slots-of-requires Inv-loop μ-loop
-slots-of-requires c κs =
-    let F = turn (c .before .before .before .before .before .args .t .now) (c .before .before .before .before .before .pre .0) (c .before .before .loop .at) (c .before .before .loop .left) (c .before .before .before .before .before .pre .1) (c .before .before .loop .inv .0) (omega arith) in
-    let p = F .past in
-    let i = F .inside in
-    let w = few-bodies (c .before .before .before .before .before .args .t .now) (c .before .before .before .before .before .pre .0) in
-    omega arith
+slots-of-requires c κs = omega (arith, turn-inside (c .before .before .before .before .before .args .t .now) (c .before .before .before .before .before .pre .0) (c .before .before .loop .at) (c .before .before .loop .left) (c .before .before .before .before .before .pre .1) (c .before .before .loop .inv .0) (omega arith))
 
 closed-of-requires : tie.Need-closed-of-requires Inv-loop μ-loop
-closed-of-requires c κs =
-    let F = turn (c .before .before .before .before .before .before .args .t .now) (c .before .before .before .before .before .before .pre .0) (c .before .before .before .loop .at) (c .before .before .before .loop .left) (c .before .before .before .before .before .before .pre .1) (c .before .before .before .loop .inv .0) (omega arith) in
-    let p = F .past in
-    let i = F .inside in
-    let w = few-bodies (c .before .before .before .before .before .before .args .t .now) (c .before .before .before .before .before .before .pre .0) in
-    omega arith
+closed-of-requires c κs = omega (arith, turn-inside (c .before .before .before .before .before .before .args .t .now) (c .before .before .before .before .before .before .pre .0) (c .before .before .before .loop .at) (c .before .before .before .loop .left) (c .before .before .before .before .before .before .pre .1) (c .before .before .before .loop .inv .0) (omega arith))
 
 moved-in-requires : tie.Need-moved-in-requires Inv-loop μ-loop
-moved-in-requires c κs =
-    let F = turn (c .before .before .before .before .before .before .before .before .args .t .now) (c .before .before .before .before .before .before .before .before .pre .0) (c .before .before .before .before .before .loop .at) (c .before .before .before .before .before .loop .left) (c .before .before .before .before .before .before .before .before .pre .1) (c .before .before .before .before .before .loop .inv .0) (omega arith) in
-    let p = F .past in
-    let i = F .inside in
-    let w = few-bodies (c .before .before .before .before .before .before .before .before .args .t .now) (c .before .before .before .before .before .before .before .before .pre .0) in
-    (omega (arith, c .before .before .before .place-of .ensures .0, c .before .before .slots-of .ensures .0), omega (arith, c .before .before .slots-of .ensures .0, F .few))
+moved-in-requires c κs = turn-slots (c .before .before .before .before .before .before .before .before .args .t .now) (c .before .before .before .before .before .before .before .before .pre .0) (c .before .before .before .before .before .loop .at) (c .before .before .before .before .before .loop .left) (c .before .before .before .before .before .before .before .before .pre .1) (c .before .before .before .before .before .loop .inv .0) (omega arith) (c .before .before .before .place-of .ensures .0) (c .before .before .slots-of .ensures .0)
 
 write2-requires : tie.Need-write2-requires Inv-loop μ-loop
 write2-requires c κs = omega (arith, c .before .before .before .before .before .before .loop .inv .1, c .before .before .before .before .before .before .loop .inv .2)
 
 add-to : tie.Need-add-to Inv-loop μ-loop
-add-to c =
-    let F = turn (c .before .before .before .before .before .before .before .before .before .before .before .before .args .t .now) (c .before .before .before .before .before .before .before .before .before .before .before .before .pre .0) (c .before .before .before .before .before .before .before .before .before .loop .at) (c .before .before .before .before .before .before .before .before .before .loop .left) (c .before .before .before .before .before .before .before .before .before .before .before .before .pre .1) (c .before .before .before .before .before .before .before .before .before .loop .inv .0) (omega arith) in
-    let p = F .past in
-    let i = F .inside in
-    let w = few-bodies (c .before .before .before .before .before .before .before .before .before .before .before .before .args .t .now) (c .before .before .before .before .before .before .before .before .before .before .before .before .pre .0) in
-    omega (arith, c .before .before .before .before .before .before .before .before .before .loop .inv .1, c .before .before .before .before .before .before .before .before .before .before .before .before .pre .1)
+add-to c = omega (arith, few-bodies (c .before .before .before .before .before .before .before .before .before .before .before .before .args .t .now) (c .before .before .before .before .before .before .before .before .before .before .before .before .pre .0), c .before .before .before .before .before .before .before .before .before .loop .inv .1, c .before .before .before .before .before .before .before .before .before .before .before .before .pre .1)
 
 add-at : tie.Need-add-at Inv-loop μ-loop
-add-at c =
-    let F = turn (c .before .before .before .before .before .before .before .before .before .before .before .before .args .t .now) (c .before .before .before .before .before .before .before .before .before .before .before .before .pre .0) (c .before .before .before .before .before .before .before .before .before .loop .at) (c .before .before .before .before .before .before .before .before .before .loop .left) (c .before .before .before .before .before .before .before .before .before .before .before .before .pre .1) (c .before .before .before .before .before .before .before .before .before .loop .inv .0) (omega arith) in
-    let p = F .past in
-    let i = F .inside in
-    let w = few-bodies (c .before .before .before .before .before .before .before .before .before .before .before .before .args .t .now) (c .before .before .before .before .before .before .before .before .before .before .before .before .pre .0) in
-    omega (arith, c .before .before .before .before .before .before .before .before .before .before .before .before .pre .1)
+add-at c = omega (arith, turn-inside (c .before .before .before .before .before .before .before .before .before .before .before .before .args .t .now) (c .before .before .before .before .before .before .before .before .before .before .before .before .pre .0) (c .before .before .before .before .before .before .before .before .before .loop .at) (c .before .before .before .before .before .before .before .before .before .loop .left) (c .before .before .before .before .before .before .before .before .before .before .before .before .pre .1) (c .before .before .before .before .before .before .before .before .before .loop .inv .0) (omega arith))
 
 sub-left : tie.Need-sub-left Inv-loop μ-loop
 sub-left c = search needs
