@@ -2,15 +2,15 @@ use mathlib.Core.Path.{sym}
 use native.Mathlib.Omega.{arith}
 use lib.Seq.{length-take-le}
 use borrow.Author.Needs.{needs}
-use Rattle.cases_journal.proofs.run_line.Statement.{statement}
-use Rattle.cases_journal.proofs.run_line.Tie as tie
-use Rattle.cases_journal.proofs.run_line.Reads as reads
-use Rattle.cases_journal.proofs.run_line.Lts as lts
+use Rattle.deskbook.proofs.run_line.Statement.{statement}
+use Rattle.deskbook.proofs.run_line.Tie as tie
+use Rattle.deskbook.proofs.run_line.Reads as reads
+use Rattle.deskbook.proofs.run_line.Lts as lts
 use Rattle.casebook.proofs.bytes.Reads as bytes-reads
 use Rattle.casebook.proofs.find.Reads as find-reads
 use Rattle.casebook.proofs.number.Reads as number-reads
-use Rattle.cases_journal.proofs.run_call.Reads as run-call-reads
-use Rattle.cases_journal.proofs.run_open.Reads as run-open-reads
+use Rattle.deskbook.proofs.run_call.Reads as run-call-reads
+use Rattle.deskbook.proofs.run_open.Reads as run-open-reads
 use Rattle.scan.proofs.same.Reads as same-reads
 
 find-requires : tie.Need-find-requires

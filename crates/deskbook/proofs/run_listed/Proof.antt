@@ -2,11 +2,11 @@ use mathlib.Core.Path.{sym}
 use native.Mathlib.Omega.{arith}
 use lib.Seq.{length-take-le}
 use borrow.Author.Needs.{needs}
-use Rattle.cases_journal.proofs.run_front.Statement.{statement}
-use Rattle.cases_journal.proofs.run_front.Tie as tie
-use Rattle.cases_journal.proofs.run_front.Reads as reads
-use Rattle.cases_journal.proofs.run_front.Lts as lts
-use Rattle.cases_journal.proofs.say_journal.Reads as say-journal-reads
+use Rattle.deskbook.proofs.run_listed.Statement.{statement}
+use Rattle.deskbook.proofs.run_listed.Tie as tie
+use Rattle.deskbook.proofs.run_listed.Reads as reads
+use Rattle.deskbook.proofs.run_listed.Lts as lts
+use Rattle.deskbook.proofs.say_journal.Reads as say-journal-reads
 
 slice-aggregate-say-journal : tie.Need-slice-aggregate-say-journal
 slice-aggregate-say-journal c = search needs
@@ -29,8 +29,8 @@ say-journal-requires-2 c κs = search needs
 returns-2 : tie.Need-returns-2
 returns-2 c = search needs
 
-pub run-front-spec : {M : Type 1} → statement M
-run-front-spec =
+pub run-listed-spec : {M : Type 1} → statement M
+run-listed-spec =
     tie.close
     (tie.spec
     slice-aggregate-say-journal

@@ -3,15 +3,15 @@ use mathlib.Core.Path.{_≡_, refl}
 use Prim.Native.Nat.{_≤_, _-_}
 use native.Mathlib.Omega.{arith}
 use lib.ListN.{length}
-use Rattle.cases_desk.proofs.run_lines.Statement.{statement}
-use Rattle.cases_desk.proofs.run_lines.Tie as tie
-use Rattle.cases_desk.proofs.run_lines.Reads as reads
-use Rattle.cases_desk.proofs.run_lines.Lts as lts
+use Rattle.deskbook.proofs.run_lines.Statement.{statement}
+use Rattle.deskbook.proofs.run_lines.Tie as tie
+use Rattle.deskbook.proofs.run_lines.Reads as reads
+use Rattle.deskbook.proofs.run_lines.Lts as lts
 use Rattle.casebook.proofs.line_end.Reads as line-end-reads
 use Rattle.casebook.proofs.next_line.Reads as next-line-reads
 use Rattle.casebook.proofs.say.Reads as say-reads
 use Rattle.casebook.proofs.say_column.Reads as say-column-reads
-use Rattle.cases_desk.proofs.run_line.Reads as run-line-reads
+use Rattle.deskbook.proofs.run_line.Reads as run-line-reads
 use Rattle.casebook.proofs.say_expected.Reads as say-expected-reads
 
 abbrev Inv-loop : tie.InvT-loop
