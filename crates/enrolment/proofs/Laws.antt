@@ -80,6 +80,10 @@ seat-says t e code {size} {slots} {place} {rs} p q r h c o =
 pub valid-head : (t : List ℕ) → tableOk t ≡ true → Head table2 t
 valid-head t ok = head table2 t (table table2 t ok .head-ok)
 
+-- and each of its n entries lies in it
+pub entry-inside : (t : List ℕ) → tableOk t ≡ true → {n : ℕ} → n ≡ bodies t → (b : ℕ) → b < n → entryOf b + entrySize ≤ length t
+entry-inside t ok e b h = omega (arith, valid-head t ok)
+
 -- A WALK OVER ITS ENTRIES: of n the first b pass a test
 pub record Walking (test : ℕ → Bool) (n b : ℕ) : Type 0 where
   pub low : b ≤ n

@@ -6,7 +6,7 @@ use lib.Dec.{leb}
 use borrow.Author.Tests.{le-leb, lt-leb}
 use Rattle.entries.specs.Entry.{slotsOf}
 use Rattle.training.specs.Training.{places}
-use Rattle.enrolment.proofs.Laws.{valid-head, Walking, walk-start, walk-next, walk-not, walk-done}
+use Rattle.enrolment.proofs.Laws.{valid-head, entry-inside, Walking, walk-start, walk-next, walk-not, walk-done}
 use Rattle.enrolment.proofs.all_small.Statement.{statement}
 use Rattle.enrolment.proofs.all_small.Tie as tie
 
@@ -23,25 +23,13 @@ loop-holds : tie.Need-loop-holds Inv-loop μ-loop
 loop-holds c = walk-start (λ at. leb (slotsOf (c .before .before .args .t .now) at) places) (c .body-count .result)
 
 mul-slots-of : tie.Need-mul-slots-of Inv-loop μ-loop
-mul-slots-of c =
-    let h = valid-head (c .before .before .before .before .args .t .now) (c .before .before .before .before .pre) in
-    let n = c .before .before .body-count .ensures .0 in
-    let w = c .before .loop .inv in
-    omega arith
+mul-slots-of c = omega (arith, entry-inside (c .before .before .before .before .args .t .now) (c .before .before .before .before .pre) (c .before .before .body-count .ensures .0) (c .before .loop .b) (omega arith))
 
 add-slots-of : tie.Need-add-slots-of Inv-loop μ-loop
-add-slots-of c =
-    let h = valid-head (c .before .before .before .before .args .t .now) (c .before .before .before .before .pre) in
-    let n = c .before .before .body-count .ensures .0 in
-    let w = c .before .loop .inv in
-    omega arith
+add-slots-of c = omega (arith, entry-inside (c .before .before .before .before .args .t .now) (c .before .before .before .before .pre) (c .before .before .body-count .ensures .0) (c .before .loop .b) (omega arith))
 
 slots-of-requires : tie.Need-slots-of-requires Inv-loop μ-loop
-slots-of-requires c κs =
-    let h = valid-head (c .before .before .before .before .args .t .now) (c .before .before .before .before .pre) in
-    let n = c .before .before .body-count .ensures .0 in
-    let w = c .before .loop .inv in
-    omega arith
+slots-of-requires c κs = omega (arith, entry-inside (c .before .before .before .before .args .t .now) (c .before .before .before .before .pre) (c .before .before .body-count .ensures .0) (c .before .loop .b) (omega arith))
 
 returns : tie.Need-returns Inv-loop μ-loop
 returns c = walk-not (λ at. leb (slotsOf (c .before .before .before .before .before .before .args .t .now) at) places) (c .before .before .before .before .body-count .result) (c .before .before .before .loop .b) (c .before .before .before .loop .inv) (c .before .before .before .before .body-count .ensures .0) (omega arith) (ap (λ (x : ℕ). leb x places) (sym (c .before .slots-of .ensures .0)) ∙ lt-leb (c .before .slots-of .result) places (omega arith))

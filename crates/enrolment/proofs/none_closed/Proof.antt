@@ -5,7 +5,7 @@ use native.Mathlib.Omega.{arith}
 use lib.Dec.{eqb}
 use borrow.Author.Tests.{eq-eqb, ne-eqb}
 use Rattle.entries.specs.Entry.{closedOf}
-use Rattle.enrolment.proofs.Laws.{valid-head, Walking, walk-start, walk-next, walk-not, walk-done}
+use Rattle.enrolment.proofs.Laws.{valid-head, entry-inside, Walking, walk-start, walk-next, walk-not, walk-done}
 use Rattle.enrolment.proofs.none_closed.Statement.{statement}
 use Rattle.enrolment.proofs.none_closed.Tie as tie
 
@@ -22,25 +22,13 @@ loop-holds : tie.Need-loop-holds Inv-loop μ-loop
 loop-holds c = walk-start (λ at. eqb (closedOf (c .before .before .args .t .now) at) 0) (c .body-count .result)
 
 mul-closed-of : tie.Need-mul-closed-of Inv-loop μ-loop
-mul-closed-of c =
-    let h = valid-head (c .before .before .before .before .args .t .now) (c .before .before .before .before .pre) in
-    let n = c .before .before .body-count .ensures .0 in
-    let w = c .before .loop .inv in
-    omega arith
+mul-closed-of c = omega (arith, entry-inside (c .before .before .before .before .args .t .now) (c .before .before .before .before .pre) (c .before .before .body-count .ensures .0) (c .before .loop .b) (omega arith))
 
 add-closed-of : tie.Need-add-closed-of Inv-loop μ-loop
-add-closed-of c =
-    let h = valid-head (c .before .before .before .before .args .t .now) (c .before .before .before .before .pre) in
-    let n = c .before .before .body-count .ensures .0 in
-    let w = c .before .loop .inv in
-    omega arith
+add-closed-of c = omega (arith, entry-inside (c .before .before .before .before .args .t .now) (c .before .before .before .before .pre) (c .before .before .body-count .ensures .0) (c .before .loop .b) (omega arith))
 
 closed-of-requires : tie.Need-closed-of-requires Inv-loop μ-loop
-closed-of-requires c κs =
-    let h = valid-head (c .before .before .before .before .args .t .now) (c .before .before .before .before .pre) in
-    let n = c .before .before .body-count .ensures .0 in
-    let w = c .before .loop .inv in
-    omega arith
+closed-of-requires c κs = omega (arith, entry-inside (c .before .before .before .before .args .t .now) (c .before .before .before .before .pre) (c .before .before .body-count .ensures .0) (c .before .loop .b) (omega arith))
 
 returns : tie.Need-returns Inv-loop μ-loop
 returns c = walk-not (λ at. eqb (closedOf (c .before .before .before .before .before .before .args .t .now) at) 0) (c .before .before .before .before .body-count .result) (c .before .before .before .loop .b) (c .before .before .before .loop .inv) (c .before .before .before .before .body-count .ensures .0) (omega arith) (ap (λ (x : ℕ). eqb x 0) (sym (c .before .closed-of .ensures .0)) ∙ ne-eqb (c .before .closed-of .result) 0 (c .if1 .taken))

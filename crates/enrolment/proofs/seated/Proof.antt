@@ -8,7 +8,7 @@ use Rattle.table.specs.Table.{headSize}
 use Rattle.table.proofs.Bodies.{body-at}
 use Rattle.room.specs.Room.{listed}
 use Rattle.plain.specs.Says.{listedFrom}
-use Rattle.enrolment.proofs.Laws.{valid-head, small-at, seats-none, seats-more, seats-all}
+use Rattle.enrolment.proofs.Laws.{valid-head, entry-inside, small-at, seats-none, seats-more, seats-all}
 use Rattle.enrolment.proofs.seated.Statement.{statement}
 use Rattle.enrolment.proofs.seated.Tie as tie
 
@@ -28,16 +28,10 @@ loop-holds : tie.Need-loop-holds Inv-loop μ-loop
 loop-holds c = (omega arith, c .before .empty-room .ensures .1, seats-none (c .before .before .before .before .args .t .now) (c .before .empty-room .result .seats))
 
 mul-seat-of : tie.Need-mul-seat-of Inv-loop μ-loop
-mul-seat-of c =
-    let h = valid-head (c .before .before .before .before .before .before .args .t .now) (c .before .before .before .before .before .before .pre .0) in
-    let n = c .before .before .before .before .body-count .ensures .0 in
-    omega arith
+mul-seat-of c = omega (arith, entry-inside (c .before .before .before .before .before .before .args .t .now) (c .before .before .before .before .before .before .pre .0) (c .before .before .before .before .body-count .ensures .0) (c .before .loop .b) (omega arith))
 
 add-seat-of : tie.Need-add-seat-of Inv-loop μ-loop
-add-seat-of c =
-    let h = valid-head (c .before .before .before .before .before .before .args .t .now) (c .before .before .before .before .before .before .pre .0) in
-    let n = c .before .before .before .before .body-count .ensures .0 in
-    omega arith
+add-seat-of c = omega (arith, entry-inside (c .before .before .before .before .before .before .args .t .now) (c .before .before .before .before .before .before .pre .0) (c .before .before .before .before .body-count .ensures .0) (c .before .loop .b) (omega arith))
 
 seat-of-requires : tie.Need-seat-of-requires Inv-loop μ-loop
 seat-of-requires c κs =
