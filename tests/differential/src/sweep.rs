@@ -1,5 +1,7 @@
 //! Cases that leave nothing to chance: every byte of a flow, a table and a request set to every value in turn, every character in a text,
-//! every day and every second at the edges.
+//! every day and every second at the edges, and a flow in the usual shape that leaves it at every tag in turn.
+
+use std::ops::Range;
 
 use reference::markup::is_character;
 use reference::{Body, Date, Form, Kind, Line, LineState, Notice, Order, State, Table};
@@ -73,6 +75,7 @@ pub fn cases() -> impl Iterator<Item = Case> {
         .chain(bytes_of_a_request())
         .chain(bytes_of_an_old_table())
         .chain(flows)
+        .chain([1, 2].into_iter().flat_map(shapes))
         .chain(messages::sweep())
 }
 
@@ -137,8 +140,8 @@ fn bytes_of_a_flow() -> impl Iterator<Item = Vec<u8>> {
     replaced(flow(CREATED, DATE, "1", "R&amp;\u{e0}]".as_bytes(), b"<y></y>"))
 }
 
-/// A flow whose one order replaces both executed lines of the table's reversale 12.
-fn replacement() -> Vec<u8> {
+/// An order that replaces both executed lines of the table's reversale 12.
+fn replacing() -> String {
     let line = |progressivo: u8, amount: &str, named: u8| {
         format!(
             "<informazioni_versante><progressivo_versante>{progressivo}</progressivo_versante><importo_versante>{amount}</importo_versante>\
@@ -149,15 +152,89 @@ fn replacement() -> Vec<u8> {
              </informazioni_versante>"
         )
     };
-    let flow = format!(
-        "<flusso_ordinativi><codice_ABI_BT>01234</codice_ABI_BT><identificativo_flusso>A1</identificativo_flusso>\
-         <data_ora_creazione_flusso>{CREATED}</data_ora_creazione_flusso><codice_ente_BT>000471</codice_ente_BT>\
-         <esercizio>2021</esercizio><reversale><tipo_operazione>SOSTITUZIONE</tipo_operazione><numero_reversale>13</numero_reversale>\
-         <data_reversale>{DATE}</data_reversale><importo_reversale>657.92</importo_reversale>{}{}</reversale></flusso_ordinativi>",
-        line(1, "2.56", 1),
-        line(2, "655.36", 3)
-    );
-    flow.into_bytes()
+    let lines = [line(1, "2.56", 1), line(2, "655.36", 3)].concat();
+    format!(
+        "<reversale><tipo_operazione>SOSTITUZIONE</tipo_operazione><numero_reversale>13</numero_reversale>\
+         <data_reversale>{DATE}</data_reversale><importo_reversale>657.92</importo_reversale>{lines}</reversale>"
+    )
+}
+
+/// A flow of these orders, with nothing between its elements.
+fn tight(edition: u64, orders: &str) -> Vec<u8> {
+    let header = |zone: &str| {
+        format!(
+            "<codice_ABI_BT>01234</codice_ABI_BT><identificativo_flusso>A1</identificativo_flusso>\
+             <data_ora_creazione_flusso>{CREATED}{zone}</data_ora_creazione_flusso><codice_ente_BT>000471</codice_ente_BT>"
+        )
+    };
+    let (attribute, header) = match edition {
+        1 => ("", header("")),
+        _ => (" Id=\"F_1\"", format!("<testata_flusso>{}</testata_flusso>", header("+01:00"))),
+    };
+    format!("<flusso_ordinativi{attribute}>{header}<esercizio>2021</esercizio>{orders}</flusso_ordinativi>").into_bytes()
+}
+
+/// A flow whose one order is a replacement.
+fn replacement() -> Vec<u8> {
+    tight(1, &replacing())
+}
+
+/// A flow in the usual shape: a mandato of two lines, a reversale and a replacement.
+fn usual(edition: u64) -> Vec<u8> {
+    let line = |party: &str, progressivo: u8| {
+        format!(
+            "<informazioni_{party}><progressivo_{party}>{progressivo}</progressivo_{party}><importo_{party}>5.25</importo_{party}>\
+             <{party}><anagrafica_{party}>R</anagrafica_{party}></{party}></informazioni_{party}>"
+        )
+    };
+    let order = |kind: &str, total: &str, lines: &str| {
+        format!(
+            "<{kind}><tipo_operazione>INSERIMENTO</tipo_operazione><numero_{kind}>21</numero_{kind}><data_{kind}>{DATE}</data_{kind}>\
+             <importo_{kind}>{total}</importo_{kind}>{lines}</{kind}>"
+        )
+    };
+    let mandato = order("mandato", "10.50", &[line("beneficiario", 1), line("beneficiario", 2)].concat());
+    tight(edition, &[mandato, order("reversale", "5.25", &line("versante", 1)), replacing()].concat())
+}
+
+/// Where each element of a tight flow stands, and its content.
+fn elements(flow: &[u8]) -> Vec<(Range<usize>, Range<usize>)> {
+    let (mut open, mut all) = (Vec::new(), Vec::new());
+    for (at, _) in flow.iter().enumerate().filter(|&(_, &byte)| byte == b'<') {
+        let past = at + 1 + flow[at..].iter().position(|&byte| byte == b'>').expect("a tag ends");
+        if flow[at + 1] != b'/' {
+            open.push((at, past));
+        } else {
+            let (start, content) = open.pop().expect("an end tag has a start tag");
+            all.push((start..past, content..at));
+        }
+    }
+    all
+}
+
+/// A flow in the usual shape but for one element: something stands before it, in it or at its end, it is missing, stands twice or after
+/// the next one, or holds another text or none.
+fn shapes(edition: u64) -> impl Iterator<Item = Case> {
+    let flow = usual(edition);
+    let table = table().encode();
+    let mut changed = vec![flow.clone()];
+    let mut change = |at: Range<usize>, by: &[u8]| changed.push([&flow[..at.start], by, &flow[at.end..]].concat());
+    for (whole, content) in elements(&flow) {
+        for by in [&b" \n"[..], b"x", b"<x>1</x>", b"<x><y> </y></x>", b"<x>1</y>", b"<mandato></mandato>"] {
+            for at in [whole.start, content.start, content.end] {
+                change(at..at, by);
+            }
+        }
+        change(whole.clone(), b"");
+        change(whole.end..whole.end, &flow[whole.clone()]);
+        if let Some((next, _)) = elements(&flow).into_iter().find(|(next, _)| next.start == whole.end) {
+            change(whole.start..next.end, &[&flow[next.clone()], &flow[whole.clone()]].concat());
+        }
+        for by in [&b""[..], b"0", b"1", b"00000000", b"INSERIMENTO", b"SOSTITUZIONE", b"2021-02-29", b"5.250", b"&amp;"] {
+            change(content.clone(), by);
+        }
+    }
+    changed.into_iter().map(move |flow| Case { table: table.clone(), calls: vec![Call::Flow { edition, flow, room: 48 }] })
 }
 
 /// Each bit of a replacement's flow changed.
@@ -227,5 +304,9 @@ mod tests {
         let base = flow(CREATED, DATE, "1", "R&amp;\u{e0}]".as_bytes(), b"<y></y>");
         assert_eq!(reference::flow(&mut bytes, 1, &base, &mut [0; 16]).accepted, 1);
         assert_eq!(reference::flow(&mut bytes, 1, &replacement(), &mut [0; 16]).accepted, 1);
+        for edition in [1, 2] {
+            let mut bytes = table().encode();
+            assert_eq!(reference::flow(&mut bytes, edition, &usual(edition), &mut [0; 48]).orders, 3);
+        }
     }
 }
