@@ -19,7 +19,6 @@ use Rattle.rows.specs.declared.Kept.{Kept}
 use Rattle.rows.specs.declared.Next.{Next}
 use Rattle.rows.specs.declared.Next.the-variants.{Named, Done}
 use Rattle.rows.specs.Kept.{keptFrom, nextOf}
-use Rattle.children.proofs.Laws.{Lies}
 use Rattle.orders.specs.Orders.{inRow, textIn, valueOf, insideOf}
 use Rattle.parts.specs.declared.Span.{Span}
 use Rattle.parts.specs.Parts.{noSpan, spanOfNext, spanIn, partsIn}
@@ -31,6 +30,10 @@ use Rattle.agreement.specs.declared.EntryKind.{EntryKind}
 use Rattle.agreement.specs.declared.Off.{Off}
 use Rattle.agreement.specs.declared.Off.the-variants.{At, Nowhere}
 use Rattle.agreement.specs.Agreement.{wordsOf, entryParent, errorsParent, entryRow, errorsOffAt, listOff, isThere, wordStands, entryOffAt, orOff, entriesOffAt}
+
+-- where the parent is one of two, by the kind of the entry
+pub parts-by : (s : List ℕ) (i : ℕ) {p q : Parent} {each : List Span} → each ≡ partsIn (keptFrom q s i) → q ≡ p → each ≡ partsIn (keptFrom p s i)
+parts-by s i e h = e ∙ ap (λ (x : Parent). partsIn (keptFrom x s i)) h
 
 -- THE NAME FOR A CODE
 module _ (w : Words) (code : ℕ) where
@@ -141,10 +144,11 @@ module _ (k : EntryKind) (s : List ℕ) (i n : ℕ) (r : n ≡ entryRow k) where
   entries-end e = let z : inRow (entryRow k) (keptFrom MessaggiEsito s i) ≡ [] = row-end _ (rw r at e) in rw z
 
   module _ (x : Kept) (e : nextOf (inRow n (keptFrom MessaggiEsito s i)) ≡ Named x) where
-    pub entries-lie : Lies s i (x .child)
-    entries-lie = row-at n MessaggiEsito s i x e .lies
-
-    pub entries-at : entriesOffAt k s (inRow (entryRow k) (keptFrom MessaggiEsito s i))
-        ≡ orOff (entryOffAt k s (insideOf s x (Rows (entryParent k)))) (entriesOffAt k s (inRow (entryRow k) (keptFrom MessaggiEsito s (x .child .after))))
+    entries-at : entriesAt k s i ≡ orOff (entryOffAt k s (insideOf s x (Rows (entryParent k)))) (entriesAt k s (x .child .after))
     unfolding entriesOffAt
     entries-at = let z = row-at (entryRow k) MessaggiEsito s i x (rw r at e) .rest in rw z
+
+    -- what its content, from j on, comes to
+    pub entries-here : (from : ℕ) {j : ℕ} {y u : Off} → entriesAt k s from ≡ entriesAt k s i → j ≡ whiteAt s (x .child .gt + 1) → y ≡ entryOffAt k s (keptFrom (entryParent k) s j) → y ≡ u
+        → entriesAt k s from ≡ orOff u (entriesAt k s (x .child .after))
+    entries-here from t w o q = t ∙ entries-at ∙ ap (λ (h : Off). orOff h (entriesAt k s (x .child .after))) (sym (o ∙ ap (λ (h : ℕ). entryOffAt k s (keptFrom (entryParent k) s h)) w) ∙ q)

@@ -30,7 +30,7 @@ use Rattle.orders.proofs.Laws.{Order-at, order-at, orders-end}
 use Rattle.texts.specs.Texts.{wholeText, callerText, istatText, callerTime}
 use Rattle.texts.proofs.Laws.{istat-some, text-told}
 use Rattle.message.specs.Message.{TextOk, isOutcome}
-use Rattle.message.specs.From.{Caller, outcomeFits, outcomesFit}
+use Rattle.message.specs.From.{outcomeFits, outcomesFit}
 use Rattle.message_fit.specs.Fit.{callerOk, CallerTold}
 use Rattle.message_fit.specs.Walk.{ordersFrom, Rooted}
 
@@ -123,53 +123,7 @@ module _ {root : Parent} {f past out : List ℕ} {from i at : ℕ} (s : Fitting 
               same = sym (first ∙ rw (long, fits-is, n));
             }
 
--- THE CALLER'S VALUES
-module _ (c : Caller) where
-  pub no-created : {g : Bool} → g ≡ callerTime (c .created) → g ≡ false → false ≡ callerOk c
-  unfolding callerOk
-  no-created e h = sym (rw (← e, h))
-
-  module _ {x0 : Bool} (e0 : x0 ≡ callerTime (c .created)) (h0 : x0 ≡ true) where
-    pub no-outcome : {g : Bool} → g ≡ callerTime (c .outcome) → g ≡ false → false ≡ callerOk c
-    unfolding callerOk
-    no-outcome e h = sym (rw (← e0, h0, ← e, h))
-
-    module _ {x1 : Bool} (e1 : x1 ≡ callerTime (c .outcome)) (h1 : x1 ≡ true) where
-      pub no-ente : {g : Bool} → g ≡ callerText (c .ente) → g ≡ false → false ≡ callerOk c
-      unfolding callerOk
-      no-ente e h = sym (rw (← e0, h0, ← e1, h1, ← e, h))
-
-      module _ {x2 : Bool} (e2 : x2 ≡ callerText (c .ente)) (h2 : x2 ≡ true) where
-        pub no-described : {g : Bool} → g ≡ callerText (c .described) → g ≡ false → false ≡ callerOk c
-        unfolding callerOk
-        no-described e h = sym (rw (← e0, h0, ← e1, h1, ← e2, h2, ← e, h))
-
-        module _ {x3 : Bool} (e3 : x3 ≡ callerText (c .described)) (h3 : x3 ≡ true) where
-          pub no-istat : {g : Bool} → g ≡ istatText (c .istat) → g ≡ false → false ≡ callerOk c
-          unfolding callerOk
-          no-istat e h = sym (rw (← e0, h0, ← e1, h1, ← e2, h2, ← e3, h3, ← e, h))
-
-          module _ {x4 : Bool} (e4 : x4 ≡ istatText (c .istat)) (h4 : x4 ≡ true) where
-            pub no-fiscal : {g : Bool} → g ≡ callerText (c .fiscal) → g ≡ false → false ≡ callerOk c
-            unfolding callerOk
-            no-fiscal e h = sym (rw (← e0, h0, ← e1, h1, ← e2, h2, ← e3, h3, ← e4, h4, ← e, h))
-
-            module _ {x5 : Bool} (e5 : x5 ≡ callerText (c .fiscal)) (h5 : x5 ≡ true) where
-              pub no-tramiteEnte : {g : Bool} → g ≡ callerText (c .tramiteEnte) → g ≡ false → false ≡ callerOk c
-              unfolding callerOk
-              no-tramiteEnte e h = sym (rw (← e0, h0, ← e1, h1, ← e2, h2, ← e3, h3, ← e4, h4, ← e5, h5, ← e, h))
-
-              module _ {x6 : Bool} (e6 : x6 ≡ callerText (c .tramiteEnte)) (h6 : x6 ≡ true) where
-                pub no-tramiteBT : {g : Bool} → g ≡ callerText (c .tramiteBT) → g ≡ false → false ≡ callerOk c
-                unfolding callerOk
-                no-tramiteBT e h = sym (rw (← e0, h0, ← e1, h1, ← e2, h2, ← e3, h3, ← e4, h4, ← e5, h5, ← e6, h6, ← e, h))
-
-                module _ {x7 : Bool} (e7 : x7 ≡ callerText (c .tramiteBT)) (h7 : x7 ≡ true) where
-                  pub all-values : {g : Bool} → g ≡ callerText (c .flowBT) → g ≡ callerOk c
-                  unfolding callerOk
-                  all-values e = sym (rw (← e0, h0, ← e1, h1, ← e2, h2, ← e3, h3, ← e4, h4, ← e5, h5, ← e6, h6, ← e7, h7, ← e))
-
--- WHAT THEY TELL
+-- WHAT THE TESTS OF THE CALLER'S VALUES TELL
 judged-true : (b : Bool) → judged b ≡ Stands → b ≡ true
 judged-true true e = refl
 judged-true false e = let z : _≡_ {A = ℕ} 0 1 = cc in absurd (omega arith)

@@ -1,10 +1,11 @@
 -- The parts of a message as its writer takes them up: names for the contracts of its functions. What is written is crates/message's.
 use mathlib.Core.List.{List, [], _∷_}
 use mathlib.Core.Bool.{cond}
-use Prim.Native.Nat.{ℕ}
+use Prim.Native.Nat.{ℕ, _≤_}
 use Prim.Native.String.{String}
+use lib.ListN.{length}
 use lib.Dec.{eqb}
-use Rattle.scan.specs.Bytes.{bytes}
+use Rattle.scan.specs.Bytes.{bytes, part}
 use Rattle.tree.specs.Tree.{Tree, Trees, none, more}
 use Rattle.tree.specs.Orders.{Words, mandatoWords, reversaleWords}
 use Rattle.tree.specs.Written.{leaf, node, bytesOf, bytesAll}
@@ -12,7 +13,9 @@ use Rattle.pen.specs.Pen.{Wrote, Room}
 use Rattle.pen.specs.Decimal.{fixed, decimal, amount, dated}
 use Rattle.message.specs.Message.{Entry, Message, isAccepted, wordOf, numberName, dateName}
 use Rattle.message.specs.Written.{_and_, errorsOut, entryOut, istatOut, headOut}
+use Rattle.header.specs.declared.Span.{Span}
 use Rattle.message_pen.specs.declared.Saying.{Saying}
+use Rattle.message_pen.specs.declared.Given.{Given}
 
 -- room for elements, and elements written from `at` on, up to r: as the pen's Room and Wrote, of their bytes
 pub record RoomFor (at : ℕ) (ts : Trees) : Type 0 where
@@ -73,36 +76,56 @@ outcomeOut v time =
     and leaf "data_ora_esito_operazione" time
     and errorsOut (wordsFor (v .kind)) (v .code) (isAccepted (v .code))
 
+-- the text at a place of its writer's bytes, and that the place lies within them
+abbrev pub textAt : List ℕ → Span → List ℕ
+textAt s w = part s (w .from) (w .to)
+
+abbrev pub Lies : List ℕ → Span → Type 0
+Lies s w = (w .from ≤ w .to) × (w .to ≤ length s)
+
+pub record GivenIn (s : List ℕ) (g : Given) : Type 0 where
+  pub created : Lies s (g .created)
+  pub ente : Lies s (g .ente)
+  pub described : Lies s (g .described)
+  pub istat : Lies s (g .istat)
+  pub fiscal : Lies s (g .fiscal)
+  pub tramite : Lies s (g .tramite)
+  pub bank : Lies s (g .bank)
+  pub flow : Lies s (g .flow)
+
 -- a header's elements in three parts
-abbrev pub headFirst : List ℕ → List ℕ → List ℕ → List ℕ → Trees
-headFirst abi created ente described =
+abbrev pub headFirst : List ℕ → List ℕ → Given → Trees
+headFirst abi s g =
     leaf "codice_ABI_BT" abi
-    and leaf "data_ora_creazione_flusso" created
-    and leaf "codice_ente" ente
-    and leaf "descrizione_ente" described
+    and leaf "data_ora_creazione_flusso" (textAt s (g .created))
+    and leaf "codice_ente" (textAt s (g .ente))
+    and leaf "descrizione_ente" (textAt s (g .described))
     and none
 
-abbrev pub headLast : List ℕ → List ℕ → List ℕ → List ℕ → Trees
-headLast fiscal tramite bank body =
-    leaf "codice_fiscale_ente" fiscal
-    and leaf "codice_tramite_ente" tramite
-    and leaf "codice_tramite_BT" bank
+abbrev pub headLast : List ℕ → Given → List ℕ → Trees
+headLast s g body =
+    leaf "codice_fiscale_ente" (textAt s (g .fiscal))
+    and leaf "codice_tramite_ente" (textAt s (g .tramite))
+    and leaf "codice_tramite_BT" (textAt s (g .bank))
     and leaf "codice_ente_BT" body
     and none
 
--- and the whole header of nine texts
-abbrev pub headTree : List ℕ → List ℕ → List ℕ → List ℕ → List ℕ → List ℕ → List ℕ → List ℕ → List ℕ → Tree
-headTree abi created ente described istat fiscal tramite bank body = node "testata_messaggio" (headOut (record {
+-- the whole header, and what stands before the entries: the header, and identificativo_flusso_BT
+abbrev pub headIn : List ℕ → List ℕ → Given → List ℕ → Tree
+headIn abi s g body = node "testata_messaggio" (headOut (record {
   abi = abi;
-  created = created;
-  ente = ente;
-  described = described;
-  istat = istat;
-  fiscal = fiscal;
-  tramiteEnte = tramite;
-  tramiteBT = bank;
+  created = textAt s (g .created);
+  ente = textAt s (g .ente);
+  described = textAt s (g .described);
+  istat = textAt s (g .istat);
+  fiscal = textAt s (g .fiscal);
+  tramiteEnte = textAt s (g .tramite);
+  tramiteBT = textAt s (g .bank);
   body = body;
   flowBT = [];
   reversali = [];
   mandati = [];
 }))
+
+abbrev pub beginningIn : List ℕ → List ℕ → Given → List ℕ → Trees
+beginningIn abi s g body = headIn abi s g body and leaf "identificativo_flusso_BT" (textAt s (g .flow)) and none

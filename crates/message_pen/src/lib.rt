@@ -2,6 +2,7 @@
 // of a flow or of a message.
 use calendar::Date;
 use codes::Operation;
+use header::Span;
 ghost use Rattle.scan.specs.Bytes.{bytes};
 ghost use Rattle.tree.specs.Tree.{tree, holds, none};
 ghost use Rattle.tree.specs.Written.{node};
@@ -9,7 +10,7 @@ ghost use Rattle.pen.specs.Pen.{Wrote, Room, tagged};
 ghost use Rattle.pen.specs.Decimal.{decimal, dated};
 ghost use Rattle.message.specs.Message.{acceptedAs, refusedAs, numberName, dateName, elementName};
 ghost use Rattle.message.specs.Written.{errorOut, entryOut, istatOut};
-ghost use Rattle.message_pen.specs.Parts.{RoomFor, WroteAll, RoomOf, WroteTree, byKind, wordsFor, entryName, entryWith, namedOut, orderOut, outcomeOut, headFirst, headLast, headTree};
+ghost use Rattle.message_pen.specs.Parts.{RoomFor, WroteAll, RoomOf, WroteTree, byKind, wordsFor, entryName, entryWith, namedOut, orderOut, outcomeOut, textAt, Lies, GivenIn, headFirst, headLast, headIn, beginningIn};
 
 // What an entry says but for its texts. Kind: 1 mandato, 2 reversale. Code: 0, or that of the refusal.
 pub struct Saying {
@@ -22,28 +23,49 @@ pub struct Saying {
     pub total: u64,
 }
 
+// Where the texts of a header stand in its writer's bytes, but for the two codes of the flow; and identificativo_flusso_BT, which follows it.
+pub struct Given {
+    pub created: Span,
+    pub ente: Span,
+    pub described: Span,
+    pub istat: Span,
+    pub fiscal: Span,
+    pub tramite: Span,
+    pub bank: Span,
+    pub flow: Span,
+}
+
+// The outcome's word for an operation.
+fn word(m: &mut [u8], at: usize, o: Operation) -> usize
+    requires { ⌜ Room at (bytes (acceptedAs o)) ⌝ }
+    ensures { λ r. ⌜ Wrote (now (m .entry)) (now (m .exit)) at (bytes (acceptedAs o)) r ⌝ }
+{
+    match o {
+        Operation::Inserimento => pen::ink(m, at, b"ACQUISITO"),
+        Operation::Variazione => pen::ink(m, at, b"VARIATO"),
+        Operation::Annullo => pen::ink(m, at, b"ANNULLATO"),
+        Operation::Sostituzione => pen::ink(m, at, b"SOSTITUITO"),
+    }
+}
+
 fn accepted_word(m: &mut [u8], at: usize, o: Operation) -> usize
     requires { ⌜ Room at (tagged (bytes "esito_operazione") (bytes (acceptedAs o))) ⌝ }
     ensures { λ r. ⌜ Wrote (now (m .entry)) (now (m .exit)) at (tagged (bytes "esito_operazione") (bytes (acceptedAs o))) r ⌝ }
 {
-    match o {
-        Operation::Inserimento => pen::leaf(m, at, b"esito_operazione", b"ACQUISITO"),
-        Operation::Variazione => pen::leaf(m, at, b"esito_operazione", b"VARIATO"),
-        Operation::Annullo => pen::leaf(m, at, b"esito_operazione", b"ANNULLATO"),
-        Operation::Sostituzione => pen::leaf(m, at, b"esito_operazione", b"SOSTITUITO"),
-    }
+    let a = pen::open_tag(m, at, b"esito_operazione");
+    let b = word(m, a, o);
+    pen::close_tag(m, b, b"esito_operazione")
 }
 
+// NON before it.
 fn refused_word(m: &mut [u8], at: usize, o: Operation) -> usize
     requires { ⌜ Room at (tagged (bytes "esito_operazione") (bytes (refusedAs o))) ⌝ }
     ensures { λ r. ⌜ Wrote (now (m .entry)) (now (m .exit)) at (tagged (bytes "esito_operazione") (bytes (refusedAs o))) r ⌝ }
 {
-    match o {
-        Operation::Inserimento => pen::leaf(m, at, b"esito_operazione", b"NON ACQUISITO"),
-        Operation::Variazione => pen::leaf(m, at, b"esito_operazione", b"NON VARIATO"),
-        Operation::Annullo => pen::leaf(m, at, b"esito_operazione", b"NON ANNULLATO"),
-        Operation::Sostituzione => pen::leaf(m, at, b"esito_operazione", b"NON SOSTITUITO"),
-    }
+    let a = pen::open_tag(m, at, b"esito_operazione");
+    let b = pen::ink(m, a, b"NON ");
+    let c = word(m, b, o);
+    pen::close_tag(m, c, b"esito_operazione")
 }
 
 // The name of the element that has the error: the flow's, by the order's kind.
@@ -173,75 +195,72 @@ pub fn entry(m: &mut [u8], at: usize, v: Saying, flow: &[u8], time: &[u8]) -> us
     entry_named(m, at, b"esito_mandati", v, flow, time)
 }
 
-fn head_first(
-    m: &mut [u8],
-    at: usize,
-    abi: &[u8],
-    created: &[u8],
-    ente: &[u8],
-    described: &[u8],
-) -> usize
-    requires { ⌜ RoomFor at (headFirst (now abi) (now created) (now ente) (now described)) ⌝ }
-    ensures { λ r. ⌜ WroteAll (now (m .entry)) (now (m .exit)) at
-        (headFirst (now (abi .entry)) (now (created .entry)) (now (ente .entry)) (now (described .entry))) r ⌝ }
+// <name>text</name>, of a text where it stands.
+fn leaf_at(m: &mut [u8], at: usize, name: &[u8], s: &[u8], w: Span) -> usize
+    requires { ⌜ Lies (now s) w × Room at (tagged (now name) (textAt (now s) w)) ⌝ }
+    ensures { λ r. ⌜ Wrote (now (m .entry)) (now (m .exit)) at (tagged (now (name .entry)) (textAt (now (s .entry)) w)) r ⌝ }
 {
+    let text = header::part_at(s, w);
+    pen::leaf(m, at, name, text)
+}
+
+fn head_first(m: &mut [u8], at: usize, abi: &[u8], s: &[u8], g: Given) -> usize
+    requires { ⌜ GivenIn (now s) g × RoomFor at (headFirst (now abi) (now s) g) ⌝ }
+    ensures { λ r. ⌜ WroteAll (now (m .entry)) (now (m .exit)) at (headFirst (now (abi .entry)) (now (s .entry)) g) r ⌝ }
+{
+    let x = g.created;
+    let y = g.ente;
+    let z = g.described;
     let a = pen::leaf(m, at, b"codice_ABI_BT", abi);
-    let b = pen::leaf(m, a, b"data_ora_creazione_flusso", created);
-    let c = pen::leaf(m, b, b"codice_ente", ente);
-    pen::leaf(m, c, b"descrizione_ente", described)
+    let b = leaf_at(m, a, b"data_ora_creazione_flusso", s, x);
+    let c = leaf_at(m, b, b"codice_ente", s, y);
+    leaf_at(m, c, b"descrizione_ente", s, z)
 }
 
 // An empty ISTAT code is left out.
-fn istat_code(m: &mut [u8], at: usize, istat: &[u8]) -> usize
-    requires { ⌜ RoomFor at (istatOut (now istat) none) ⌝ }
-    ensures { λ r. ⌜ WroteAll (now (m .entry)) (now (m .exit)) at (istatOut (now (istat .entry)) none) r ⌝ }
+fn istat_code(m: &mut [u8], at: usize, s: &[u8], w: Span) -> usize
+    requires { ⌜ Lies (now s) w × RoomFor at (istatOut (textAt (now s) w) none) ⌝ }
+    ensures { λ r. ⌜ WroteAll (now (m .entry)) (now (m .exit)) at (istatOut (textAt (now (s .entry)) w) none) r ⌝ }
 {
+    let istat = header::part_at(s, w);
     if istat.len() == 0 {
         return at;
     }
     pen::leaf(m, at, b"codice_istat_ente", istat)
 }
 
-fn head_last(
-    m: &mut [u8],
-    at: usize,
-    fiscal: &[u8],
-    tramite: &[u8],
-    bank: &[u8],
-    body: &[u8],
-) -> usize
-    requires { ⌜ RoomFor at (headLast (now fiscal) (now tramite) (now bank) (now body)) ⌝ }
-    ensures { λ r. ⌜ WroteAll (now (m .entry)) (now (m .exit)) at
-        (headLast (now (fiscal .entry)) (now (tramite .entry)) (now (bank .entry)) (now (body .entry))) r ⌝ }
+fn head_last(m: &mut [u8], at: usize, s: &[u8], g: Given, body: &[u8]) -> usize
+    requires { ⌜ GivenIn (now s) g × RoomFor at (headLast (now s) g (now body)) ⌝ }
+    ensures { λ r. ⌜ WroteAll (now (m .entry)) (now (m .exit)) at (headLast (now (s .entry)) g (now (body .entry))) r ⌝ }
 {
-    let a = pen::leaf(m, at, b"codice_fiscale_ente", fiscal);
-    let b = pen::leaf(m, a, b"codice_tramite_ente", tramite);
-    let c = pen::leaf(m, b, b"codice_tramite_BT", bank);
+    let x = g.fiscal;
+    let y = g.tramite;
+    let z = g.bank;
+    let a = leaf_at(m, at, b"codice_fiscale_ente", s, x);
+    let b = leaf_at(m, a, b"codice_tramite_ente", s, y);
+    let c = leaf_at(m, b, b"codice_tramite_BT", s, z);
     pen::leaf(m, c, b"codice_ente_BT", body)
 }
 
 // The header of a message.
-pub fn head(
-    m: &mut [u8],
-    at: usize,
-    abi: &[u8],
-    created: &[u8],
-    ente: &[u8],
-    described: &[u8],
-    istat: &[u8],
-    fiscal: &[u8],
-    tramite: &[u8],
-    bank: &[u8],
-    body: &[u8],
-) -> usize
-    requires { ⌜ RoomOf at (headTree (now abi) (now created) (now ente) (now described) (now istat) (now fiscal) (now tramite) (now bank) (now body)) ⌝ }
-    ensures { λ r. ⌜ WroteTree (now (m .entry)) (now (m .exit)) at
-        (headTree (now (abi .entry)) (now (created .entry)) (now (ente .entry)) (now (described .entry)) (now (istat .entry)) (now (fiscal .entry))
-        (now (tramite .entry)) (now (bank .entry)) (now (body .entry))) r ⌝ }
+fn head(m: &mut [u8], at: usize, abi: &[u8], s: &[u8], g: Given, body: &[u8]) -> usize
+    requires { ⌜ GivenIn (now s) g × RoomOf at (headIn (now abi) (now s) g (now body)) ⌝ }
+    ensures { λ r. ⌜ WroteTree (now (m .entry)) (now (m .exit)) at (headIn (now (abi .entry)) (now (s .entry)) g (now (body .entry))) r ⌝ }
 {
+    let w = g.istat;
     let a = pen::open_tag(m, at, b"testata_messaggio");
-    let b = head_first(m, a, abi, created, ente, described);
-    let c = istat_code(m, b, istat);
-    let d = head_last(m, c, fiscal, tramite, bank, body);
+    let b = head_first(m, a, abi, s, g);
+    let c = istat_code(m, b, s, w);
+    let d = head_last(m, c, s, g, body);
     pen::close_tag(m, d, b"testata_messaggio")
+}
+
+// What stands before a message's entries.
+pub fn beginning(m: &mut [u8], at: usize, abi: &[u8], s: &[u8], g: Given, body: &[u8]) -> usize
+    requires { ⌜ GivenIn (now s) g × RoomFor at (beginningIn (now abi) (now s) g (now body)) ⌝ }
+    ensures { λ r. ⌜ WroteAll (now (m .entry)) (now (m .exit)) at (beginningIn (now (abi .entry)) (now (s .entry)) g (now (body .entry))) r ⌝ }
+{
+    let w = g.flow;
+    let a = head(m, at, abi, s, g, body);
+    leaf_at(m, a, b"identificativo_flusso_BT", s, w)
 }

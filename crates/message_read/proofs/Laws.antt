@@ -19,7 +19,6 @@ use Rattle.rows.specs.declared.Kept.{Kept}
 use Rattle.rows.specs.declared.Next.the-variants.{Named, Done}
 use Rattle.schema.specs.Table.{nameIs}
 use Rattle.rows.specs.Kept.{keptFrom, nextOf}
-use Rattle.children.proofs.Laws.{Lies}
 use Rattle.orders.specs.Orders.{inRow, insideOf}
 use Rattle.standing.specs.declared.Standing.{Standing}
 use Rattle.standing.specs.declared.Standing.the-variants as standing
@@ -60,13 +59,10 @@ module _ (k : EntryKind) (s : List ℕ) (from : ℕ) where
         (omega arith, omega arith)
 
     module _ (x : Kept) (d : nextOf (inRow r (keptFrom MessaggiEsito s i)) ≡ Named x) where
-      pub count-lies : Lies s i (x .child)
-      count-lies = row-at r MessaggiEsito s i x d .lies
-
       pub count-step : Counted k s from (x .child .after) (n + 1)
       count-step =
           let z = ap (λ (l : List Kept). length l) (row-at (entryRow k) MessaggiEsito s i x (rw e at d) .rest) in
-          let l = count-lies in
+          let l = row-at r MessaggiEsito s i x d .lies in
           let a = t .sum in
           let b = t .few in
           record { within = l .within; sum = omega arith; few = omega (arith, l .from, l .name, l .inner, l .ends) }

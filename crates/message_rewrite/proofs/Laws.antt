@@ -7,16 +7,18 @@ use native.Mathlib.Omega.{arith}
 use lib.ListN.{length}
 use lib.Dec.{eqb}
 use borrow.Author.Tests.{eq-eqb, ne-eqb}
+use Rattle.words.specs.Numbers.{be4}
 use Rattle.codes.specs.declared.Operation.{Operation}
 use Rattle.codes.specs.declared.Operation.the-variants.{Inserimento, Variazione, Annullo, Sostituzione}
 use Rattle.tree.specs.Tree.{Tree, Trees, none, more}
 use Rattle.tree.specs.Written.{node}
-use Rattle.pen.specs.Pen.{Wrote, Room, tagged}
 use Rattle.message.specs.Written.{entryOut}
+use Rattle.header.specs.declared.Span.{Span}
 use Rattle.message_pen.specs.declared.Saying.{Saying}
-use Rattle.message_pen.specs.Parts.{RoomFor, WroteAll, RoomOf, WroteTree, wordsFor, entryName, entryWith, headTree}
+use Rattle.message_pen.specs.declared.Given.{Given}
+use Rattle.message_pen.specs.Parts.{RoomFor, WroteAll, RoomOf, WroteTree, wordsFor, entryName, entryWith, textAt, Lies, GivenIn, beginningIn}
 use Rattle.message_pen.proofs.Laws.{wrote-none, first-room, first-rest, wrote-first}
-use Rattle.message_rewrite.specs.Again.{textShown, operationBy, saidAt, entryAgain, EntryAt, entriesAgain, EntriesAt, no-entries, an-entry, headAgain}
+use Rattle.message_rewrite.specs.Again.{spanAt, textShown, PairAt, operationBy, saidAt, entryAgain, EntryAt, entriesAgain, EntriesAt, no-entries, an-entry, givenAt, headAgain, HeadAt}
 
 -- AN OPERATION by its number
 module _ (n : ℕ) where
@@ -90,22 +92,41 @@ module _ (s v : List ℕ) (n to : ℕ) (m₀ : List ℕ) where
         on = λ u r x. g .on u r (wrote-first w x);
       })
 
--- THE HEADER
-module _ (s v : List ℕ) {abi created ente described istat fiscal tramite bank body : List ℕ} (e₀ : abi ≡ textShown s v 0) (e₁ : created ≡ textShown s v 8) (e₂ : ente ≡ textShown s v 16)
-    (e₃ : described ≡ textShown s v 24) (e₄ : istat ≡ textShown s v 32) (e₅ : fiscal ≡ textShown s v 40) (e₆ : tramite ≡ textShown s v 48) (e₇ : bank ≡ textShown s v 56) (e₈ : body ≡ textShown s v 64) where
-  head-is : headTree abi created ente described istat fiscal tramite bank body ≡ headAgain s v
-  head-is = λ i. headTree (e₀ i) (e₁ i) (e₂ i) (e₃ i) (e₄ i) (e₅ i) (e₆ i) (e₇ i) (e₈ i)
+-- WHAT STANDS BEFORE THE ENTRIES
+pub span-is : (v : List ℕ) (at : ℕ) {a b : ℕ} → a ≡ be4 v at → b ≡ be4 v (at + 4) → _≡_ {A = Span} (record { from = a; to = a + b }) (spanAt v at)
+span-is v at a b = λ i. record { from = a i; to = a i + b i }
 
-  pub head-room : {to : ℕ} → RoomOf to (headAgain s v) → RoomOf to (headTree abi created ente described istat fiscal tramite bank body)
-  head-room {to} h = subst (RoomOf to) (sym head-is) h
+pub given-is : (v : List ℕ) {a b c d e f g h : Span} → a ≡ spanAt v 8 → b ≡ spanAt v 16 → c ≡ spanAt v 24 → d ≡ spanAt v 32 → e ≡ spanAt v 40 → f ≡ spanAt v 48 → g ≡ spanAt v 56 → h ≡ spanAt v 72
+    → _≡_ {A = Given} (record { created = a; ente = b; described = c; istat = d; fiscal = e; tramite = f; bank = g; flow = h }) (givenAt v)
+given-is v a b c d e f g h = λ i. record { created = a i; ente = b i; described = c i; istat = d i; fiscal = e i; tramite = f i; bank = g i; flow = h i }
 
-  pub head-wrote : {m u : List ℕ} {to r : ℕ} → WroteTree m u to (headTree abi created ente described istat fiscal tramite bank body) r → WroteTree m u to (headAgain s v) r
-  head-wrote {m} {u} {to} {r} w = subst (λ (t : Tree). WroteTree m u to t r) head-is w
+pair-lies : {s v : List ℕ} {at : ℕ} → PairAt s v at → Lies s (spanAt v at)
+pair-lies p = let w = p .within in (omega arith, omega arith)
 
--- AN ELEMENT OF TEXT, its text as it is shown
-module _ (n : List ℕ) {x y : List ℕ} (e : x ≡ y) where
-  pub leaf-as : {at : ℕ} → Room at (tagged n y) → Room at (tagged n x)
-  leaf-as {at} h = subst (λ (t : List ℕ). Room at (tagged n t)) (sym e) h
+pub pair-there : {s v : List ℕ} {at : ℕ} {w : Span} → w ≡ spanAt v at → PairAt s v at → Lies s w
+pair-there {s} e p = subst (Lies s) (sym e) (pair-lies p)
 
-  pub leaf-wrote : {m u : List ℕ} {at r : ℕ} → Wrote m u at (tagged n x) r → Wrote m u at (tagged n y) r
-  leaf-wrote {m} {u} {at} {r} w = subst (λ (t : List ℕ). Wrote m u at (tagged n t) r) e w
+pub text-shown : (s v : List ℕ) (at : ℕ) {w : Span} {x : List ℕ} → w ≡ spanAt v at → x ≡ textAt s w → x ≡ textShown s v at
+text-shown s v at e q = q ∙ ap (textAt s) e
+
+pub given-there : (s v : List ℕ) {g : Given} → g ≡ givenAt v → HeadAt s v → GivenIn s g
+given-there s v e h = subst (GivenIn s) (sym e) (record {
+  created = pair-lies (h .created);
+  ente = pair-lies (h .ente);
+  described = pair-lies (h .described);
+  istat = pair-lies (h .istat);
+  fiscal = pair-lies (h .fiscal);
+  tramite = pair-lies (h .tramiteEnte);
+  bank = pair-lies (h .tramiteBT);
+  flow = pair-lies (h .flowBT);
+})
+
+module _ (s v : List ℕ) {abi body : List ℕ} {g : Given} (a : abi ≡ textShown s v 0) (b : body ≡ textShown s v 64) (e : g ≡ givenAt v) where
+  head-is : beginningIn abi s g body ≡ headAgain s v
+  head-is = λ i. beginningIn (a i) s (e i) (b i)
+
+  pub head-room : {to : ℕ} → RoomFor to (headAgain s v) → RoomFor to (beginningIn abi s g body)
+  head-room {to} h = subst (RoomFor to) (sym head-is) h
+
+  pub head-wrote : {m u : List ℕ} {to r : ℕ} → WroteAll m u to (beginningIn abi s g body) r → WroteAll m u to (headAgain s v) r
+  head-wrote {m} {u} {to} {r} w = subst (λ (ts : Trees). WroteAll m u to ts r) head-is w

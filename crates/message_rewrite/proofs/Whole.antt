@@ -15,10 +15,10 @@ use Rattle.tree.specs.Tree.{Tree, Trees, none, more, heldOf, kidsIn}
 use Rattle.tree.specs.Orders.{childrenNamed, firstText, textNamed, Words, mandatoWords, reversaleWords}
 use Rattle.tree.specs.Written.{leaf, node}
 use Rattle.message.specs.Message.{Entry, Message, EntryOk, Every, every-none, every-next, entryCount, MessageOk}
-use Rattle.message.specs.Written.{_and_, entriesOut, messageTree}
+use Rattle.message.specs.Written.{_and_, headOut, entriesOut, messageTree}
 use Rattle.message.specs.Read.{firstKids, kidsNamed, entryIn, eachOf, entriesNamed, messageIn, firstBroken, read, refused, byPlace, isMessage, readingOn}
 use Rattle.message.proofs.Blind.{each-length}
-use Rattle.message_pen.specs.Parts.{wordsFor, entryName, headTree}
+use Rattle.message_pen.specs.Parts.{wordsFor, entryName}
 use Rattle.message_read.specs.Values.{shown, shownNamed, testataBytes, entryShown, entriesShown, valuesIn}
 use Rattle.message_rewrite.specs.Again.{textShown, PairAt, entriesAgain, EntriesAt, no-entries, an-entry, messageAgain, HeadAt, AllAt}
 use Rattle.message_rewrite.proofs.Places.{TextAt, AllIn, all-none, DeepAt, root-at, AllOf, none-of, one-of, all-named}
@@ -221,4 +221,4 @@ module _ (s : List ℕ) (short : length s ≤ 65536) (kids : Trees) (deep : AllI
       whole-same =
           let n = all-entries .1 in
           let h = all-ten in
-          λ i. node "messaggi_esito_applicativo" (headTree (h .abi .0 i) (h .created .0 i) (h .ente .0 i) (h .described .0 i) (h .istat .0 i) (h .fiscal .0 i) (h .tramiteEnte .0 i) (h .tramiteBT .0 i) (h .body .0 i) and leaf "identificativo_flusso_BT" (h .flowBT .0 i) and n i)
+          λ i. node "messaggi_esito_applicativo" (node "testata_messaggio" (headOut (record { abi = h .abi .0 i; created = h .created .0 i; ente = h .ente .0 i; described = h .described .0 i; istat = h .istat .0 i; fiscal = h .fiscal .0 i; tramiteEnte = h .tramiteEnte .0 i; tramiteBT = h .tramiteBT .0 i; body = h .body .0 i; flowBT = []; reversali = []; mandati = [] })) and leaf "identificativo_flusso_BT" (h .flowBT .0 i) and n i)

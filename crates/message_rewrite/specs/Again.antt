@@ -5,20 +5,25 @@ use mathlib.Core.List.{List}
 use mathlib.Core.Bool.{cond}
 use lib.ListN.{length}
 use lib.Dec.{eqb, leb}
-use Rattle.scan.specs.Bytes.{byteAt, part}
+use Rattle.scan.specs.Bytes.{byteAt}
 use Rattle.words.specs.Numbers.{be2, be4, be8, put}
 use Rattle.codes.specs.declared.Operation.{Operation}
 use Rattle.codes.specs.declared.Operation.the-variants.{Inserimento, Variazione, Annullo, Sostituzione}
 use Rattle.tree.specs.Tree.{Tree, Trees, none}
-use Rattle.tree.specs.Written.{leaf, node}
+use Rattle.tree.specs.Written.{node}
 use Rattle.message.specs.Written.{_and_, entryOut}
+use Rattle.header.specs.declared.Span.{Span}
 use Rattle.message_pen.specs.declared.Saying.{Saying}
+use Rattle.message_pen.specs.declared.Given.{Given}
 use Rattle.message_rewrite.specs.declared.RewriteReply.{RewriteReply}
-use Rattle.message_pen.specs.Parts.{wordsFor, entryName, entryWith, headTree}
+use Rattle.message_pen.specs.Parts.{join, wordsFor, entryName, entryWith, textAt, beginningIn}
 
 -- the text that a pair of place and length shows, at a place of the values: a part of the message
+abbrev pub spanAt : List ℕ → ℕ → Span
+spanAt v at = record { from = be4 v at; to = be4 v at + be4 v (at + 4) }
+
 abbrev pub textShown : List ℕ → List ℕ → ℕ → List ℕ
-textShown s v at = part s (be4 v at) (be4 v at + be4 v (at + 4))
+textShown s v at = textAt s (spanAt v at)
 
 -- the pair is there, and what it shows is
 pub record PairAt (s v : List ℕ) (at : ℕ) : Type 0 where
@@ -57,14 +62,24 @@ pub data EntriesAt (s v : List ℕ) : ℕ → ℕ → Type 0 where
   no-entries : {at : ℕ} → EntriesAt s v at 0
   an-entry : {at n : ℕ} → EntryAt s v at → EntriesAt s v (at + 48) n → EntriesAt s v at (suc n)
 
--- THE WHOLE: the header's nine texts, identificativo_flusso_BT, n entries
-abbrev pub headAgain : List ℕ → List ℕ → Tree
-headAgain s v =
-    headTree (textShown s v 0) (textShown s v 8) (textShown s v 16) (textShown s v 24) (textShown s v 32) (textShown s v 40) (textShown s v 48) (textShown s v 56)
-    (textShown s v 64)
+-- THE WHOLE: what stands before the entries, and n entries
+abbrev pub givenAt : List ℕ → Given
+givenAt v = record {
+  created = spanAt v 8;
+  ente = spanAt v 16;
+  described = spanAt v 24;
+  istat = spanAt v 32;
+  fiscal = spanAt v 40;
+  tramite = spanAt v 48;
+  bank = spanAt v 56;
+  flow = spanAt v 72;
+}
+
+abbrev pub headAgain : List ℕ → List ℕ → Trees
+headAgain s v = beginningIn (textShown s v 0) s (givenAt v) (textShown s v 64)
 
 abbrev pub messageAgain : List ℕ → List ℕ → ℕ → Tree
-messageAgain s v n = node "messaggi_esito_applicativo" (headAgain s v and leaf "identificativo_flusso_BT" (textShown s v 72) and entriesAgain s v 80 n)
+messageAgain s v n = node "messaggi_esito_applicativo" (join (headAgain s v) (entriesAgain s v 80 n))
 
 pub record HeadAt (s v : List ℕ) : Type 0 where
   pub abi : PairAt s v 0

@@ -4,14 +4,14 @@ use codes::Operation;
 use editions::Edited;
 use editions::Edition;
 use header::Span;
+use message_pen::Given;
 use message_pen::Saying;
 ghost use mathlib.Core.Path.{_≡_};
 ghost use Prim.Native.Nat.{_+_, _*_, _≤_};
 ghost use lib.ListN.{length};
-ghost use Rattle.words.specs.Numbers.{be4};
 ghost use Rattle.tree.specs.Written.{bytesOf};
 ghost use Rattle.message_pen.specs.Parts.{RoomFor, WroteAll, RoomOf, WroteTree};
-ghost use Rattle.message_rewrite.specs.Again.{textShown, PairAt, operationBy, saidAt, entryAgain, EntryAt, entriesAgain, EntriesAt, headAgain, HeadAt, messageAgain, AllAt, againReply, againBuffer};
+ghost use Rattle.message_rewrite.specs.Again.{spanAt, textShown, PairAt, operationBy, saidAt, entryAgain, EntryAt, entriesAgain, EntriesAt, givenAt, headAgain, HeadAt, messageAgain, AllAt, againReply, againBuffer};
 ghost use Rattle.message_rewrite.specs.Promise.{RewriteIn, RewritePromise};
 
 // Document 02's numbers of an answer.
@@ -23,7 +23,7 @@ pub struct RewriteReply {
 // Where the text stands that a pair of place and length shows.
 fn span_at(v: &[u8], at: usize) -> Span
     requires { ⌜ at + 8 ≤ length (now v) ⌝ }
-    ensures { λ r. ⌜ (r .from ≡ be4 (now (v .entry)) at) × (r .to ≡ be4 (now (v .entry)) at + be4 (now (v .entry)) (at + 4)) ⌝ }
+    ensures { λ r. ⌜ r ≡ spanAt (now (v .entry)) at ⌝ }
 {
     let from = words::read4(v, at) as usize;
     let length = words::read4(v, at + 4) as usize;
@@ -111,33 +111,32 @@ fn entries_again(m: &mut [u8], to: usize, s: &[u8], v: &[u8], n: usize) -> usize
     a
 }
 
-// The header.
+// Where the texts of the header stand, and identificativo_flusso_BT.
+fn given_at(v: &[u8]) -> Given
+    requires { ⌜ 80 ≤ length (now v) ⌝ }
+    ensures { λ r. ⌜ r ≡ givenAt (now (v .entry)) ⌝ }
+{
+    Given {
+        created: span_at(v, 8),
+        ente: span_at(v, 16),
+        described: span_at(v, 24),
+        istat: span_at(v, 32),
+        fiscal: span_at(v, 40),
+        tramite: span_at(v, 48),
+        bank: span_at(v, 56),
+        flow: span_at(v, 72),
+    }
+}
+
+// What stands before the entries.
 fn head_again(m: &mut [u8], to: usize, s: &[u8], v: &[u8]) -> usize
-    requires { ⌜ HeadAt (now s) (now v) × RoomOf to (headAgain (now s) (now v)) ⌝ }
-    ensures { λ r. ⌜ WroteTree (now (m .entry)) (now (m .exit)) to (headAgain (now (s .entry)) (now (v .entry))) r ⌝ }
+    requires { ⌜ HeadAt (now s) (now v) × RoomFor to (headAgain (now s) (now v)) ⌝ }
+    ensures { λ r. ⌜ WroteAll (now (m .entry)) (now (m .exit)) to (headAgain (now (s .entry)) (now (v .entry))) r ⌝ }
 {
     let abi = text_at(s, v, 0);
-    let created = text_at(s, v, 8);
-    let ente = text_at(s, v, 16);
-    let described = text_at(s, v, 24);
-    let istat = text_at(s, v, 32);
-    let fiscal = text_at(s, v, 40);
-    let tramite = text_at(s, v, 48);
-    let bank = text_at(s, v, 56);
     let body = text_at(s, v, 64);
-    message_pen::head(
-        m,
-        to,
-        abi,
-        created,
-        ente,
-        described,
-        istat,
-        fiscal,
-        tramite,
-        bank,
-        body,
-    )
+    let g = given_at(v);
+    message_pen::beginning(m, to, abi, s, g, body)
 }
 
 // The whole message.
@@ -147,9 +146,8 @@ fn again(m: &mut [u8], s: &[u8], v: &[u8], n: usize) -> usize
 {
     let a = pen::open_tag(m, 0, b"messaggi_esito_applicativo");
     let b = head_again(m, a, s, v);
-    let c = pen::leaf(m, b, b"identificativo_flusso_BT", text_at(s, v, 72));
-    let d = entries_again(m, c, s, v, n);
-    pen::close_tag(m, d, b"messaggi_esito_applicativo")
+    let c = entries_again(m, b, s, v, n);
+    pen::close_tag(m, c, b"messaggi_esito_applicativo")
 }
 
 fn no_message(code: u64) -> RewriteReply

@@ -2,7 +2,7 @@
 use mathlib.Core.Path.{_≡_, refl, sym, ap, _∙_}
 use mathlib.Core.List.{List, [], _∷_, _++_}
 use mathlib.Core.Bool.{Bool, true, false, cond}
-use Prim.Native.Nat.{ℕ, _+_, _*_, _-_, _≤_, _<_}
+use Prim.Native.Nat.{ℕ, _+_, _*_, _-_, _%_, _≤_, _<_}
 use native.Mathlib.Numerals.{add-one}
 use native.Mathlib.Omega.{arith}
 use lib.ListN.{length, getD, drop, drop-of-length-le}
@@ -18,13 +18,12 @@ use Rattle.digits.specs.declared.Number.{Number}
 use Rattle.digits.specs.declared.Number.the-variants.{Value, NoNumber}
 use Rattle.digits.specs.Digits.{digits, within, esercizio, numero, importo, codiceErrore, isRefusal}
 use Rattle.dates.specs.Dates.{dataOf}
-use Rattle.words.specs.Numbers.{put, bytes4, bytes8}
+use Rattle.words.specs.Numbers.{put, bytes2, bytes4, bytes8}
 use Rattle.words.proofs.Laws.{length-put, put-nil, put-put}
 use Rattle.schema.specs.declared.Parent.the-variants.{MessaggiEsito, TestataMessaggio}
 use Rattle.rows.specs.declared.Kept.{Kept}
 use Rattle.rows.specs.declared.Next.the-variants.{Named, Done}
 use Rattle.rows.specs.Kept.{keptFrom, nextOf}
-use Rattle.children.proofs.Laws.{Lies}
 use Rattle.orders.specs.Orders.{inRow, textIn, valueOf, dateOf, insideOf}
 use Rattle.parts.specs.declared.Span.{Span}
 use Rattle.parts.specs.Parts.{noSpan, spanIn, spansFrom, partsIn, textBy}
@@ -66,6 +65,28 @@ facts-made k s each a b c d n x t = λ i. record { kind = a i; operation = b i; 
 module _ (s : List ℕ) (at : ℕ) where
   pub span-put : (w : Span) {u v : List ℕ} {a b : ℕ} → at + 8 ≤ length s → a ≡ w .from → b ≡ w .to - w .from → u ≡ put s at (bytes4 a) → v ≡ put u (at + 4) (bytes4 b) → v ≡ put s at (spanBytes w)
   span-put w {u} {v} {a} {b} h ea eb eu ev = ev ∙ rw (eu, ea, eb) (put-put s at (bytes4 (w .from)) (bytes4 (w .to - w .from)) (at + 4) (omega arith) refl)
+
+-- WHAT AN ENTRY SAYS, put down a part after the other
+put-after : (s : List ℕ) (at : ℕ) (v w : List ℕ) {u x : List ℕ} → at ≤ length s → u ≡ put s at v → x ≡ put u (at + length v) w → x ≡ put s at (v ++ w)
+put-after s at v w h e g = g ∙ ap (λ (y : List ℕ). put y (at + length v) w) e ∙ put-put s at v w (at + length v) h refl
+
+pub facts-put : (s : List ℕ) (at : ℕ) (f : Facts) {u₁ u₂ u₃ u₄ u₅ u₆ u₇ : List ℕ} → at + 24 ≤ length s → u₁ ≡ put s at (f .kind ∷ f .operation ∷ f .code ∷ 0 ∷ []) → u₂ ≡ put u₁ (at + 4) (bytes2 (f .esercizio))
+    → u₃ ≡ put u₂ (at + 6) (bytes2 0) → u₄ ≡ put u₃ (at + 8) (bytes4 (f .number)) → u₅ ≡ put u₄ (at + 12) (bytes2 (f .date .year)) → u₆ ≡ put u₅ (at + 14) (f .date .month % 256 ∷ f .date .day % 256 ∷ [])
+    → u₇ ≡ put u₆ (at + 16) (bytes8 (f .total)) → u₇ ≡ put s at (factsBytes f)
+facts-put s at f h e₁ e₂ e₃ e₄ e₅ e₆ e₇ =
+    let v₁ = f .kind ∷ f .operation ∷ f .code ∷ 0 ∷ [] in
+    let v₂ = v₁ ++ bytes2 (f .esercizio) in
+    let v₃ = v₂ ++ bytes2 0 in
+    let v₄ = v₃ ++ bytes4 (f .number) in
+    let v₅ = v₄ ++ bytes2 (f .date .year) in
+    let v₆ = v₅ ++ (f .date .month % 256 ∷ f .date .day % 256 ∷ []) in
+    let l : at ≤ length s = omega arith in
+    let a₂ = put-after s at v₁ (bytes2 (f .esercizio)) l e₁ e₂ in
+    let a₃ = put-after s at v₂ (bytes2 0) l a₂ e₃ in
+    let a₄ = put-after s at v₃ (bytes4 (f .number)) l a₃ e₄ in
+    let a₅ = put-after s at v₄ (bytes2 (f .date .year)) l a₄ e₅ in
+    let a₆ = put-after s at v₅ (f .date .month % 256 ∷ f .date .day % 256 ∷ []) l a₅ e₆ in
+    put-after s at v₆ (bytes8 (f .total)) l a₆ e₇
 
 -- AN ENTRY, of its facts and two texts
 module _ (s : List ℕ) (at : ℕ) (f : Facts) (flow time : Span) where
@@ -128,18 +149,16 @@ module _ (k : EntryKind) (s before : List ℕ) (from at : ℕ) (h : at + 48 * le
         (omega arith, sym (put-nil values to) ∙ rw z at (t .rest))
 
     module _ (x : Kept) (e : nextOf (inRow n (keptFrom MessaggiEsito s i)) ≡ Named x) where
-      pub entries-lie : Lies s i (x .child)
-      entries-lie = row-at n MessaggiEsito s i x e .lies
-
       rest-is : entriesOf k s i ≡ x ∷ entriesOf k s (x .child .after)
       rest-is = row-at (entryRow k) MessaggiEsito s i x (rw r at e) .rest
 
       pub entries-room : to + 48 ≤ length values
       entries-room = let z = ap (λ (l : List Kept). length l) rest-is in let p = t .place in let q = t .size in omega arith
 
-      pub entries-step : {u : List ℕ} → u ≡ put values to (entryAt k s (insideOf s x (Rows (entryParent k)))) → Entries k s before from at u (to + 48) (x .child .after)
+      pub entries-step : {u : List ℕ} {j : ℕ} → j ≡ whiteAt s (x .child .gt + 1) → u ≡ put values to (entryAt k s (keptFrom (entryParent k) s j)) → Entries k s before from at u (to + 48) (x .child .after)
       unfolding entriesAt
-      entries-step {u} g =
+      entries-step {u} h g′ =
+          let g : u ≡ put values to (entryAt k s (insideOf s x (Rows (entryParent k)))) = g′ ∙ ap (λ (j : ℕ). put values to (entryAt k s (keptFrom (entryParent k) s j))) h in
           let z = rest-is in
           let l = ap (λ (l : List Kept). length l) z in
           let b = entryAt k s (insideOf s x (Rows (entryParent k))) in
@@ -149,7 +168,7 @@ module _ (k : EntryKind) (s before : List ℕ) (from at : ℕ) (h : at + 48 * le
           let o = entries-room in
           let y : put values to (b ++ entriesAt k s (entriesOf k s (x .child .after))) ≡ put before at (entriesAt k s (entriesOf k s from)) = rw z at (t .rest) in
           let w = put-put values to b (entriesAt k s (entriesOf k s (x .child .after))) (to + 48) (omega arith) (omega arith) in
-          record { within = entries-lie .within; size = ap length g ∙ length-put values to b (omega arith) ∙ q; place = omega arith; rest = rw g (w ∙ y) }
+          record { within = row-at n MessaggiEsito s i x e .lies .within; size = ap length g ∙ length-put values to b (omega arith) ∙ q; place = omega arith; rest = rw g (w ∙ y) }
 
 -- THE HEADER
 pub spans-length : (each : List Span) → length (spansBytes each) ≡ 8 * length each

@@ -1,4 +1,4 @@
--- The values of a message by the rows of its tables: names for the contracts of the code. By name they are `valuesOn` (crates/message_read).
+-- The values of a message by the rows of its tables: names for the contracts of the code. By name they are `valuesIn` (crates/message_read).
 use Prim.Native.Nat.{ℕ, _+_, _-_, _%_}
 use mathlib.Core.List.{List, [], _∷_, _++_}
 use mathlib.Core.Bool.{cond}

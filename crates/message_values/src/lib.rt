@@ -165,45 +165,21 @@ fn facts_of(s: &[u8], each: [Span; 9], kind: EntryKind, past: &[u32]) -> Facts
     }
 }
 
-// The first 24 bytes of an entry, as those of a record.
-fn head_bytes(r: Facts) -> [u8; 24]
-    ensures { λ b. ⌜ b ≡ factsBytes r ⌝ }
+// The first 24 bytes of an entry: what it says.
+fn put_facts(values: &mut [u8], at: usize, f: Facts)
+    requires { ⌜ at + 24 ≤ length (now values) ⌝ }
+    ensures { λ _. ⌜ now (values .exit) ≡ put (now (values .entry)) at (factsBytes f) ⌝ }
 {
-    let esercizio = r.esercizio;
-    let number = r.number;
-    let number_high = number / 65536;
-    let date = r.date;
-    let year = date.year;
-    let total = r.total;
-    let upper = total / 4294967296;
-    let top = upper / 65536;
-    let lower = total / 65536;
-    [
-        r.kind,
-        r.operation,
-        r.code,
-        0,
-        (esercizio / 256 % 256) as u8,
-        (esercizio % 256) as u8,
-        0,
-        0,
-        (number_high / 256 % 256) as u8,
-        (number_high % 256) as u8,
-        (number / 256 % 256) as u8,
-        (number % 256) as u8,
-        (year / 256 % 256) as u8,
-        (year % 256) as u8,
-        (date.month % 256) as u8,
-        (date.day % 256) as u8,
-        (top / 256 % 256) as u8,
-        (top % 256) as u8,
-        (upper / 256 % 256) as u8,
-        (upper % 256) as u8,
-        (lower / 256 % 256) as u8,
-        (lower % 256) as u8,
-        (total / 256 % 256) as u8,
-        (total % 256) as u8,
-    ]
+    let date = f.date;
+    let first = [f.kind, f.operation, f.code, 0];
+    let day = [(date.month % 256) as u8, (date.day % 256) as u8];
+    words::copy_in(values, at, &first);
+    words::write2(values, at + 4, f.esercizio);
+    words::write2(values, at + 6, 0);
+    words::write4(values, at + 8, f.number);
+    words::write2(values, at + 12, date.year);
+    words::copy_in(values, at + 14, &day);
+    words::write8(values, at + 16, f.total);
 }
 
 fn wide(n: usize) -> u64
@@ -238,8 +214,7 @@ fn put_parts(values: &mut [u8], at: usize, f: Facts, flow: Span, time: Span)
     requires { ⌜ (at + entryRoom ≤ length (now values)) × (flow .from ≤ flow .to) × (time .from ≤ time .to) ⌝ }
     ensures { λ _. ⌜ now (values .exit) ≡ put (now (values .entry)) at (partsBytes f flow time) ⌝ }
 {
-    let head = head_bytes(f);
-    words::copy_in(values, at, &head);
+    put_facts(values, at, f);
     put_span(values, at + 24, flow);
     put_span(values, at + 32, time);
     words::write8(values, at + 40, 0);
@@ -270,16 +245,11 @@ pub fn put_entries(
     ensures { λ r. ⌜ (r ≡ at + entryRoom * length (entriesOf kind (now (s .entry)) from))
         × (now (values .exit) ≡ put (now (values .entry)) at (entriesAt kind (now (s .entry)) (entriesOf kind (now (s .entry)) from))) ⌝ }
 {
+    let row = agreement::entry_row(kind);
     let mut to = at;
     let mut i = from;
     loop {
-        let Next::Named(k) = parts::next_row(
-            s,
-            i,
-            Parent::MessaggiEsito,
-            agreement::entry_row(kind),
-            past,
-        ) else {
+        let Next::Named(k) = parts::next_row(s, i, Parent::MessaggiEsito, row, past) else {
             return to;
         };
         let c = k.child;

@@ -1,8 +1,8 @@
 -- The writer of a flow's message: entries while the orders are walked, the whole, and one law for each way out of the call.
 use mathlib.Core.Path.{_≡_, refl, sym, ap, subst, _∙_}
 use mathlib.Core.List.{List, [], _∷_}
-use mathlib.Core.Bool.{Bool, true, false, cond, _&&_}
-use Prim.Native.Nat.{ℕ, _+_, _-_, _≤_, _<_}
+use mathlib.Core.Bool.{Bool, true, false, cond, _&&_, and-false}
+use Prim.Native.Nat.{ℕ, _+_, _≤_, _<_}
 use Prim.Native.String.{String}
 use native.Mathlib.Omega.{arith}
 use lib.ListN.{length, drop, length-drop}
@@ -10,7 +10,7 @@ use lib.Seq.{drop-drop}
 use lib.Dec.{eqb, leb}
 use borrow.Author.Tests.{eq-eqb, ne-eqb, eqb-true, le-leb, lt-leb, leb-true}
 use Rattle.bounds.specs.Bounds.{maxFlow}
-use Rattle.scan.specs.Bytes.{byteAt, part, isWhite}
+use Rattle.scan.specs.Bytes.{bytes, byteAt, part, isWhite}
 use Rattle.scan.proofs.Laws.{both, run-within}
 use Rattle.tokens.specs.Tokens.{whiteAt}
 use Rattle.markup.specs.Noted.{Noted}
@@ -27,33 +27,37 @@ use Rattle.editions.specs.declared.Edition.{Edition}
 use Rattle.editions.specs.declared.Edited.{Edited}
 use Rattle.editions.specs.declared.Edited.the-variants.{By, NoEdition}
 use Rattle.editions.specs.Editions.{editionOf}
-use Rattle.header.specs.Header.{Header, rootOf, headerIn}
+use Rattle.header.specs.Header.{rootOf, headerIn}
 use Rattle.orders.proofs.Laws.{Order-at, order-at, orders-end, standing}
 use Rattle.header.specs.declared.Span.{Span}
 use Rattle.header.specs.declared.Heading.{Heading}
 use Rattle.header.specs.Heading.{rootRows, headingFrom, headerBy, Within}
 use Rattle.header.proofs.Laws.{heading-header, heading-within}
 use Rattle.flow.specs.declared.Verdict.{Verdict}
-use Rattle.flow.specs.declared.Verdict.the-variants.{Stands}
-use Rattle.flow.specs.Flow.{verdictOf}
+use Rattle.flow.specs.declared.Verdict.the-variants.{MarkupBreaks, StructureBreaks, FieldBreaks, Stands}
+use Rattle.flow.specs.Flow.{verdictOf, flowOrders}
 use Rattle.flow.proofs.Laws.{flow-stood}
-use Rattle.tree.specs.Tree.{Trees, none, more}
+use Rattle.grammar.specs.Grammar.{startTag, endTag}
+use Rattle.tree.specs.Tree.{Tree, Trees, none, more}
 use Rattle.tree.specs.Orders.{Words}
 use Rattle.tree.specs.Written.{node}
+use Rattle.pen.specs.Pen.{Wrote, Room}
 use Rattle.message.specs.Message.{Entry, Message}
 use Rattle.message.specs.Written.{entryOut, entriesOut, messageTree, messageBytes}
 use Rattle.message.specs.From.{Caller, outcomeFits, outcomesFit, entriesFrom, messageFrom}
 use Rattle.message.proofs.From.{written-ok}
 use Rattle.message.proofs.Short.{message-short}
-use Rattle.message_pen.specs.Parts.{RoomFor, WroteAll, RoomOf, WroteTree, join, wordsFor, entryName}
-use Rattle.message_pen.proofs.Laws.{wrote-none, first-room, wrote-first, join-room, join-rest, wrote-join}
+use Rattle.message_pen.specs.Parts.{RoomFor, WroteAll, RoomOf, WroteTree, join, wordsFor, entryName, textAt, beginningIn}
+use Rattle.message_pen.proofs.Laws.{wrote-none, first-room, wrote-first, node-in, node-close, wrote-node, join-room, join-rest, wrote-join}
+use Rattle.message_fit.specs.declared.Held.{Held}
 use Rattle.message_fit.specs.Fit.{callerOk}
+use Rattle.message_fit.specs.Holding.{callerIn, HeldIn, Holds}
 use Rattle.message_fit.specs.Walk.{ordersFrom, Rooted}
 use Rattle.message_fit.proofs.Laws.{drop-byte, drop-first, caller-told}
 use Rattle.message_write.specs.declared.WriteAnswer.{WriteAnswer}
 use Rattle.message_write.specs.declared.WriteAnswer.the-variants.{UnknownEdition, TooLong, Unfit, NoRoom, Written}
 use Rattle.message_write.specs.Write.{writes, writingOf, writeIn, writeBy, Leaves, WritePromise}
-use Rattle.message_write.specs.Parts.{entryIf, kindOut, entryHere, kindFrom, allEntries, beginningOut, headerWith, flowName, messageAt, messageBy}
+use Rattle.message_write.specs.Parts.{entryIf, kindOut, entryHere, kindFrom, headerWith, flowName, messageAt, messageBy, Written as Made}
 
 -- ENTRIES OF A KIND: the first order's, if it has one, and the others'
 one-then : (kind : ℕ) (flow : List ℕ) (year : ℕ) (time : List ℕ) (q : Ordinativo) (qs : List Ordinativo) (o : List ℕ)
@@ -157,34 +161,65 @@ entries-join : (x : String) (w : Words) (es : List Entry) (ts : Trees) → entri
 entries-join x w [] ts = refl
 entries-join x w (e ∷ es) ts = ap (more (node x (entryOut w e))) (entries-join x w es ts)
 
--- what stands before the entries, and the entries
-module _ (abi body : List ℕ) (year : ℕ) (name : List ℕ) (root : Parent) (f : List ℕ) (from : ℕ) (o : List ℕ) (c : Caller) where
-  abbrev pub Before : Trees
-  Before = beginningOut abi (c .created) (c .ente) (c .described) (c .istat) (c .fiscal) (c .tramiteEnte) (c .tramiteBT) body (c .flowBT)
+-- what stands before the entries, and the entries of either kind, "reversali" first
+module _ (abi body : List ℕ) (year : ℕ) (name : List ℕ) (root : Parent) (f : List ℕ) (from : ℕ) (o : List ℕ) (c : Held) (t : List ℕ) {time : List ℕ} (q : time ≡ textAt t (c .outcome)) where
+  abbrev Whole : Tree
+  Whole = messageTree (messageFrom (headerWith abi body year) name (ordersFrom root f from) o (callerIn c t))
 
-  abbrev pub Entries : Trees
-  Entries = allEntries name year (c .outcome) root f from o
+  abbrev Before : Trees
+  Before = beginningIn abi t (c .given) body
 
-  parts : messageTree (messageFrom (headerWith abi body year) name (ordersFrom root f from) o c) ≡ node "messaggi_esito_applicativo" (join Before Entries)
-  parts = ap (λ (ts : Trees). node "messaggi_esito_applicativo" (join Before ts)) (entries-join (entryName 2) (wordsFor 2) (entriesFrom 2 name year (c .outcome) (ordersFrom root f from) o) (kindFrom 1 name year (c .outcome) root f from o))
+  abbrev Kind : ℕ → Trees
+  Kind k = kindFrom k name year time root f from o
 
-  pub parts-room : RoomOf 0 (messageTree (messageFrom (headerWith abi body year) name (ordersFrom root f from) o c)) → RoomOf 0 (node "messaggi_esito_applicativo" (join Before Entries))
-  parts-room h = subst (RoomOf 0) parts h
+  abbrev Entries : List ℕ → Trees
+  Entries x = join (kindFrom 2 name year x root f from o) (kindFrom 1 name year x root f from o)
 
-  pub parts-wrote : {s u : List ℕ} {r : ℕ} → WroteTree s u 0 (node "messaggi_esito_applicativo" (join Before Entries)) r
-      → WroteTree s u 0 (messageTree (messageFrom (headerWith abi body year) name (ordersFrom root f from) o c)) r
-  parts-wrote {s} {u} {r} w = subst (λ t. WroteTree s u 0 t r) (sym parts) w
+  parts : Whole ≡ node "messaggi_esito_applicativo" (join Before (Entries time))
+  parts =
+      ap (λ (ts : Trees). node "messaggi_esito_applicativo" (join Before ts)) (entries-join (entryName 2) (wordsFor 2) (entriesFrom 2 name year (textAt t (c .outcome)) (ordersFrom root f from) o) (kindFrom 1 name year (textAt t (c .outcome)) root f from o))
+      ∙ ap (λ (x : List ℕ). node "messaggi_esito_applicativo" (join Before (Entries x))) (sym q)
 
-  -- its texts are those at these places of the flow
-  module _ (h : Heading) (w : Span) (a : abi ≡ part f (h .abi .from) (h .abi .to)) (b : body ≡ part f (h .ente .from) (h .ente .to)) (y : year ≡ h .esercizio) (n : name ≡ part f (w .from) (w .to)) where
-    own : messageFrom (headerWith abi body year) name (ordersFrom root f from) o c ≡ messageBy f from root h w o c
-    own = λ i. messageFrom (headerWith (a i) (b i) (y i)) (n i) (ordersFrom root f from) o c
+  module _ (h : RoomOf 0 Whole) where
+    room : RoomOf 0 (node "messaggi_esito_applicativo" (join Before (Entries time)))
+    room = subst (RoomOf 0) parts h
 
-    pub own-room : RoomOf 0 (messageTree (messageBy f from root h w o c)) → RoomOf 0 (messageTree (messageFrom (headerWith abi body year) name (ordersFrom root f from) o c))
-    own-room r = subst (λ (m : Message). RoomOf 0 (messageTree m)) (sym own) r
+    module _ {s u : List ℕ} {i : ℕ} (x : Wrote s u 0 (startTag (bytes "messaggi_esito_applicativo")) i) where
+      pub framed-before : RoomFor i Before
+      framed-before = join-room Before (Entries time) (node-in room x)
 
-    pub own-wrote : {s u : List ℕ} {r : ℕ} → WroteTree s u 0 (messageTree (messageFrom (headerWith abi body year) name (ordersFrom root f from) o c)) r → WroteTree s u 0 (messageTree (messageBy f from root h w o c)) r
-    own-wrote {s} {u} {r} v = subst (λ (m : Message). WroteTree s u 0 (messageTree m) r) own v
+      module _ {v : List ℕ} {j : ℕ} (y : WroteAll u v i Before j) where
+        entries-room : RoomFor j (Entries time)
+        entries-room = join-rest Before (Entries time) (node-in room x) y
+
+        pub framed-reversali : RoomFor j (Kind 2)
+        framed-reversali = join-room (Kind 2) (Kind 1) entries-room
+
+        module _ {w : List ℕ} {k : ℕ} (z : WroteAll v w j (Kind 2) k) where
+          pub framed-mandati : RoomFor k (Kind 1)
+          framed-mandati = join-rest (Kind 2) (Kind 1) entries-room z
+
+          module _ {p : List ℕ} {l : ℕ} (e : WroteAll w p k (Kind 1) l) where
+            inside : WroteAll u p i (join Before (Entries time)) l
+            inside = wrote-join Before (Entries time) y (wrote-join (Kind 2) (Kind 1) z e)
+
+            pub framed-close : Room l (endTag (bytes "messaggi_esito_applicativo"))
+            framed-close = node-close room x inside
+
+            pub framed-wrote : {n : List ℕ} {r : ℕ} → Wrote p n l (endTag (bytes "messaggi_esito_applicativo")) r → WroteTree s n 0 Whole r
+            framed-wrote {n} {r} g = subst (λ (b : Tree). WroteTree s n 0 b r) (sym parts) (wrote-node x inside g)
+
+-- its texts are those at these places of the flow
+module _ (abi body : List ℕ) (year : ℕ) (name : List ℕ) (root : Parent) (f : List ℕ) (from : ℕ) (o : List ℕ) (c : Caller) (h : Heading) (w : Span) (a : abi ≡ part f (h .abi .from) (h .abi .to))
+    (b : body ≡ part f (h .ente .from) (h .ente .to)) (y : year ≡ h .esercizio) (n : name ≡ part f (w .from) (w .to)) where
+  own : messageFrom (headerWith abi body year) name (ordersFrom root f from) o c ≡ messageBy f from root h w o c
+  own = λ i. messageFrom (headerWith (a i) (b i) (y i)) (n i) (ordersFrom root f from) o c
+
+  pub own-room : RoomOf 0 (messageTree (messageBy f from root h w o c)) → RoomOf 0 (messageTree (messageFrom (headerWith abi body year) name (ordersFrom root f from) o c))
+  own-room r = subst (λ (m : Message). RoomOf 0 (messageTree m)) (sym own) r
+
+  pub own-wrote : {s u : List ℕ} {r : ℕ} → WroteTree s u 0 (messageTree (messageFrom (headerWith abi body year) name (ordersFrom root f from) o c)) r → WroteTree s u 0 (messageTree (messageBy f from root h w o c)) r
+  own-wrote {s} {u} {r} v = subst (λ (m : Message). WroteTree s u 0 (messageTree m) r) own v
 
 -- COUNTED, then refused or written
 module _ (m : List ℕ) (x : Message) {s u : List ℕ} {n : ℕ} (w : WroteTree s u 0 (messageTree x) n) where
@@ -241,8 +276,34 @@ module _ (e : Edition) (f : List ℕ) (at from : ℕ) (z : from ≡ whiteAt f at
               let l = message-short (messageAt e f (whiteAt f at) o c) ok in
               subst (λ (i : Message). RoomOf 0 (messageTree i)) (sym same-message) (record { room = record { fits = omega arith } })
 
-pub heading-there : (e : Edition) (f : List ℕ) (from : ℕ) (h : Heading) → h ≡ headingFrom e f from → Within f h
+heading-there : (e : Edition) (f : List ℕ) (from : ℕ) (h : Heading) → h ≡ headingFrom e f from → Within f h
 heading-there e f from h d = subst (Within f) (sym d) (heading-within e f from)
+
+-- what its writer is given
+module _ (e : Edition) (f past : List ℕ) (at from : ℕ) (z : from ≡ whiteAt f at) (root : Parent) (q : root ≡ rootOf e) (m o : List ℕ) {c : Held} {t : List ℕ} {g : Bool} (eg : g ≡ outcomesFit (ordersFrom root f from) o) (y : g ≡ true)
+    (k : HeldIn c t) (v : c .right ≡ true) (h : Heading) (w : Span) (d : h ≡ headingFrom e f from) (n : (part f (w .from) (w .to) ≡ flowName e f from) × (w .from ≤ w .to) × (w .to ≤ length f)) where
+  pub fit-made : verdictOf e f ≡ Stands at → Noted f past → Made f past from root h w o c t
+  fit-made x i = record {
+    rooted = flow-rooted e f at from z root q past x i;
+    fits = sym eg ∙ y;
+    heading = heading-there e f from h d;
+    name = (n .1, n .2);
+    held = k;
+    room = fit-room e f at from z root q m o (callerIn c t) eg y (k .right) v h w d (n .0) x;
+  }
+
+-- WHAT IS HELD is written as what the caller gave: where they differ, both are wrong
+module _ (e : Edition) (f o : List ℕ) {h : Held} {t : List ℕ} {c : Caller} (k : Holds h t c) where
+  alike : (v : Verdict) (x : Bool) → h .right ≡ x → writingOf e f o (callerIn h t) v ≡ writingOf e f o c v
+  alike v true y = ap (λ (d : Caller). writingOf e f o d v) (k .same y)
+  alike (MarkupBreaks p) false y = refl
+  alike StructureBreaks false y = refl
+  alike (FieldBreaks p w) false y = refl
+  alike (Stands at) false y = rw (← k .held .right, ← k .right, y, and-false (outcomesFit (flowOrders e f at) o))
+
+  pub write-held : (m : List ℕ) {m′ : List ℕ} {a : WriteAnswer} → Leaves m (writeIn e f o (callerIn h t)) a m′ → Leaves m (writeIn e f o c) a m′
+  unfolding writeIn
+  write-held m w = rw (alike (verdictOf e f) (h .right) refl) at w
 
 -- THE CALL
 module _ (f o : List ℕ) (c : Caller) (m : List ℕ) where

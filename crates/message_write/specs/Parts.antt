@@ -9,7 +9,6 @@ use Rattle.scan.specs.Bytes.{byteAt, part}
 use Rattle.schema.specs.declared.Parent.{Parent}
 use Rattle.rows.specs.declared.Kept.{Kept}
 use Rattle.rows.specs.Kept.{keptFrom}
-use Rattle.record.specs.Slot.{mandatoKind, reversaleKind}
 use Rattle.order.specs.Ordinativo.{Ordinativo, ordinativo}
 use Rattle.orders.specs.Orders.{textIn, orderOf}
 use Rattle.editions.specs.declared.Edition.{Edition}
@@ -18,12 +17,13 @@ use Rattle.header.specs.declared.Span.{Span}
 use Rattle.header.specs.declared.Heading.{Heading}
 use Rattle.header.specs.Heading.{headerBy, Within}
 use Rattle.tree.specs.Tree.{Trees, none}
-use Rattle.tree.specs.Written.{leaf}
 use Rattle.message.specs.Message.{Entry, Message}
-use Rattle.message.specs.Written.{_and_, entriesOut, messageTree}
+use Rattle.message.specs.Written.{entriesOut, messageTree}
 use Rattle.message.specs.From.{Caller, outcomesFit, entryFrom, entriesFrom, messageFrom}
-use Rattle.message_pen.specs.Parts.{RoomOf, wordsFor, entryName, join, headTree}
+use Rattle.message_pen.specs.Parts.{RoomOf, wordsFor, entryName}
+use Rattle.message_fit.specs.declared.Held.{Held}
 use Rattle.message_fit.specs.Walk.{ordersFrom, Rooted}
+use Rattle.message_fit.specs.Holding.{callerIn, HeldIn}
 
 -- the entry of an order of this kind, and none of another's
 abbrev pub entryIf : ℕ → List ℕ → ℕ → List ℕ → Ordinativo → ℕ → List Entry
@@ -41,15 +41,6 @@ entryHere kind flow year time f n o k = kindOut kind (entryIf kind flow year tim
 abbrev pub kindFrom : ℕ → List ℕ → ℕ → List ℕ → Parent → List ℕ → ℕ → List ℕ → Trees
 kindFrom kind flow year time root f from o = kindOut kind (entriesFrom kind flow year time (ordersFrom root f from) o)
 
--- all entries: "reversali" first
-abbrev pub allEntries : List ℕ → ℕ → List ℕ → Parent → List ℕ → ℕ → List ℕ → Trees
-allEntries flow year time root f from o = join (kindFrom reversaleKind flow year time root f from o) (kindFrom mandatoKind flow year time root f from o)
-
--- what stands before them: the header, and identificativo_flusso_BT
-abbrev pub beginningOut : List ℕ → List ℕ → List ℕ → List ℕ → List ℕ → List ℕ → List ℕ → List ℕ → List ℕ → List ℕ → Trees
-beginningOut abi created ente described istat fiscal tramite bank body flow =
-    headTree abi created ente described istat fiscal tramite bank body and leaf "identificativo_flusso_BT" flow and none
-
 -- the header of a flow by its three values
 abbrev pub headerWith : List ℕ → List ℕ → ℕ → Header
 headerWith abi body year = record { abi = abi; ente = body; esercizio = year }
@@ -65,11 +56,12 @@ messageAt e f from o c = messageFrom (headerIn e f (keptFrom (rootOf e) f from))
 abbrev pub messageBy : List ℕ → ℕ → Parent → Heading → Span → List ℕ → Caller → Message
 messageBy f from root h w o c = messageFrom (headerBy f h) (part f (w .from) (w .to)) (ordersFrom root f from) o c
 
--- WHAT THE WRITER IS GIVEN: the orders from a place on with outcome bytes that fit, where the header's values and identificativo_flusso stand, and room
--- for the whole
-pub record Written (f past : List ℕ) (from : ℕ) (root : Parent) (h : Heading) (w : Span) (o : List ℕ) (c : Caller) : Type 0 where
+-- WHAT THE WRITER IS GIVEN: the orders from a place on with outcome bytes that fit, where the header's values and identificativo_flusso stand, the caller's
+-- texts as they are held, and room for the whole
+pub record Written (f past : List ℕ) (from : ℕ) (root : Parent) (h : Heading) (w : Span) (o : List ℕ) (c : Held) (t : List ℕ) : Type 0 where
   pub rooted : Rooted root f past from
   pub fits : outcomesFit (ordersFrom root f from) o ≡ true
   pub heading : Within f h
   pub name : (w .from ≤ w .to) × (w .to ≤ length f)
-  pub room : RoomOf 0 (messageTree (messageBy f from root h w o c))
+  pub held : HeldIn c t
+  pub room : RoomOf 0 (messageTree (messageBy f from root h w o (callerIn c t)))

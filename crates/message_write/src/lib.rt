@@ -1,10 +1,11 @@
 // The call that writes an outcome message, on any bytes at all: the flow is read, the outcome bytes and the caller's values are judged, the message's length
-// is counted by a run that writes nothing, and only then is it written.
+// is counted by a run that writes nothing, and only then is it written. The caller's nine texts are held together, so that no function but the call names them.
 use editions::Edited;
 use editions::Edition;
 use flow::Verdict;
 use header::Heading;
 use header::Span;
+use message_fit::Held;
 use message_pen::Saying;
 use rows::Kept;
 use rows::Next;
@@ -30,8 +31,9 @@ ghost use Rattle.message.specs.From.{outcomesFit, messageFrom};
 ghost use Rattle.message_pen.specs.Parts.{RoomFor, WroteAll, RoomOf, WroteTree};
 ghost use Rattle.message_fit.specs.Fit.{callerBy};
 ghost use Rattle.message_fit.specs.Walk.{ordersFrom, Rooted};
-ghost use Rattle.message_write.specs.Write.{Writing, writingOf, writeIn, Leaves, WritePromise, writeReply};
-ghost use Rattle.message_write.specs.Parts.{entryHere, kindFrom, allEntries, beginningOut, headerWith, flowName, messageBy, Written as Made};
+ghost use Rattle.message_fit.specs.Holding.{callerIn, HeldIn};
+ghost use Rattle.message_write.specs.Write.{writingOf, writeIn, Leaves, WritePromise, writeReply};
+ghost use Rattle.message_write.specs.Parts.{entryHere, kindFrom, headerWith, flowName, messageBy, Written as Made};
 
 // What the call answers.
 pub enum WriteAnswer {
@@ -122,66 +124,7 @@ fn entries_of(
     }
 }
 
-// All entries: those of reversali, then those of mandati.
-fn entries(
-    m: &mut [u8],
-    at: usize,
-    f: &[u8],
-    from: usize,
-    root: Parent,
-    past: &[u32],
-    out: &[u8],
-    year: u64,
-    name: &[u8],
-    time: &[u8],
-) -> usize
-    requires { ⌜ Rooted root (now f) (now past) from × (outcomesFit (ordersFrom root (now f) from) (now out) ≡ true)
-        × RoomFor at (allEntries (now name) year (now time) root (now f) from (now out)) ⌝ }
-    ensures { λ r. ⌜ WroteAll (now (m .entry)) (now (m .exit)) at
-        (allEntries (now (name .entry)) year (now (time .entry)) root (now (f .entry)) from (now (out .entry))) r ⌝ }
-{
-    let a = entries_of(m, at, 2, f, from, root, past, out, year, name, time);
-    entries_of(m, a, 1, f, from, root, past, out, year, name, time)
-}
-
-// What stands before the entries.
-fn beginning(
-    m: &mut [u8],
-    at: usize,
-    abi: &[u8],
-    created: &[u8],
-    ente: &[u8],
-    described: &[u8],
-    istat: &[u8],
-    fiscal: &[u8],
-    tramite: &[u8],
-    bank: &[u8],
-    body: &[u8],
-    flow: &[u8],
-) -> usize
-    requires { ⌜ RoomFor at (beginningOut (now abi) (now created) (now ente) (now described) (now istat) (now fiscal) (now tramite) (now bank) (now body)
-        (now flow)) ⌝ }
-    ensures { λ r. ⌜ WroteAll (now (m .entry)) (now (m .exit)) at
-        (beginningOut (now (abi .entry)) (now (created .entry)) (now (ente .entry)) (now (described .entry)) (now (istat .entry))
-        (now (fiscal .entry)) (now (tramite .entry)) (now (bank .entry)) (now (body .entry)) (now (flow .entry))) r ⌝ }
-{
-    let a = message_pen::head(
-        m,
-        at,
-        abi,
-        created,
-        ente,
-        described,
-        istat,
-        fiscal,
-        tramite,
-        bank,
-        body,
-    );
-    pen::leaf(m, a, b"identificativo_flusso_BT", flow)
-}
-
-// A whole message, from its header's texts and the orders of a flow.
+// A whole message, from its header's texts and the orders of a flow: the entries of reversali, then those of mandati.
 fn framed(
     m: &mut [u8],
     abi: &[u8],
@@ -193,42 +136,24 @@ fn framed(
     root: Parent,
     past: &[u32],
     out: &[u8],
-    created: &[u8],
-    outcome: &[u8],
-    ente: &[u8],
-    described: &[u8],
-    istat: &[u8],
-    fiscal: &[u8],
-    tramite: &[u8],
-    bank: &[u8],
-    flow: &[u8],
+    c: Held,
+    texts: &[u8],
 ) -> usize
-    requires { ⌜ Rooted root (now f) (now past) from × (outcomesFit (ordersFrom root (now f) from) (now out) ≡ true)
+    requires { ⌜ Rooted root (now f) (now past) from × (outcomesFit (ordersFrom root (now f) from) (now out) ≡ true) × HeldIn c (now texts)
         × RoomOf 0 (messageTree (messageFrom (headerWith (now abi) (now body) year) (now name) (ordersFrom root (now f) from) (now out)
-        (callerBy (now created) (now outcome) (now ente) (now described) (now istat) (now fiscal) (now tramite) (now bank) (now flow)))) ⌝ }
+        (callerIn c (now texts)))) ⌝ }
     ensures { λ r. ⌜ WroteTree (now (m .entry)) (now (m .exit)) 0
         (messageTree (messageFrom (headerWith (now (abi .entry)) (now (body .entry)) year) (now (name .entry)) (ordersFrom root (now (f .entry)) from)
-        (now (out .entry))
-        (callerBy (now (created .entry)) (now (outcome .entry)) (now (ente .entry)) (now (described .entry))
-        (now (istat .entry)) (now (fiscal .entry)) (now (tramite .entry)) (now (bank .entry)) (now (flow .entry))))) r ⌝ }
+        (now (out .entry)) (callerIn c (now (texts .entry))))) r ⌝ }
 {
+    let g = c.given;
+    let w = c.outcome;
+    let time = header::part_at(texts, w);
     let a = pen::open_tag(m, 0, b"messaggi_esito_applicativo");
-    let b = beginning(
-        m,
-        a,
-        abi,
-        created,
-        ente,
-        described,
-        istat,
-        fiscal,
-        tramite,
-        bank,
-        body,
-        flow,
-    );
-    let c = entries(m, b, f, from, root, past, out, year, name, outcome);
-    pen::close_tag(m, c, b"messaggi_esito_applicativo")
+    let b = message_pen::beginning(m, a, abi, texts, g, body);
+    let d = entries_of(m, b, 2, f, from, root, past, out, year, name, time);
+    let e = entries_of(m, d, 1, f, from, root, past, out, year, name, time);
+    pen::close_tag(m, e, b"messaggi_esito_applicativo")
 }
 
 // Where the second of the four fields stands that both editions have one after the other: identificativo_flusso.
@@ -276,22 +201,12 @@ fn whole(
     w: Span,
     past: &[u32],
     out: &[u8],
-    created: &[u8],
-    outcome: &[u8],
-    ente: &[u8],
-    described: &[u8],
-    istat: &[u8],
-    fiscal: &[u8],
-    tramite: &[u8],
-    bank: &[u8],
-    flow: &[u8],
+    c: Held,
+    texts: &[u8],
 ) -> usize
-    requires { ⌜ Made (now f) (now past) from root h w (now out) (callerBy (now created) (now outcome) (now ente) (now described) (now istat) (now fiscal)
-        (now tramite) (now bank) (now flow)) ⌝ }
+    requires { ⌜ Made (now f) (now past) from root h w (now out) c (now texts) ⌝ }
     ensures { λ r. ⌜ WroteTree (now (m .entry)) (now (m .exit)) 0
-        (messageTree (messageBy (now (f .entry)) from root h w (now (out .entry)) (callerBy (now (created .entry)) (now (outcome .entry))
-        (now (ente .entry)) (now (described .entry))
-        (now (istat .entry)) (now (fiscal .entry)) (now (tramite .entry)) (now (bank .entry)) (now (flow .entry))))) r ⌝ }
+        (messageTree (messageBy (now (f .entry)) from root h w (now (out .entry)) (callerIn c (now (texts .entry))))) r ⌝ }
 {
     let x = h.abi;
     let y = h.ente;
@@ -309,89 +224,12 @@ fn whole(
         root,
         past,
         out,
-        created,
-        outcome,
-        ente,
-        described,
-        istat,
-        fiscal,
-        tramite,
-        bank,
-        flow,
+        c,
+        texts,
     )
 }
 
-// A message that can be written: counted first, then 40, or it is written.
-fn counted(
-    m: &mut [u8],
-    f: &[u8],
-    from: usize,
-    root: Parent,
-    h: Heading,
-    w: Span,
-    past: &[u32],
-    out: &[u8],
-    created: &[u8],
-    outcome: &[u8],
-    ente: &[u8],
-    described: &[u8],
-    istat: &[u8],
-    fiscal: &[u8],
-    tramite: &[u8],
-    bank: &[u8],
-    flow: &[u8],
-) -> WriteAnswer
-    requires { ⌜ Made (now f) (now past) from root h w (now out) (callerBy (now created) (now outcome) (now ente) (now described) (now istat) (now fiscal)
-        (now tramite) (now bank) (now flow)) ⌝ }
-    ensures { λ r. ⌜ Leaves (now (m .entry)) (Writing.writes (messageBy (now (f .entry)) from root h w (now (out .entry)) (callerBy (now (created .entry))
-        (now (outcome .entry)) (now (ente .entry)) (now (described .entry))
-        (now (istat .entry)) (now (fiscal .entry)) (now (tramite .entry)) (now (bank .entry)) (now (flow .entry))))) r (now (m .exit)) ⌝ }
-{
-    let mut none = [0u8; 1];
-    let n = whole(
-        &mut none,
-        f,
-        from,
-        root,
-        h,
-        w,
-        past,
-        out,
-        created,
-        outcome,
-        ente,
-        described,
-        istat,
-        fiscal,
-        tramite,
-        bank,
-        flow,
-    );
-    if m.len() < n {
-        return WriteAnswer::NoRoom;
-    }
-    WriteAnswer::Written(whole(
-        m,
-        f,
-        from,
-        root,
-        h,
-        w,
-        past,
-        out,
-        created,
-        outcome,
-        ente,
-        described,
-        istat,
-        fiscal,
-        tramite,
-        bank,
-        flow,
-    ))
-}
-
-// The message of a flow that stands, its root's content at a place: 41, or as the room says.
+// The message of a flow that stands, its root's content at a place: 41, or counted, then 40, or it is written.
 fn standing(
     m: &mut [u8],
     f: &[u8],
@@ -399,60 +237,29 @@ fn standing(
     at: usize,
     past: &[u32],
     out: &[u8],
-    created: &[u8],
-    outcome: &[u8],
-    ente: &[u8],
-    described: &[u8],
-    istat: &[u8],
-    fiscal: &[u8],
-    tramite: &[u8],
-    bank: &[u8],
-    flow: &[u8],
+    c: Held,
+    texts: &[u8],
 ) -> WriteAnswer
-    requires { ⌜ (verdictOf e (now f) ≡ Stands at) × Noted (now f) (now past) ⌝ }
-    ensures { λ r. ⌜ Leaves (now (m .entry)) (writingOf e (now (f .entry)) (now (out .entry)) (callerBy (now (created .entry)) (now (outcome .entry))
-        (now (ente .entry)) (now (described .entry))
-        (now (istat .entry)) (now (fiscal .entry)) (now (tramite .entry)) (now (bank .entry)) (now (flow .entry))) (Stands at)) r (now (m .exit)) ⌝ }
+    requires { ⌜ (verdictOf e (now f) ≡ Stands at) × Noted (now f) (now past) × HeldIn c (now texts) ⌝ }
+    ensures { λ r. ⌜ Leaves (now (m .entry)) (writingOf e (now (f .entry)) (now (out .entry)) (callerIn c (now (texts .entry))) (Stands at)) r
+        (now (m .exit)) ⌝ }
 {
     let root = header::root_of(e);
     let from = scan::white_end(f, at);
     if !message_fit::outcomes_fit(f, from, root, out, past) {
         return WriteAnswer::Unfit;
     }
-    if !message_fit::caller_ok(
-        created,
-        outcome,
-        ente,
-        described,
-        istat,
-        fiscal,
-        tramite,
-        bank,
-        flow,
-    ) {
+    if !c.right {
         return WriteAnswer::Unfit;
     }
     let h = header::header_from(f, e, from, past);
     let w = name_of(f, e, from, past);
-    counted(
-        m,
-        f,
-        from,
-        root,
-        h,
-        w,
-        past,
-        out,
-        created,
-        outcome,
-        ente,
-        described,
-        istat,
-        fiscal,
-        tramite,
-        bank,
-        flow,
-    )
+    let mut none = [0u8; 1];
+    let n = whole(&mut none, f, from, root, h, w, past, out, c, texts);
+    if m.len() < n {
+        return WriteAnswer::NoRoom;
+    }
+    WriteAnswer::Written(whole(m, f, from, root, h, w, past, out, c, texts))
 }
 
 // Reads a flow that is not too long, noting in `past` where its elements end, and writes its message.
@@ -462,104 +269,34 @@ fn write_noted(
     e: Edition,
     f: &[u8],
     out: &[u8],
-    created: &[u8],
-    outcome: &[u8],
-    ente: &[u8],
-    described: &[u8],
-    istat: &[u8],
-    fiscal: &[u8],
-    tramite: &[u8],
-    bank: &[u8],
-    flow: &[u8],
+    c: Held,
+    texts: &[u8],
 ) -> WriteAnswer
-    requires { ⌜ (length (now f) ≤ maxFlow) × Noted (now f) (now past) ⌝ }
-    ensures { λ r. ⌜ Leaves (now (m .entry)) (writeIn e (now (f .entry)) (now (out .entry)) (callerBy (now (created .entry)) (now (outcome .entry))
-        (now (ente .entry)) (now (described .entry))
-        (now (istat .entry)) (now (fiscal .entry)) (now (tramite .entry)) (now (bank .entry)) (now (flow .entry)))) r (now (m .exit)) ⌝ }
+    requires { ⌜ (length (now f) ≤ maxFlow) × Noted (now f) (now past) × HeldIn c (now texts) ⌝ }
+    ensures { λ r. ⌜ Leaves (now (m .entry)) (writeIn e (now (f .entry)) (now (out .entry)) (callerIn c (now (texts .entry)))) r (now (m .exit)) ⌝ }
 {
     match flow::verdict_of(f, e, past) {
         Verdict::MarkupBreaks(_) => WriteAnswer::BrokenMarkup,
         Verdict::StructureBreaks => WriteAnswer::BrokenStructure,
         Verdict::FieldBreaks(_, _) => WriteAnswer::BrokenField,
-        Verdict::Stands(at) => standing(
-            m,
-            f,
-            e,
-            at,
-            past,
-            out,
-            created,
-            outcome,
-            ente,
-            described,
-            istat,
-            fiscal,
-            tramite,
-            bank,
-            flow,
-        ),
+        Verdict::Stands(at) => standing(m, f, e, at, past, out, c, texts),
     }
 }
 
 // Writes the outcome message of a flow of an edition.
-fn write_in(
-    e: Edition,
-    f: &[u8],
-    out: &[u8],
-    created: &[u8],
-    outcome: &[u8],
-    ente: &[u8],
-    described: &[u8],
-    istat: &[u8],
-    fiscal: &[u8],
-    tramite: &[u8],
-    bank: &[u8],
-    flow: &[u8],
-    m: &mut [u8],
-) -> WriteAnswer
-    ensures { λ r. ⌜ Leaves (now (m .entry)) (writeIn e (now (f .entry)) (now (out .entry)) (callerBy (now (created .entry)) (now (outcome .entry))
-        (now (ente .entry)) (now (described .entry))
-        (now (istat .entry)) (now (fiscal .entry)) (now (tramite .entry)) (now (bank .entry)) (now (flow .entry)))) r (now (m .exit)) ⌝ }
+fn write_in(e: Edition, f: &[u8], out: &[u8], c: Held, texts: &[u8], m: &mut [u8]) -> WriteAnswer
+    requires { ⌜ HeldIn c (now texts) ⌝ }
+    ensures { λ r. ⌜ Leaves (now (m .entry)) (writeIn e (now (f .entry)) (now (out .entry)) (callerIn c (now (texts .entry)))) r (now (m .exit)) ⌝ }
 {
     if 32768 < f.len() {
         return WriteAnswer::TooLong;
     }
     if f.len() < 4096 {
         let mut few = [0u32; 1024];
-        return write_noted(
-            m,
-            &mut few,
-            e,
-            f,
-            out,
-            created,
-            outcome,
-            ente,
-            described,
-            istat,
-            fiscal,
-            tramite,
-            bank,
-            flow,
-        );
+        return write_noted(m, &mut few, e, f, out, c, texts);
     }
     let mut past = [0u32; 8193];
-    write_noted(
-        m,
-        &mut past,
-        e,
-        f,
-        out,
-        created,
-        outcome,
-        ente,
-        described,
-        istat,
-        fiscal,
-        tramite,
-        bank,
-        flow,
-    )
+    write_noted(m, &mut past, e, f, out, c, texts)
 }
 
 // Writes the outcome message of a flow of the edition of a number. Every byte of the buffer is determined, and none changes where the call is refused.
@@ -585,21 +322,20 @@ pub fn write_message(
     let Edited::By(e) = editions::edition_of(edition) else {
         return WriteAnswer::UnknownEdition;
     };
-    write_in(
-        e,
-        f,
-        out,
+    let mut texts = [0u8; message_fit::TEXTS_ROOM];
+    let c = message_fit::hold(
+        &mut texts,
         created,
         outcome,
+        istat,
         ente,
         described,
-        istat,
         fiscal,
         tramite,
         bank,
         flow,
-        m,
-    )
+    );
+    write_in(e, f, out, c, &texts, m)
 }
 
 fn no_message(code: u64) -> WriteReply

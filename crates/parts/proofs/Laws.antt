@@ -3,13 +3,17 @@ use mathlib.Core.Path.{_≡_, refl, sym, ap, _∙_}
 use mathlib.Core.Logic.{_⊎_, inl, inr}
 use mathlib.Core.List.{List, [], _∷_}
 use mathlib.Core.Bool.{Bool, true, false}
-use Prim.Native.Nat.{ℕ, zero, suc, _+_, _≤_, _<_}
+use Prim.Native.Nat.{ℕ, zero, suc, _+_, _-_, _≤_, _<_}
 use native.Mathlib.Omega.{arith}
 use lib.ListN.{length, getD, set, length-set}
 use lib.Seq.{getD-set-same, getD-set-other}
 use lib.Dec.{eqb}
 use borrow.Author.Tests.{eqb-true, eqb-false}
-use Rattle.scan.specs.Bytes.{part}
+use Rattle.scan.specs.Bytes.{part, isWhite}
+use Rattle.scan.proofs.Laws.{run-within}
+use Rattle.tokens.specs.Tokens.{whiteAt}
+use Rattle.children.specs.declared.Child.{Child}
+use Rattle.children.proofs.Laws.{Lies}
 use Rattle.schema.specs.declared.Parent.{Parent}
 use Rattle.rows.specs.declared.Kept.{Kept}
 use Rattle.rows.specs.declared.Next.{Next}
@@ -20,6 +24,17 @@ use Rattle.orders.specs.Orders.{ofRow, inRow, textOfNext, textIn}
 use Rattle.orders.proofs.Laws.{Those-at, those-done, those-at, those-end, row-one, row-other}
 use Rattle.parts.specs.declared.Span.{Span}
 use Rattle.parts.specs.Parts.{noSpan, spanOfNext, spanIn, spansFrom, partsIn, AllWithin}
+
+-- A CHILD WHERE IT LIES: its content begins within, what is left gets less, and its first child is looked for within
+module _ {s : List ℕ} {i : ℕ} {c : Child} (l : Lies s i c) where
+  pub lies-begins : c .gt + 1 ≤ length s
+  lies-begins = omega (arith, l .inner, l .ends, l .within)
+
+  pub lies-less : length s - c .after < length s - i
+  lies-less = omega (arith, l .from, l .name, l .inner, l .ends, l .within)
+
+  pub lies-inside : {j : ℕ} → j ≡ whiteAt s (c .gt + 1) → j ≤ length s
+  lies-inside e = rw e (run-within isWhite s (c .gt + 1) lies-begins)
 
 -- A ROW'S CHILDREN, as the walk over the named children goes
 pub row-done : (n : ℕ) (p : Parent) (s : List ℕ) (i : ℕ) → nextOf (keptFrom p s i) ≡ Done → inRow n (keptFrom p s i) ≡ []

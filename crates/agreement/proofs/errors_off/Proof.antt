@@ -1,15 +1,12 @@
-use mathlib.Core.Path.{_≡_, sym, ap, _∙_}
+use mathlib.Core.Path.{ap, _∙_}
 use native.Mathlib.Omega.{arith}
 use borrow.Author.Needs.{needs}
 use borrow.Author.Tests.{not-true, not-false}
-use Rattle.schema.specs.declared.Parent.{Parent}
 use Rattle.rows.specs.Kept.{keptFrom}
 use Rattle.orders.specs.Orders.{valueOf}
-use Rattle.parts.specs.Parts.{partsIn}
 use Rattle.parts.proofs.Laws.{at-within}
 use Rattle.agreement.specs.Agreement.{errorsParent}
-use Rattle.agreement.proofs.Laws.{errors-again, errors-name, errors-none}
-use borrow.Author.Needs.{needs}
+use Rattle.agreement.proofs.Laws.{parts-by, errors-again, errors-name, errors-none}
 use Rattle.agreement.proofs.errors_off.Statement.{statement}
 use Rattle.agreement.proofs.errors_off.Tie as tie
 
@@ -29,47 +26,19 @@ array-copy-out-name : tie.Need-array-copy-out-name
 array-copy-out-name c = search needs
 
 text-at-requires : tie.Need-text-at-requires
-text-at-requires c κs =
-    let s = c .before .before .before .before .before .before .before .args .s .now in
-    let k = c .before .before .before .before .before .before .before .args .kind in
-    let p = errorsParent k in
-    let i = c .before .before .before .before .before .before .before .args .from in
-    let each = c .before .before .before .parts-of .result in
-    let e : each ≡ partsIn (keptFrom p s i) = c .before .before .before .parts-of .ensures ∙ ap (λ (q : Parent). partsIn (keptFrom q s i)) (c .before .before .before .before .errors-parent .ensures) in
-    at-within each p s i 2 (omega arith) e
+text-at-requires c κs = at-within (c .before .before .before .parts-of .result) (errorsParent (c .before .before .before .before .before .before .before .args .kind)) (c .before .before .before .before .before .before .before .args .s .now) (c .before .before .before .before .before .before .before .args .from) 2 (omega arith) (parts-by (c .before .before .before .before .before .before .before .args .s .now) (c .before .before .before .before .before .before .before .args .from) (c .before .before .before .parts-of .ensures) (c .before .before .before .before .errors-parent .ensures))
 
 text-at-requires-2 : tie.Need-text-at-requires-2
-text-at-requires-2 c κs =
-    let s = c .before .before .before .before .before .before .before .before .args .s .now in
-    let k = c .before .before .before .before .before .before .before .before .args .kind in
-    let p = errorsParent k in
-    let i = c .before .before .before .before .before .before .before .before .args .from in
-    let each = c .before .before .before .before .parts-of .result in
-    let e : each ≡ partsIn (keptFrom p s i) = c .before .before .before .before .parts-of .ensures ∙ ap (λ (q : Parent). partsIn (keptFrom q s i)) (c .before .before .before .before .before .errors-parent .ensures) in
-    at-within each p s i 1 (omega arith) e
+text-at-requires-2 c κs = at-within (c .before .before .before .before .parts-of .result) (errorsParent (c .before .before .before .before .before .before .before .before .args .kind)) (c .before .before .before .before .before .before .before .before .args .s .now) (c .before .before .before .before .before .before .before .before .args .from) 1 (omega arith) (parts-by (c .before .before .before .before .before .before .before .before .args .s .now) (c .before .before .before .before .before .before .before .before .args .from) (c .before .before .before .before .parts-of .ensures) (c .before .before .before .before .before .errors-parent .ensures))
 
 same-requires : tie.Need-same-requires
 same-requires c κs = search needs
 
 returns : tie.Need-returns
-returns c =
-    let s = c .before .before .before .before .before .before .before .before .before .before .before .args .s .now in
-    let k = c .before .before .before .before .before .before .before .before .before .before .before .args .kind in
-    let p = errorsParent k in
-    let i = c .before .before .before .before .before .before .before .before .before .before .before .args .from in
-    let each = c .before .before .before .before .before .before .before .parts-of .result in
-    let e : each ≡ partsIn (keptFrom p s i) = c .before .before .before .before .before .before .before .parts-of .ensures ∙ ap (λ (q : Parent). partsIn (keptFrom q s i)) (c .before .before .before .before .before .before .before .before .errors-parent .ensures) in
-    errors-again k s (keptFrom p s i) each e _ _ (c .before .before .text-at2 .ensures) (c .before .before .before .text-at .ensures) (c .before .same .ensures) (not-true _ (c .if1 .taken))
+returns c = errors-again (c .before .before .before .before .before .before .before .before .before .before .before .args .kind) (c .before .before .before .before .before .before .before .before .before .before .before .args .s .now) (keptFrom (errorsParent (c .before .before .before .before .before .before .before .before .before .before .before .args .kind)) (c .before .before .before .before .before .before .before .before .before .before .before .args .s .now) (c .before .before .before .before .before .before .before .before .before .before .before .args .from)) (c .before .before .before .before .before .before .before .parts-of .result) (parts-by (c .before .before .before .before .before .before .before .before .before .before .before .args .s .now) (c .before .before .before .before .before .before .before .before .before .before .before .args .from) (c .before .before .before .before .before .before .before .parts-of .ensures) (c .before .before .before .before .before .before .before .before .errors-parent .ensures)) _ _ (c .before .before .text-at2 .ensures) (c .before .before .before .text-at .ensures) (c .before .same .ensures) (not-true _ (c .if1 .taken))
 
 text-at-requires-3 : tie.Need-text-at-requires-3
-text-at-requires-3 c κs =
-    let s = c .before .before .before .before .before .before .before .before .before .before .before .args .s .now in
-    let k = c .before .before .before .before .before .before .before .before .before .before .before .args .kind in
-    let p = errorsParent k in
-    let i = c .before .before .before .before .before .before .before .before .before .before .before .args .from in
-    let each = c .before .before .before .before .before .before .before .parts-of .result in
-    let e : each ≡ partsIn (keptFrom p s i) = c .before .before .before .before .before .before .before .parts-of .ensures ∙ ap (λ (q : Parent). partsIn (keptFrom q s i)) (c .before .before .before .before .before .before .before .before .errors-parent .ensures) in
-    at-within each p s i 1 (omega arith) e
+text-at-requires-3 c κs = at-within (c .before .before .before .before .before .before .before .parts-of .result) (errorsParent (c .before .before .before .before .before .before .before .before .before .before .before .args .kind)) (c .before .before .before .before .before .before .before .before .before .before .before .args .s .now) (c .before .before .before .before .before .before .before .before .before .before .before .args .from) 1 (omega arith) (parts-by (c .before .before .before .before .before .before .before .before .before .before .before .args .s .now) (c .before .before .before .before .before .before .before .before .before .before .before .args .from) (c .before .before .before .before .before .before .before .parts-of .ensures) (c .before .before .before .before .before .before .before .before .errors-parent .ensures))
 
 codice-errore-requires : tie.Need-codice-errore-requires
 codice-errore-requires c κs = search needs
@@ -78,37 +47,16 @@ value-of-requires : tie.Need-value-of-requires
 value-of-requires c κs = search needs
 
 text-at-requires-4 : tie.Need-text-at-requires-4
-text-at-requires-4 c κs =
-    let s = c .before .before .before .before .before .before .before .before .before .before .before .before .before .before .args .s .now in
-    let k = c .before .before .before .before .before .before .before .before .before .before .before .before .before .before .args .kind in
-    let p = errorsParent k in
-    let i = c .before .before .before .before .before .before .before .before .before .before .before .before .before .before .args .from in
-    let each = c .before .before .before .before .before .before .before .before .before .before .parts-of .result in
-    let e : each ≡ partsIn (keptFrom p s i) = c .before .before .before .before .before .before .before .before .before .before .parts-of .ensures ∙ ap (λ (q : Parent). partsIn (keptFrom q s i)) (c .before .before .before .before .before .before .before .before .before .before .before .errors-parent .ensures) in
-    at-within each p s i 3 (omega arith) e
+text-at-requires-4 c κs = at-within (c .before .before .before .before .before .before .before .before .before .before .parts-of .result) (errorsParent (c .before .before .before .before .before .before .before .before .before .before .before .before .before .before .args .kind)) (c .before .before .before .before .before .before .before .before .before .before .before .before .before .before .args .s .now) (c .before .before .before .before .before .before .before .before .before .before .before .before .before .before .args .from) 3 (omega arith) (parts-by (c .before .before .before .before .before .before .before .before .before .before .before .before .before .before .args .s .now) (c .before .before .before .before .before .before .before .before .before .before .before .before .before .before .args .from) (c .before .before .before .before .before .before .before .before .before .before .parts-of .ensures) (c .before .before .before .before .before .before .before .before .before .before .before .errors-parent .ensures))
 
 is-element-requires : tie.Need-is-element-requires
 is-element-requires c κs = search needs
 
 returns-2 : tie.Need-returns-2
-returns-2 c =
-    let s = c .before .before .before .before .before .before .before .before .before .before .before .before .before .before .before .before .before .args .s .now in
-    let k = c .before .before .before .before .before .before .before .before .before .before .before .before .before .before .before .before .before .args .kind in
-    let p = errorsParent k in
-    let i = c .before .before .before .before .before .before .before .before .before .before .before .before .before .before .before .before .before .args .from in
-    let each = c .before .before .before .before .before .before .before .before .before .before .before .before .before .parts-of .result in
-    let e : each ≡ partsIn (keptFrom p s i) = c .before .before .before .before .before .before .before .before .before .before .before .before .before .parts-of .ensures ∙ ap (λ (q : Parent). partsIn (keptFrom q s i)) (c .before .before .before .before .before .before .before .before .before .before .before .before .before .before .errors-parent .ensures) in
-    errors-name k s (keptFrom p s i) each e _ _ (c .before .before .before .before .before .before .before .before .text-at2 .ensures) (c .before .before .before .before .before .before .before .before .before .text-at .ensures) (c .before .before .before .before .before .before .before .same .ensures) (not-false _ (c .before .before .before .before .before .before .if1 .left)) _ _ _ (c .before .before .before .before .before .text-at3 .ensures) (c .before .before .text-at4 .ensures) (c .before .before .before .value-of .ensures ∙ ap valueOf (c .before .before .before .before .codice-errore .ensures)) (c .before .is-element .ensures) (not-true _ (c .if2 .taken))
+returns-2 c = errors-name (c .before .before .before .before .before .before .before .before .before .before .before .before .before .before .before .before .before .args .kind) (c .before .before .before .before .before .before .before .before .before .before .before .before .before .before .before .before .before .args .s .now) (keptFrom (errorsParent (c .before .before .before .before .before .before .before .before .before .before .before .before .before .before .before .before .before .args .kind)) (c .before .before .before .before .before .before .before .before .before .before .before .before .before .before .before .before .before .args .s .now) (c .before .before .before .before .before .before .before .before .before .before .before .before .before .before .before .before .before .args .from)) (c .before .before .before .before .before .before .before .before .before .before .before .before .before .parts-of .result) (parts-by (c .before .before .before .before .before .before .before .before .before .before .before .before .before .before .before .before .before .args .s .now) (c .before .before .before .before .before .before .before .before .before .before .before .before .before .before .before .before .before .args .from) (c .before .before .before .before .before .before .before .before .before .before .before .before .before .parts-of .ensures) (c .before .before .before .before .before .before .before .before .before .before .before .before .before .before .errors-parent .ensures)) _ _ (c .before .before .before .before .before .before .before .before .text-at2 .ensures) (c .before .before .before .before .before .before .before .before .before .text-at .ensures) (c .before .before .before .before .before .before .before .same .ensures) (not-false _ (c .before .before .before .before .before .before .if1 .left)) _ _ _ (c .before .before .before .before .before .text-at3 .ensures) (c .before .before .text-at4 .ensures) (c .before .before .before .value-of .ensures ∙ ap valueOf (c .before .before .before .before .codice-errore .ensures)) (c .before .is-element .ensures) (not-true _ (c .if2 .taken))
 
 returns-3 : tie.Need-returns-3
-returns-3 c =
-    let s = c .before .before .before .before .before .before .before .before .before .before .before .before .before .before .before .before .before .args .s .now in
-    let k = c .before .before .before .before .before .before .before .before .before .before .before .before .before .before .before .before .before .args .kind in
-    let p = errorsParent k in
-    let i = c .before .before .before .before .before .before .before .before .before .before .before .before .before .before .before .before .before .args .from in
-    let each = c .before .before .before .before .before .before .before .before .before .before .before .before .before .parts-of .result in
-    let e : each ≡ partsIn (keptFrom p s i) = c .before .before .before .before .before .before .before .before .before .before .before .before .before .parts-of .ensures ∙ ap (λ (q : Parent). partsIn (keptFrom q s i)) (c .before .before .before .before .before .before .before .before .before .before .before .before .before .before .errors-parent .ensures) in
-    errors-none k s (keptFrom p s i) each e _ _ (c .before .before .before .before .before .before .before .before .text-at2 .ensures) (c .before .before .before .before .before .before .before .before .before .text-at .ensures) (c .before .before .before .before .before .before .before .same .ensures) (not-false _ (c .before .before .before .before .before .before .if1 .left)) _ _ _ (c .before .before .before .before .before .text-at3 .ensures) (c .before .before .text-at4 .ensures) (c .before .before .before .value-of .ensures ∙ ap valueOf (c .before .before .before .before .codice-errore .ensures)) (c .before .is-element .ensures) (not-false _ (c .if2 .left))
+returns-3 c = errors-none (c .before .before .before .before .before .before .before .before .before .before .before .before .before .before .before .before .before .args .kind) (c .before .before .before .before .before .before .before .before .before .before .before .before .before .before .before .before .before .args .s .now) (keptFrom (errorsParent (c .before .before .before .before .before .before .before .before .before .before .before .before .before .before .before .before .before .args .kind)) (c .before .before .before .before .before .before .before .before .before .before .before .before .before .before .before .before .before .args .s .now) (c .before .before .before .before .before .before .before .before .before .before .before .before .before .before .before .before .before .args .from)) (c .before .before .before .before .before .before .before .before .before .before .before .before .before .parts-of .result) (parts-by (c .before .before .before .before .before .before .before .before .before .before .before .before .before .before .before .before .before .args .s .now) (c .before .before .before .before .before .before .before .before .before .before .before .before .before .before .before .before .before .args .from) (c .before .before .before .before .before .before .before .before .before .before .before .before .before .parts-of .ensures) (c .before .before .before .before .before .before .before .before .before .before .before .before .before .before .errors-parent .ensures)) _ _ (c .before .before .before .before .before .before .before .before .text-at2 .ensures) (c .before .before .before .before .before .before .before .before .before .text-at .ensures) (c .before .before .before .before .before .before .before .same .ensures) (not-false _ (c .before .before .before .before .before .before .if1 .left)) _ _ _ (c .before .before .before .before .before .text-at3 .ensures) (c .before .before .text-at4 .ensures) (c .before .before .before .value-of .ensures ∙ ap valueOf (c .before .before .before .before .codice-errore .ensures)) (c .before .is-element .ensures) (not-false _ (c .if2 .left))
 
 pub errors-off-spec : {M : Type 1} → statement M
 errors-off-spec =

@@ -1,6 +1,4 @@
-use Rattle.message.specs.Written.{istatOut}
-use Rattle.message_pen.specs.Parts.{headFirst, headLast}
-use Rattle.message_pen.proofs.Laws.{node-open, node-in, node-close, wrote-node, join-room, join-rest, wrote-join, istat-room, istat-rest, wrote-istat}
+use Rattle.message_pen.proofs.Laws.{node-open, node-close, wrote-node, head-first-room, head-istat-room, head-last-room, head-all}
 use borrow.Author.Needs.{needs}
 use Rattle.message_pen.proofs.head.Statement.{statement}
 use Rattle.message_pen.proofs.head.Tie as tie
@@ -9,28 +7,28 @@ slice-aggregate-open-tag : tie.Need-slice-aggregate-open-tag
 slice-aggregate-open-tag c = search needs
 
 open-tag-requires : tie.Need-open-tag-requires
-open-tag-requires c κs = node-open (c .before .before .before .before .before .before .before .before .before .before .before .before .pre)
+open-tag-requires c κs = node-open (c .before .before .before .before .before .before .before .pre .1)
 
 head-first-requires : tie.Need-head-first-requires
-head-first-requires c κs = join-room (headFirst (c .before .before .before .before .before .before .before .before .before .before .before .before .before .before .before .before .args .abi .now) (c .before .before .before .before .before .before .before .before .before .before .before .before .before .before .before .before .args .created .now) (c .before .before .before .before .before .before .before .before .before .before .before .before .before .before .before .before .args .ente .now) (c .before .before .before .before .before .before .before .before .before .before .before .before .before .before .before .before .args .described .now)) (istatOut (c .before .before .before .before .before .before .before .before .before .before .before .before .before .before .before .before .args .istat .now) (headLast (c .before .before .before .before .before .before .before .before .before .before .before .before .before .before .before .before .args .fiscal .now) (c .before .before .before .before .before .before .before .before .before .before .before .before .before .before .before .before .args .tramite .now) (c .before .before .before .before .before .before .before .before .before .before .before .before .before .before .before .before .args .bank .now) (c .before .before .before .before .before .before .before .before .before .before .before .before .before .before .before .before .args .body .now))) (node-in (c .before .before .before .before .before .before .before .before .before .before .before .before .before .before .before .before .pre) (c .before .before .before .open-tag .ensures))
+head-first-requires c κs = (c .before .before .before .before .before .before .before .before .before .before .before .pre .0, head-first-room (c .before .before .before .before .before .before .before .before .before .before .before .args .abi .now) (c .before .before .before .before .before .before .before .before .before .before .before .args .s .now) (c .before .before .before .before .before .before .before .before .before .before .before .args .g) (c .before .before .before .before .before .before .before .before .before .before .before .args .body .now) (c .before .before .before .before .before .before .before .before .before .before .before .pre .1) (c .before .before .before .open-tag .ensures))
 
 istat-code-requires : tie.Need-istat-code-requires
-istat-code-requires c κs = istat-room (c .before .before .before .before .before .before .before .before .before .before .before .before .before .before .before .before .before .before .before .before .args .istat .now) (headLast (c .before .before .before .before .before .before .before .before .before .before .before .before .before .before .before .before .before .before .before .before .args .fiscal .now) (c .before .before .before .before .before .before .before .before .before .before .before .before .before .before .before .before .before .before .before .before .args .tramite .now) (c .before .before .before .before .before .before .before .before .before .before .before .before .before .before .before .before .before .before .before .before .args .bank .now) (c .before .before .before .before .before .before .before .before .before .before .before .before .before .before .before .before .before .before .before .before .args .body .now)) (join-rest (headFirst (c .before .before .before .before .before .before .before .before .before .before .before .before .before .before .before .before .before .before .before .before .args .abi .now) (c .before .before .before .before .before .before .before .before .before .before .before .before .before .before .before .before .before .before .before .before .args .created .now) (c .before .before .before .before .before .before .before .before .before .before .before .before .before .before .before .before .before .before .before .before .args .ente .now) (c .before .before .before .before .before .before .before .before .before .before .before .before .before .before .before .before .before .before .before .before .args .described .now)) (istatOut (c .before .before .before .before .before .before .before .before .before .before .before .before .before .before .before .before .before .before .before .before .args .istat .now) (headLast (c .before .before .before .before .before .before .before .before .before .before .before .before .before .before .before .before .before .before .before .before .args .fiscal .now) (c .before .before .before .before .before .before .before .before .before .before .before .before .before .before .before .before .before .before .before .before .args .tramite .now) (c .before .before .before .before .before .before .before .before .before .before .before .before .before .before .before .before .before .before .before .before .args .bank .now) (c .before .before .before .before .before .before .before .before .before .before .before .before .before .before .before .before .before .before .before .before .args .body .now))) (node-in (c .before .before .before .before .before .before .before .before .before .before .before .before .before .before .before .before .before .before .before .before .pre) (c .before .before .before .before .before .before .before .open-tag .ensures)) (c .before .before .before .head-first .ensures))
+istat-code-requires c κs = (c .before .before .before .before .before .before .before .before .before .before .before .before .before .before .before .pre .0 .istat, head-istat-room (c .before .before .before .before .before .before .before .before .before .before .before .before .before .before .before .args .abi .now) (c .before .before .before .before .before .before .before .before .before .before .before .before .before .before .before .args .s .now) (c .before .before .before .before .before .before .before .before .before .before .before .before .before .before .before .args .g) (c .before .before .before .before .before .before .before .before .before .before .before .before .before .before .before .args .body .now) (c .before .before .before .before .before .before .before .before .before .before .before .before .before .before .before .pre .1) (c .before .before .before .before .before .before .before .open-tag .ensures) (c .before .before .before .head-first .ensures))
 
 head-last-requires : tie.Need-head-last-requires
-head-last-requires c κs = istat-rest (c .before .before .before .before .before .before .before .before .before .before .before .before .before .before .before .before .before .before .before .before .before .before .before .before .args .istat .now) (headLast (c .before .before .before .before .before .before .before .before .before .before .before .before .before .before .before .before .before .before .before .before .before .before .before .before .args .fiscal .now) (c .before .before .before .before .before .before .before .before .before .before .before .before .before .before .before .before .before .before .before .before .before .before .before .before .args .tramite .now) (c .before .before .before .before .before .before .before .before .before .before .before .before .before .before .before .before .before .before .before .before .before .before .before .before .args .bank .now) (c .before .before .before .before .before .before .before .before .before .before .before .before .before .before .before .before .before .before .before .before .before .before .before .before .args .body .now)) (join-rest (headFirst (c .before .before .before .before .before .before .before .before .before .before .before .before .before .before .before .before .before .before .before .before .before .before .before .before .args .abi .now) (c .before .before .before .before .before .before .before .before .before .before .before .before .before .before .before .before .before .before .before .before .before .before .before .before .args .created .now) (c .before .before .before .before .before .before .before .before .before .before .before .before .before .before .before .before .before .before .before .before .before .before .before .before .args .ente .now) (c .before .before .before .before .before .before .before .before .before .before .before .before .before .before .before .before .before .before .before .before .before .before .before .before .args .described .now)) (istatOut (c .before .before .before .before .before .before .before .before .before .before .before .before .before .before .before .before .before .before .before .before .before .before .before .before .args .istat .now) (headLast (c .before .before .before .before .before .before .before .before .before .before .before .before .before .before .before .before .before .before .before .before .before .before .before .before .args .fiscal .now) (c .before .before .before .before .before .before .before .before .before .before .before .before .before .before .before .before .before .before .before .before .before .before .before .before .args .tramite .now) (c .before .before .before .before .before .before .before .before .before .before .before .before .before .before .before .before .before .before .before .before .before .before .before .before .args .bank .now) (c .before .before .before .before .before .before .before .before .before .before .before .before .before .before .before .before .before .before .before .before .before .before .before .before .args .body .now))) (node-in (c .before .before .before .before .before .before .before .before .before .before .before .before .before .before .before .before .before .before .before .before .before .before .before .before .pre) (c .before .before .before .before .before .before .before .before .before .before .before .open-tag .ensures)) (c .before .before .before .before .before .before .before .head-first .ensures)) (c .before .before .before .istat-code .ensures)
+head-last-requires c κs = (c .before .before .before .before .before .before .before .before .before .before .before .before .before .before .before .before .before .before .before .pre .0, head-last-room (c .before .before .before .before .before .before .before .before .before .before .before .before .before .before .before .before .before .before .before .args .abi .now) (c .before .before .before .before .before .before .before .before .before .before .before .before .before .before .before .before .before .before .before .args .s .now) (c .before .before .before .before .before .before .before .before .before .before .before .before .before .before .before .before .before .before .before .args .g) (c .before .before .before .before .before .before .before .before .before .before .before .before .before .before .before .before .before .before .before .args .body .now) (c .before .before .before .before .before .before .before .before .before .before .before .before .before .before .before .before .before .before .before .pre .1) (c .before .before .before .before .before .before .before .before .before .before .before .open-tag .ensures) (c .before .before .before .before .before .before .before .head-first .ensures) (c .before .before .before .istat-code .ensures))
 
 slice-aggregate-close-tag : tie.Need-slice-aggregate-close-tag
 slice-aggregate-close-tag c = search needs
 
 close-tag-requires : tie.Need-close-tag-requires
-close-tag-requires c κs = node-close (c .before .before .before .before .before .before .before .before .before .before .before .before .before .before .before .before .before .before .before .before .before .before .before .before .before .before .before .before .before .pre) (c .before .before .before .before .before .before .before .before .before .before .before .before .before .before .before .before .open-tag .ensures) (wrote-join (headFirst (c .before .before .before .before .before .before .before .before .before .before .before .before .before .before .before .before .before .before .before .before .before .before .before .before .before .before .before .before .before .args .abi .now) (c .before .before .before .before .before .before .before .before .before .before .before .before .before .before .before .before .before .before .before .before .before .before .before .before .before .before .before .before .before .args .created .now) (c .before .before .before .before .before .before .before .before .before .before .before .before .before .before .before .before .before .before .before .before .before .before .before .before .before .before .before .before .before .args .ente .now) (c .before .before .before .before .before .before .before .before .before .before .before .before .before .before .before .before .before .before .before .before .before .before .before .before .before .before .before .before .before .args .described .now)) (istatOut (c .before .before .before .before .before .before .before .before .before .before .before .before .before .before .before .before .before .before .before .before .before .before .before .before .before .before .before .before .before .args .istat .now) (headLast (c .before .before .before .before .before .before .before .before .before .before .before .before .before .before .before .before .before .before .before .before .before .before .before .before .before .before .before .before .before .args .fiscal .now) (c .before .before .before .before .before .before .before .before .before .before .before .before .before .before .before .before .before .before .before .before .before .before .before .before .before .before .before .before .before .args .tramite .now) (c .before .before .before .before .before .before .before .before .before .before .before .before .before .before .before .before .before .before .before .before .before .before .before .before .before .before .before .before .before .args .bank .now) (c .before .before .before .before .before .before .before .before .before .before .before .before .before .before .before .before .before .before .before .before .before .before .before .before .before .before .before .before .before .args .body .now))) (c .before .before .before .before .before .before .before .before .before .before .before .before .head-first .ensures) (wrote-istat (c .before .before .before .before .before .before .before .before .before .before .before .before .before .before .before .before .before .before .before .before .before .before .before .before .before .before .before .before .before .args .istat .now) (headLast (c .before .before .before .before .before .before .before .before .before .before .before .before .before .before .before .before .before .before .before .before .before .before .before .before .before .before .before .before .before .args .fiscal .now) (c .before .before .before .before .before .before .before .before .before .before .before .before .before .before .before .before .before .before .before .before .before .before .before .before .before .before .before .before .before .args .tramite .now) (c .before .before .before .before .before .before .before .before .before .before .before .before .before .before .before .before .before .before .before .before .before .before .before .before .before .before .before .before .before .args .bank .now) (c .before .before .before .before .before .before .before .before .before .before .before .before .before .before .before .before .before .before .before .before .before .before .before .before .before .before .before .before .before .args .body .now)) (c .before .before .before .before .before .before .before .before .istat-code .ensures) (c .before .before .before .before .head-last .ensures)))
+close-tag-requires c κs = node-close (c .before .before .before .before .before .before .before .before .before .before .before .before .before .before .before .before .before .before .before .before .before .before .before .before .pre .1) (c .before .before .before .before .before .before .before .before .before .before .before .before .before .before .before .before .open-tag .ensures) (head-all (c .before .before .before .before .before .before .before .before .before .before .before .before .before .before .before .before .before .before .before .before .before .before .before .before .args .abi .now) (c .before .before .before .before .before .before .before .before .before .before .before .before .before .before .before .before .before .before .before .before .before .before .before .before .args .s .now) (c .before .before .before .before .before .before .before .before .before .before .before .before .before .before .before .before .before .before .before .before .before .before .before .before .args .g) (c .before .before .before .before .before .before .before .before .before .before .before .before .before .before .before .before .before .before .before .before .before .before .before .before .args .body .now) (c .before .before .before .before .before .before .before .before .before .before .before .before .head-first .ensures) (c .before .before .before .before .before .before .before .before .istat-code .ensures) (c .before .before .before .before .head-last .ensures))
 
 same-length : tie.Need-same-length
 same-length c = search needs
 
 returns : tie.Need-returns
-returns c = wrote-node (c .before .before .before .before .before .before .before .before .before .before .before .before .before .before .before .before .before .before .before .open-tag .ensures) (wrote-join (headFirst (c .before .before .before .before .before .before .before .before .before .before .before .before .before .before .before .before .before .before .before .before .before .before .before .before .before .before .before .before .before .before .before .before .args .abi .now) (c .before .before .before .before .before .before .before .before .before .before .before .before .before .before .before .before .before .before .before .before .before .before .before .before .before .before .before .before .before .before .before .before .args .created .now) (c .before .before .before .before .before .before .before .before .before .before .before .before .before .before .before .before .before .before .before .before .before .before .before .before .before .before .before .before .before .before .before .before .args .ente .now) (c .before .before .before .before .before .before .before .before .before .before .before .before .before .before .before .before .before .before .before .before .before .before .before .before .before .before .before .before .before .before .before .before .args .described .now)) (istatOut (c .before .before .before .before .before .before .before .before .before .before .before .before .before .before .before .before .before .before .before .before .before .before .before .before .before .before .before .before .before .before .before .before .args .istat .now) (headLast (c .before .before .before .before .before .before .before .before .before .before .before .before .before .before .before .before .before .before .before .before .before .before .before .before .before .before .before .before .before .before .before .before .args .fiscal .now) (c .before .before .before .before .before .before .before .before .before .before .before .before .before .before .before .before .before .before .before .before .before .before .before .before .before .before .before .before .before .before .before .before .args .tramite .now) (c .before .before .before .before .before .before .before .before .before .before .before .before .before .before .before .before .before .before .before .before .before .before .before .before .before .before .before .before .before .before .before .before .args .bank .now) (c .before .before .before .before .before .before .before .before .before .before .before .before .before .before .before .before .before .before .before .before .before .before .before .before .before .before .before .before .before .before .before .before .args .body .now))) (c .before .before .before .before .before .before .before .before .before .before .before .before .before .before .before .head-first .ensures) (wrote-istat (c .before .before .before .before .before .before .before .before .before .before .before .before .before .before .before .before .before .before .before .before .before .before .before .before .before .before .before .before .before .before .before .before .args .istat .now) (headLast (c .before .before .before .before .before .before .before .before .before .before .before .before .before .before .before .before .before .before .before .before .before .before .before .before .before .before .before .before .before .before .before .before .args .fiscal .now) (c .before .before .before .before .before .before .before .before .before .before .before .before .before .before .before .before .before .before .before .before .before .before .before .before .before .before .before .before .before .before .before .before .args .tramite .now) (c .before .before .before .before .before .before .before .before .before .before .before .before .before .before .before .before .before .before .before .before .before .before .before .before .before .before .before .before .before .before .before .before .args .bank .now) (c .before .before .before .before .before .before .before .before .before .before .before .before .before .before .before .before .before .before .before .before .before .before .before .before .before .before .before .before .before .before .before .before .args .body .now)) (c .before .before .before .before .before .before .before .before .before .before .before .istat-code .ensures) (c .before .before .before .before .before .before .before .head-last .ensures))) (c .before .before .close-tag .ensures)
+returns c = wrote-node (c .before .before .before .before .before .before .before .before .before .before .before .before .before .before .before .before .before .before .before .open-tag .ensures) (head-all (c .before .before .before .before .before .before .before .before .before .before .before .before .before .before .before .before .before .before .before .before .before .before .before .before .before .before .before .args .abi .now) (c .before .before .before .before .before .before .before .before .before .before .before .before .before .before .before .before .before .before .before .before .before .before .before .before .before .before .before .args .s .now) (c .before .before .before .before .before .before .before .before .before .before .before .before .before .before .before .before .before .before .before .before .before .before .before .before .before .before .before .args .g) (c .before .before .before .before .before .before .before .before .before .before .before .before .before .before .before .before .before .before .before .before .before .before .before .before .before .before .before .args .body .now) (c .before .before .before .before .before .before .before .before .before .before .before .before .before .before .before .head-first .ensures) (c .before .before .before .before .before .before .before .before .before .before .before .istat-code .ensures) (c .before .before .before .before .before .before .before .head-last .ensures)) (c .before .before .close-tag .ensures)
 
 pub head-spec : {M : Type 1} → statement M
 head-spec =

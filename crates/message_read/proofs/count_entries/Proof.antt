@@ -1,13 +1,11 @@
-use mathlib.Core.Path.{_≡_, sym, _∙_}
-use Prim.Native.Nat.{_+_, _-_}
+use mathlib.Core.Path.{sym, _∙_}
+use Prim.Native.Nat.{_-_}
 use native.Mathlib.Omega.{arith}
 use lib.ListN.{length}
 use borrow.Author.Needs.{needs}
 use Rattle.schema.specs.declared.Parent.the-variants.{MessaggiEsito}
-use Rattle.rows.specs.declared.Next.the-variants.{Named, Done}
-use Rattle.rows.specs.Kept.{keptFrom, nextOf}
-use Rattle.orders.specs.Orders.{inRow}
-use Rattle.message_read.proofs.Laws.{Counted, count-start, count-end, count-lies, count-step}
+use Rattle.parts.proofs.Laws.{lies-less, row-at}
+use Rattle.message_read.proofs.Laws.{Counted, count-start, count-end, count-step}
 use Rattle.message_read.proofs.count_entries.Statement.{statement}
 use Rattle.message_read.proofs.count_entries.Tie as tie
 
@@ -33,53 +31,16 @@ enum-told : tie.Need-enum-told Inv-loop μ-loop
 enum-told c = search needs
 
 returns : tie.Need-returns Inv-loop μ-loop
-returns c =
-    let k = c .before .before .before .before .before .before .before .args .kind in
-    let s = c .before .before .before .before .before .before .before .args .s .now in
-    let from = c .before .before .before .before .before .before .before .args .from in
-    let i = c .before .before .before .before .loop .i in
-    let n = c .before .before .before .before .loop .n in
-    let t = c .before .before .before .before .loop .inv in
-    let r = c .before .before .before .entry-row .result in
-    let er = c .before .before .before .entry-row .ensures in
-    let d : nextOf (inRow r (keptFrom MessaggiEsito s i)) ≡ Done = sym (c .before .before .next-row .ensures) ∙ c .enum-told .given .1 in
-    count-end k s from i n r t er d
+returns c = count-end (c .before .before .before .before .before .before .before .args .kind) (c .before .before .before .before .before .before .before .args .s .now) (c .before .before .before .before .before .before .before .args .from) (c .before .before .before .before .loop .i) (c .before .before .before .before .loop .n) (c .before .before .before .entry-row .result) (c .before .before .before .before .loop .inv) (c .before .before .before .entry-row .ensures) (sym (c .before .before .next-row .ensures) ∙ c .enum-told .given .1)
 
 add-n : tie.Need-add-n Inv-loop μ-loop
-add-n c =
-    let a = c .before .before .before .before .before .before .loop .inv .few in
-    let b = c .before .before .before .before .before .before .loop .inv .within in
-    omega arith
+add-n c = let a = c .before .before .before .before .before .before .loop .inv .few in let b = c .before .before .before .before .before .before .loop .inv .within in omega arith
 
 loop-less : tie.Need-loop-less Inv-loop μ-loop
-loop-less c =
-    let k = c .before .before .before .before .before .before .before .before .before .args .kind in
-    let s = c .before .before .before .before .before .before .before .before .before .args .s .now in
-    let from = c .before .before .before .before .before .before .before .before .before .args .from in
-    let i = c .before .before .before .before .before .before .loop .i in
-    let n = c .before .before .before .before .before .before .loop .n in
-    let t = c .before .before .before .before .before .before .loop .inv in
-    let r = c .before .before .before .before .before .entry-row .result in
-    let er = c .before .before .before .before .before .entry-row .ensures in
-    let x = c .before .before .k .given .0 .0 in
-    let d : nextOf (inRow r (keptFrom MessaggiEsito s i)) ≡ Named x = sym (c .before .before .before .before .next-row .ensures) ∙ c .before .before .k .given .1 in
-    let l = count-lies k s from i n r t er x d in
-    omega (arith, l .from, l .name, l .inner, l .ends, l .within)
+loop-less c = lies-less (row-at (c .before .before .before .before .before .entry-row .result) MessaggiEsito (c .before .before .before .before .before .before .before .before .before .args .s .now) (c .before .before .before .before .before .before .loop .i) (c .before .before .k .given .0 .0) (sym (c .before .before .before .before .next-row .ensures) ∙ c .before .before .k .given .1) .lies)
 
 loop-again : tie.Need-loop-again Inv-loop μ-loop
-loop-again c =
-    let k = c .before .before .before .before .before .before .before .before .before .args .kind in
-    let s = c .before .before .before .before .before .before .before .before .before .args .s .now in
-    let from = c .before .before .before .before .before .before .before .before .before .args .from in
-    let i = c .before .before .before .before .before .before .loop .i in
-    let n = c .before .before .before .before .before .before .loop .n in
-    let t = c .before .before .before .before .before .before .loop .inv in
-    let r = c .before .before .before .before .before .entry-row .result in
-    let er = c .before .before .before .before .before .entry-row .ensures in
-    let x = c .before .before .k .given .0 .0 in
-    let d : nextOf (inRow r (keptFrom MessaggiEsito s i)) ≡ Named x = sym (c .before .before .before .before .next-row .ensures) ∙ c .before .before .k .given .1 in
-    let l = count-lies k s from i n r t er x d in
-    count-step k s from i n r t er x d
+loop-again c = count-step (c .before .before .before .before .before .before .before .before .before .args .kind) (c .before .before .before .before .before .before .before .before .before .args .s .now) (c .before .before .before .before .before .before .before .before .before .args .from) (c .before .before .before .before .before .before .loop .i) (c .before .before .before .before .before .before .loop .n) (c .before .before .before .before .before .entry-row .result) (c .before .before .before .before .before .before .loop .inv) (c .before .before .before .before .before .entry-row .ensures) (c .before .before .k .given .0 .0) (sym (c .before .before .before .before .next-row .ensures) ∙ c .before .before .k .given .1)
 
 pub count-entries-spec : {M : Type 1} → statement M
 count-entries-spec =
