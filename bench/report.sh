@@ -42,10 +42,10 @@ $(part goals)
 
 Where a goal is not met, why:
 
-- **One order.** The call checks the whole table first, 49,200 bytes of it, and the stack checks nothing: it reads and writes the rows of one order. On an empty
-  table the check is a good part of the call, on a nearly full one most of it.
-- **Large flows beside pugixml.** A bare parse reads each byte once. The call reads markup, with every character, name and end tag checked, looks up each named child twice more,
-  for structure and fields and for its order, converts the fields, and judges and stores the orders.
+- **One order on a nearly full table.** The call checks the whole table first, 49,200 bytes of it, and the stack checks nothing: it reads and writes the rows of one
+  order. That check is most of the call.
+- **Large flows.** A bare parse reads each byte once. The call reads markup, structure and fields in one pass, with every character, name and end tag checked, and each
+  order's fields once more for their values, while it judges and stores the orders. Elements that are passed over are read by their names.
 
 ## Instructions
 
