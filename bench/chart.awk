@@ -45,7 +45,7 @@ function panel(name, title, y,   i, which, top, end) {
     }
     line(LEFT, top, end - 6, "stroke=\"#444\"")
     line(LEFT + UNIT, top, end - 6, "stroke=\"#666\" stroke-dasharray=\"2 3\"")
-    if (name == "empty") line(LEFT + UNIT / 3, top, end - 6, "stroke=\"#b03030\" stroke-dasharray=\"6 4\"")
+    line(LEFT + UNIT * 0.15, top, end - 6, "stroke=\"#b03030\" stroke-dasharray=\"6 4\"")
     end = top
     for (i = 1; i <= cases; i++) if (table[i] == name) {
         for (which = 1; which <= 3; which++) value(end + 4 + (which - 1) * STEP, i, which)
@@ -65,7 +65,7 @@ END {
         text(40 + (which - 1) * 190, 58, 13, "", label[which])
     }
     printf "<line x1=\"610\" x2=\"640\" y1=\"53\" y2=\"53\" stroke=\"#b03030\" stroke-dasharray=\"6 4\"/>\n"
-    text(648, 58, 13, "", "one third: the goal, empty table")
+    text(648, 58, 13, "", "0.15: the goal of large flows")
     y = panel("empty", "Empty table", 80)
     panel("nearly full", "Nearly full table: 448 of 512 slots used", y + 14)
     if (note != "") text(20, height - 32, 12, "fill-opacity=\"0.75\"", note)

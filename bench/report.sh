@@ -45,7 +45,8 @@ Where a goal is not met, why:
 - **One order on a nearly full table.** The call checks the whole table first, 49,200 bytes of it, and the stack checks nothing: it reads and writes the rows of one
   order. That check is most of the call.
 - **Large flows.** A bare parse reads each byte once. The call reads markup, structure and fields in one pass, with every character, name and end tag checked, and each
-  order's fields once more for their values, while it judges and stores the orders. Elements that are passed over are read by their names.
+  order's fields once more for their values, while it judges and stores the orders. The names of passed-over elements are looked up, since no tag is expected for them, and the
+  general markup reader reads what they hold. The second reading of the orders is the largest part that could be saved.
 
 ## Instructions
 
