@@ -1,5 +1,5 @@
-// The call that writes an outcome message, on any bytes at all: the flow is read, the outcome bytes and the caller's values are judged, the message's length
-// is counted by a run that writes nothing, and only then is it written. The caller's nine texts are held together, so that no function but the call names them.
+// The call that writes an outcome message, on any bytes at all: the caller's nine texts are judged and held together, so that no function below the call
+// names them; the flow is read, the outcome bytes are judged, the message's length is counted by a run that writes nothing, and only then is it written.
 use editions::Edited;
 use editions::Edition;
 use flow::Verdict;

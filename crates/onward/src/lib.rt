@@ -14,7 +14,7 @@ ghost use Rattle.scan.specs.Bytes.{bytes, hasAt};
 ghost use Rattle.markup.specs.Noted.{Noted};
 ghost use Rattle.onward.specs.Onward.{Reaches, Unless, Starts, Passed, Told, Tagged, Inner, Ended, Taken};
 
-// How far content was read: up to a place, with `count` named children in `row`, the last of them.
+// How far content was read: up to a place; `row` is the last named child's, and `count` how many stand in it.
 pub struct Reached {
     pub at: usize,
     pub row: usize,
@@ -89,7 +89,7 @@ fn field(s: &[u8], at: usize, f: Form) -> usize
     }
 }
 
-// Past an element's end tag at p and the white space after it, or 0. Its name stands from a up to e, and what it holds ends at p if an end tag is there;
+// Past an element's end tag at p and the white space after it, or 0. Its name stands from a up to e, and what it holds ends at p if an end tag stands there;
 // the tag is compared with the start tag's own bytes.
 fn ended(s: &[u8], a: usize, e: usize, p: usize, past: &mut [u32]) -> usize
     requires { ⌜ Tagged (now s) a e × (p ≤ length (now s)) × Inner 11 (now s) e p × Noted (now s) (now past) ⌝ }

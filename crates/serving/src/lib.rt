@@ -38,7 +38,7 @@ pub fn one_of(code: u8) -> usize
 }
 
 // Serves the orders among a root's named children from a place on, each on the table that the one before left. The filter has the keys of the body's
-// records, of which there are so many.
+// records; `records` is how many there are, unless every place is marked.
 fn serve_marked(
     t: &mut [u8],
     f: &[u8],
