@@ -116,6 +116,23 @@ static void many_lines(void)
     add("</flusso_ordinativi>");
 }
 
+/* An order whose operation stands after elements so many levels deep: they are read once before it is known which rows it has. */
+static void late_operation(int levels)
+{
+    header();
+    add("<mandato>");
+    for (int level = 0; level < levels; level++)
+        add("<a>");
+    for (int level = 0; level < levels; level++)
+        add("</a>");
+    add("<tipo_operazione>INSERIMENTO</tipo_operazione><numero_mandato>8000</numero_mandato><data_mandato>2021-03-01</data_mandato>"
+        "<importo_mandato>0.00</importo_mandato><informazioni_beneficiario><progressivo_beneficiario>1</progressivo_beneficiario>"
+        "<importo_beneficiario>0.00</importo_beneficiario><beneficiario><anagrafica_beneficiario>A</anagrafica_beneficiario></beneficiario>"
+        "</informazioni_beneficiario></mandato></flusso_ordinativi>");
+    while (flow_len < HONDIVOLE_MOST_FLOW_BYTES)
+        flow[flow_len++] = ' ';
+}
+
 /* Replaces line 1 of mandato 10, which is executed by then. */
 static void replacement(void)
 {
@@ -282,6 +299,11 @@ int main(void)
     late_field();
     hold("flow, its last field breaks", call_flow, 5, HONDIVOLE_FLOW_STACK);
     hold("field_at", call_field_at, 0, HONDIVOLE_FIELD_AT_STACK);
+    late_operation(10);
+    hold("flow, twelve levels before an operation", call_flow, 0, HONDIVOLE_FLOW_STACK);
+    late_operation(100);
+    hold("flow, too many of them", call_flow, 3, HONDIVOLE_FLOW_STACK);
+    hold("message_write, the same flow", call_message_write, 3, HONDIVOLE_MESSAGE_WRITE_STACK);
     many_lines();
     hold("flow, 12 orders of 8 lines", call_flow, 0, HONDIVOLE_FLOW_STACK);
     many_orders();
