@@ -1,5 +1,7 @@
 // The bytes of a flow: a byte at a position, classes of bytes, runs, fixed byte strings compared against the flow, parts of the flow, one
 // UTF-8 character that XML allows, and one of the five references. Everything above reads the flow through these.
+#![tactic(auto)]
+
 ghost use Rattle.std.specs.Prelude.{◌≡◌, ℕ, ◌+◌, ◌-◌, ◌≤◌, ◌<◌, length, take, drop};
 ghost use Rattle.scan.specs.Bytes.{byte_at, part, is_letter, is_digit, is_alnum, is_name_byte, is_white, run_end, has_at, text_is};
 ghost use Rattle.scan.specs.Characters.{is_char, sized, is_tail, char_size, char_at};

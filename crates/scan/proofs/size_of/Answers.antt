@@ -9,18 +9,17 @@ use Prim.Native.Nat.{ℕ, ◌≤◌, ◌<◌, ◌-◌, ◌+◌}
 use lib.ListN.{length, get_or, get_or-eq_default}
 use lib.Dec.{eqb, leb}
 use borrow.Author.Tests.{eq-eqb, ne_eqb, le-leb, lt-leb, leb-true, not-true, not-false}
-use Rattle.scan.proofs.is_tail.Statement.{statement}
-use Rattle.scan.proofs.is_tail.Tie as tie
-use Rattle.scan.proofs.is_tail.Reads as reads
-use Rattle.scan.proofs.is_tail.Lts as lts
+use Rattle.scan.proofs.is_char.Reads as is-char-reads
+use Rattle.scan.proofs.size_of.Goals as goal
 
-returns : tie.Need-returns
-unfolding is_tail
-returns c = rw (lt-leb _ _ c.if1.true)
+pub returns-then-v-least : goal.returns-then-v-least
+unfolding sized
+returns-then-v-least c = rw (lt-leb _ _ c.if-v-least.true)
 
-returns-2 : tie.Need-returns-2
-unfolding is_tail
-returns-2 c = rw (le-leb _ _ c.if1.false)
+pub returns-then-is_char : goal.returns-then-is_char
+unfolding sized
+returns-then-is_char c = let e : is_char c.args.v ≡ true = cc in rw (le-leb _ _ c.if-v-least.false, e)
 
-pub is-tail-spec : {M : Type 1} → statement M
-is-tail-spec = tie.close (tie.spec returns returns-2)
+pub returns-else-is_char : goal.returns-else-is_char
+unfolding sized
+returns-else-is_char c = let e : is_char c.args.v ≡ false = cc in rw (le-leb _ _ c.if-v-least.false, e)

@@ -1,0 +1,15 @@
+use native.Mathlib.Nat.{add-zero}
+use native.Mathlib.Omega.{arith}
+use borrow.Author.Rules.{rules}
+use Rattle.scan.proofs.Laws.{has_more, has_not, has_less, has_all}
+use Rattle.scan.specs.Bytes.{has_at}
+use mathlib.Core.Path.{◌≡◌, refl, sym, ◌∙◌}
+use Prim.Native.Nat.{ℕ, ◌≤◌, ◌<◌, ◌-◌, ◌+◌}
+use lib.ListN.{length, get_or, drop}
+use Rattle.scan.proofs.has.Given as goal
+
+abbrev pub invariant-loop-i : goal.invariant-loop-i
+invariant-loop-i l = (l.i ≤ length l.x) × (l.at + length l.x ≤ length l.s) × (has_at l.x l.s l.at ≡ has_at (drop l.i l.x) l.s (l.at + l.i))
+
+abbrev pub decreases-loop-i : goal.decreases-loop-i
+decreases-loop-i l = length l.x - l.i

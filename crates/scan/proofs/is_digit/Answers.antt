@@ -1,0 +1,12 @@
+use borrow.Author.Tests.{le-leb, lt-leb}
+use mathlib.Core.Bool.{true, false, ◌&&◌}
+use Rattle.scan.specs.Bytes.{is_digit}
+use Rattle.scan.proofs.is_digit.Goals as goal
+
+pub returns-then-b-lt48 : goal.returns-then-b-lt48
+unfolding is_digit
+returns-then-b-lt48 c = rw (lt-leb _ _ c.if-b-lt48.true)
+
+pub returns : goal.returns
+unfolding is_digit
+returns c = rw (le-leb _ _ c.if-b-lt48.false)
