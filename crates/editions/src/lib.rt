@@ -1,4 +1,6 @@
 // The editions of a flow, which the caller names by number: 1 is document 01's, with OIL's flat header; 2 has the header of OPI 1.2.2.
+#![tactic(auto)]
+
 ghost use Rattle.std.specs.Prelude.{◌≡◌};
 ghost use Rattle.editions.specs.Editions.{edition_of};
 
