@@ -1,4 +1,5 @@
 // The bounds that fields and table share: each number of document 01 that more than one crate needs.
+#![tactic(auto)]
 
 pub const FIRST_YEAR: u64 = 2000;
 
