@@ -1,4 +1,6 @@
 // The form of anagrafica_beneficiario and anagrafica_versante: its characters are counted, each of the five references as one.
+#![tactic(auto)]
+
 ghost use Rattle.std.specs.Prelude.{◌≡◌, ◌<◌, length};
 ghost use Rattle.scan.specs.Bytes.{byte_at};
 ghost use Rattle.names.specs.Names.{references_replaced, characters, anagrafica};
