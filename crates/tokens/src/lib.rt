@@ -1,4 +1,6 @@
 // The markup's smallest parts: a name, the end of a start tag, text, an end tag, bytes that may stand or not.
+#![tactic(auto)]
+
 ghost use Rattle.std.specs.Prelude.{◌≡◌, ℕ, ◌+◌, ◌-◌, ◌≤◌, ◌<◌, length};
 ghost use Rattle.scan.specs.Bytes.{bytes, has_at};
 ghost use Rattle.tokens.specs.Tokens.{name_at, id_at, tag_end_at, piece_at, is_plain, text_at, end_tag_at, optional_at};
