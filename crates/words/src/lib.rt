@@ -1,4 +1,6 @@
 // Numbers of 2, 4 and 8 bytes, highest byte first, read and written at a place of a lent buffer.
+#![tactic(auto)]
+
 ghost use Rattle.std.specs.Prelude.{◌≡◌, ◌+◌, ◌≤◌, ◌<◌, length};
 ghost use Rattle.words.specs.Numbers.{be2, be4, be8, put, bytes2, bytes4, bytes8};
 ghost use Rattle.words.specs.Inner.{le4, turned};

@@ -1,0 +1,23 @@
+use Prim.Native.Nat.{ℕ, ◌+◌, ◌-◌, ◌≤◌}
+use mathlib.Core.Path.{◌≡◌, refl, ap, ◌∙◌}
+use borrow.Author.Rules.{rules}
+use native.Mathlib.Omega.{arith}
+use native.Mathlib.Nat.{le_antisymm}
+use native.Mathlib.Numerals.{add-one}
+use lib.ListN.{length, take, drop, get_or, length-set}
+use lib.Seq.{paste, paste-zero, paste-suc, take-length}
+use Rattle.words.proofs.Laws.{turn, whole}
+use Rattle.words.proofs.copy_in.Goals as goal
+
+pub loop-i-init : goal.loop-i-init
+loop-i-init c = (search rules, (refl, paste-zero c.args.s.now c.args.at c.args.v.now))
+
+pub loop-i-preserved : goal.loop-i-preserved
+loop-i-preserved c = let l = c.loop-i in
+    let a = c.args in
+    (search rules, (simp length-set (omega arith), turn a.s.now l.s a.at a.v.now l.i (omega arith) (omega arith) l.invariant.1.1))
+
+pub returns : goal.returns
+returns c = let l = c.loop-i in
+    let a = c.args in
+    whole a.s.now l.s a.at a.v.now l.i (omega arith) (omega arith) l.invariant.1.1
