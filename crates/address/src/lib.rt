@@ -6,7 +6,7 @@ ghost use Rattle.address.specs.Address.{body_named, addressed};
 use ranges::Found;
 
 // The body that a code names: where its entry begins, where its slots do, and how many these are.
-#[derive(Drop)]
+#[derive(Clone, Copy)]
 pub enum Addressed {
     Invalid,
     Unknown,

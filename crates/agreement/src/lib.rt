@@ -15,14 +15,14 @@ use rows::Next;
 use schema::Parent;
 
 // The two kinds of entries, as a message has them.
-#[derive(Drop)]
+#[derive(Clone, Copy)]
 pub enum EntryKind {
     Reversale,
     Mandato,
 }
 
 // The `<` of the first element that doesn't agree.
-#[derive(Drop)]
+#[derive(Clone, Copy)]
 pub enum Off {
     At(usize),
     Nowhere,

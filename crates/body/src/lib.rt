@@ -15,7 +15,7 @@ use valid::Judged;
 const ESERCIZIO: usize = 4;
 
 // A body judged: broken, or valid with the cents of its executed lines, paid and collected.
-#[derive(Drop)]
+#[derive(Clone, Copy)]
 pub enum Sums {
     Broken,
     Right(u64, u64),

@@ -7,7 +7,7 @@ use markup::Told;
 use scan::Walk;
 
 // An element: its `<`, the end of its name, the `<` of its end tag, and the place past it and the white space after it.
-#[derive(Drop)]
+#[derive(Clone, Copy)]
 pub struct Child {
     pub lt: usize,
     pub gt: usize,
@@ -15,14 +15,14 @@ pub struct Child {
     pub after: usize,
 }
 
-#[derive(Drop)]
+#[derive(Clone, Copy)]
 pub enum Step {
     One(Child),
     End,
 }
 
 // Where a field's name and its text stand in the flow: places and lengths, all zero where no field does.
-#[derive(Drop)]
+#[derive(Clone, Copy)]
 pub struct FieldSpans {
     pub name: usize,
     pub name_len: usize,

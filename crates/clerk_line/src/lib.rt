@@ -5,14 +5,14 @@ ghost use Rattle.io.specs.Counts.{IsPrefixLen};
 use calendar::Date;
 
 // A line that was read: its length, and whether the input goes on.
-#[derive(Drop)]
+#[derive(Clone, Copy)]
 pub struct Line {
     pub size: usize,
     pub more: bool,
 }
 
 // A byte of standard input, or its end.
-#[derive(Drop)]
+#[derive(Clone, Copy)]
 enum Next {
     Byte(u8),
     End,

@@ -5,7 +5,7 @@ ghost use Rattle.codes.specs.Codes.{codice_abi, identificativo, codice_ente, tip
 
 use ranges::Class;
 
-#[derive(Drop)]
+#[derive(Clone, Copy)]
 pub enum Operation {
     Inserimento,
     Variazione,
@@ -13,14 +13,14 @@ pub enum Operation {
     Sostituzione,
 }
 
-#[derive(Drop)]
+#[derive(Clone, Copy)]
 pub enum Asked {
     Operazione(Operation),
     NoOperation,
 }
 
 // The outcome of an operation, as an outcome message says it.
-#[derive(Drop)]
+#[derive(Clone, Copy)]
 pub enum Esito {
     Accepted(Operation),
     Refused(Operation),

@@ -15,7 +15,7 @@ use body::Sums;
 const MORE: usize = entries::ENTRY - table::OLD_ENTRY;
 
 // What conversion answers.
-#[derive(Drop)]
+#[derive(Clone, Copy)]
 pub enum Converted {
     Converts,
     InvalidTable,
@@ -23,7 +23,7 @@ pub enum Converted {
 }
 
 // The cents that a body's executed lines paid and collected.
-#[derive(Drop)]
+#[derive(Clone, Copy)]
 pub struct Totals {
     pub paid: u64,
     pub collected: u64,

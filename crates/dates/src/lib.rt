@@ -5,7 +5,7 @@ ghost use Rattle.dates.specs.Dates.{on_date, day_of, data_written, real, data_of
 use calendar::Date;
 use digits::Number;
 
-#[derive(Drop)]
+#[derive(Clone, Copy)]
 pub enum Day {
     On(Date),
     NoDay,

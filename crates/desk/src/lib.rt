@@ -19,7 +19,7 @@ use header::Heading;
 use schema::Parent;
 
 // What a flow's call answers.
-#[derive(Drop)]
+#[derive(Clone, Copy)]
 pub enum FlowAnswer {
     InvalidTable,
     UnknownEdition,
@@ -35,7 +35,7 @@ pub enum FlowAnswer {
 }
 
 // Document 01's numbers of an answer, and the cause and steps that document 02 adds.
-#[derive(Drop)]
+#[derive(Clone, Copy)]
 pub struct FlowReply {
     pub code: u64,
     pub place: u64,

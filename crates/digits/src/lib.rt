@@ -4,7 +4,7 @@ ghost use Rattle.scan.specs.Bytes.{between};
 ghost use Rattle.digits.specs.Digits.{is_value, within, digits, esercizio, numero_written, numero, progressivo, importo, is_refusal, codice_errore};
 ghost use Rattle.digits.specs.Inner.{zero_first};
 
-#[derive(Drop)]
+#[derive(Clone, Copy)]
 pub enum Number {
     Value(u64),
     NoNumber,

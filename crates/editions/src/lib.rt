@@ -4,14 +4,14 @@
 ghost use Rattle.std.specs.Prelude.{◌≡◌};
 ghost use Rattle.editions.specs.Editions.{edition_of};
 
-#[derive(Drop)]
+#[derive(Clone, Copy)]
 pub enum Edition {
     Oil,
     Opi,
 }
 
 // What a number names.
-#[derive(Drop)]
+#[derive(Clone, Copy)]
 pub enum Edited {
     By(Edition),
     NoEdition,

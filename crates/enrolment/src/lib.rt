@@ -18,7 +18,7 @@ use room::{Room, Seat};
 use training::Book;
 
 // What is told of a table.
-#[derive(Drop)]
+#[derive(Clone, Copy)]
 pub enum Enrolled {
     Ready,
     InvalidTable,
@@ -27,7 +27,7 @@ pub enum Enrolled {
 }
 
 // What is told, and the room; one without bodies where the table is refused.
-#[derive(Drop)]
+#[derive(Clone, Copy)]
 pub struct Enrolment {
     pub told: Enrolled,
     pub room: Room,

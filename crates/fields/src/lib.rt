@@ -9,14 +9,14 @@ use codes::{Asked, Esito, Operation};
 use dates::Day;
 use digits::Number;
 
-#[derive(Drop)]
+#[derive(Clone, Copy)]
 pub enum Judged {
     Stands,
     Breaks,
 }
 
 // Document 01's eleven forms, in its table's order; then those of an outcome message.
-#[derive(Drop)]
+#[derive(Clone, Copy)]
 pub enum Form {
     CodiceAbi,
     Identificativo,
@@ -38,7 +38,7 @@ pub enum Form {
 }
 
 // What a field's text says: a value of its form; of a text that stays bytes, that it has the form.
-#[derive(Drop)]
+#[derive(Clone, Copy)]
 pub enum Value {
     Text,
     Number(u64),
@@ -49,21 +49,21 @@ pub enum Value {
 }
 
 // A value of a text, or none.
-#[derive(Drop)]
+#[derive(Clone, Copy)]
 pub enum Valued {
     Some(Value),
     None,
 }
 
 // The longest text that a form allows, in bytes or, of a name, in characters as its form counts them.
-#[derive(Drop)]
+#[derive(Clone, Copy)]
 pub enum Longest {
     Bytes(usize),
     Characters(usize),
 }
 
 // What is wrong with a field's text, in the order in which a cause is told.
-#[derive(Drop)]
+#[derive(Clone, Copy)]
 pub enum Cause {
     Empty,
     Long,
@@ -72,7 +72,7 @@ pub enum Cause {
 }
 
 // A field's text read by its form.
-#[derive(Drop)]
+#[derive(Clone, Copy)]
 pub enum Reading {
     Holds(Value),
     Breaks(Cause),

@@ -14,7 +14,7 @@ use schema::Parent;
 use standing::Standing;
 
 // What a document's reading comes to: what breaks, with its place and a field's cause, or where the root's content begins.
-#[derive(Drop)]
+#[derive(Clone, Copy)]
 pub enum Verdict {
     MarkupBreaks(usize),
     StructureBreaks,

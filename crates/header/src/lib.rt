@@ -15,14 +15,14 @@ use fields::Form;
 use schema::Parent;
 
 // A part of the flow.
-#[derive(Drop)]
+#[derive(Clone, Copy)]
 pub struct Span {
     pub from: usize,
     pub to: usize,
 }
 
 // Of the four fields from codice_ABI_BT to codice_ente_BT: where these two stand, and where the children after them begin.
-#[derive(Drop)]
+#[derive(Clone, Copy)]
 pub struct Testata {
     pub abi: Span,
     pub ente: Span,
@@ -30,7 +30,7 @@ pub struct Testata {
 }
 
 // codice_ABI_BT and codice_ente_BT where they stand, esercizio as a number, and where the orders begin.
-#[derive(Drop)]
+#[derive(Clone, Copy)]
 pub struct Heading {
     pub abi: Span,
     pub ente: Span,

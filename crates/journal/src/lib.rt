@@ -19,7 +19,7 @@ const MOST: usize = 4096;
 const PLACES: u64 = 4096;
 
 // A movement of a journal.
-#[derive(Drop)]
+#[derive(Clone, Copy)]
 pub struct Movement {
     pub kind: u64,
     pub line: u64,

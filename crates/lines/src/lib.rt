@@ -7,7 +7,7 @@ ghost use Rattle.lines.specs.Walk.{start_of, step_of, answer_of};
 use order::{Line, Lines};
 
 // What is known after some lines: all numbered as they should be, all fit into the total, and what they leave of it.
-#[derive(Drop)]
+#[derive(Clone, Copy)]
 struct Tally {
     numbered: bool,
     fits: bool,

@@ -11,7 +11,7 @@ use schema::Parent;
 use training::Book;
 
 // How many orders were accepted, how many their searches looked at, and the body's orders afterwards.
-#[derive(Drop)]
+#[derive(Clone, Copy)]
 pub struct ListServed {
     pub accepted: usize,
     pub steps: usize,

@@ -8,14 +8,14 @@ ghost use Rattle.markup.specs.Noted.{Noted, note_of, note_in};
 use scan::Walk;
 
 // What is noted of a place: its name's length and the element's end.
-#[derive(Drop)]
+#[derive(Clone, Copy)]
 pub enum Told {
     Ends(usize, usize),
     Nothing,
 }
 
 // A whole document: where its root's `<` stands, where its root's name ends and where its content begins; or where the markup breaks.
-#[derive(Drop)]
+#[derive(Clone, Copy)]
 pub enum Markup {
     Root(usize, usize, usize),
     Breaks(usize),

@@ -19,7 +19,7 @@ use schema::Parent;
 pub const TEXTS_ROOM: usize = 1260;
 
 // A caller's nine texts: whether all have their forms, and where each stands in the bytes that hold them.
-#[derive(Drop)]
+#[derive(Clone, Copy)]
 pub struct Held {
     pub right: bool,
     pub outcome: Span,
@@ -27,7 +27,7 @@ pub struct Held {
 }
 
 // While they are laid down: whether all so far have their forms, and where the next is to stand.
-#[derive(Drop)]
+#[derive(Clone, Copy)]
 pub struct Laid {
     pub right: bool,
     pub to: usize,

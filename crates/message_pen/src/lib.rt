@@ -14,7 +14,7 @@ use codes::Operation;
 use header::Span;
 
 // What an entry says but for its texts. Kind: 1 mandato, 2 reversale. Code: 0, or that of the refusal.
-#[derive(Drop)]
+#[derive(Clone, Copy)]
 pub struct Saying {
     pub kind: u8,
     pub operation: Operation,
@@ -26,7 +26,7 @@ pub struct Saying {
 }
 
 // Where the texts of a header stand in its writer's bytes, but for the two codes of the flow; and identificativo_flusso_BT, which follows it.
-#[derive(Drop)]
+#[derive(Clone, Copy)]
 pub struct Given {
     pub created: Span,
     pub ente: Span,

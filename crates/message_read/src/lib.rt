@@ -18,7 +18,7 @@ use schema::Parent;
 use standing::Standing;
 
 // Document 02's numbers of an answer: the code, the place and cause of a field that breaks, how many entries there are.
-#[derive(Drop)]
+#[derive(Clone, Copy)]
 pub struct Reply {
     pub code: u64,
     pub place: u64,
@@ -27,7 +27,7 @@ pub struct Reply {
 }
 
 // What a message's content comes to.
-#[derive(Drop)]
+#[derive(Clone, Copy)]
 enum MessageStanding {
     Structure,
     Field(usize, Cause),

@@ -12,7 +12,7 @@ use header::Span;
 use message_pen::{Given, Saying};
 
 // Document 02's numbers of an answer.
-#[derive(Drop)]
+#[derive(Clone, Copy)]
 pub struct RewriteReply {
     pub code: u64,
     pub length: u64,

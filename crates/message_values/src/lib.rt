@@ -29,7 +29,7 @@ pub const ENTRY: usize = 48;
 pub const HEAD: usize = 80;
 
 // What an entry says, but its texts.
-#[derive(Drop)]
+#[derive(Clone, Copy)]
 pub struct Facts {
     pub kind: u8,
     pub operation: u8,

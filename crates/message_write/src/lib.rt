@@ -31,7 +31,7 @@ use rows::{Kept, Next};
 use schema::Parent;
 
 // What the call answers.
-#[derive(Drop)]
+#[derive(Clone, Copy)]
 pub enum WriteAnswer {
     UnknownEdition,
     TooLong,
@@ -44,7 +44,7 @@ pub enum WriteAnswer {
 }
 
 // Document 02's numbers of an answer.
-#[derive(Drop)]
+#[derive(Clone, Copy)]
 pub struct WriteReply {
     pub code: u64,
     pub length: u64,

@@ -11,7 +11,7 @@ use record::Key;
 use rules::Noticed;
 
 // What a notice's call answers.
-#[derive(Drop)]
+#[derive(Clone, Copy)]
 pub enum NoticeAnswer {
     InvalidTable,
     WrongDay(u64),
@@ -21,14 +21,14 @@ pub enum NoticeAnswer {
 }
 
 // Document 01's numbers of an answer.
-#[derive(Drop)]
+#[derive(Clone, Copy)]
 pub struct NoticeReply {
     pub code: u64,
     pub cents: u64,
 }
 
 // What a totals call answers.
-#[derive(Drop)]
+#[derive(Clone, Copy)]
 pub struct TotalsAnswer {
     pub code: u64,
     pub used: u64,

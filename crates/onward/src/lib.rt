@@ -11,7 +11,7 @@ use schema::{Holds, Parent, Spot};
 use tags::Tag;
 
 // How far content was read: up to a place; `row` is the last named child's, and `count` how many stand in it.
-#[derive(Drop)]
+#[derive(Clone, Copy)]
 pub struct Reached {
     pub at: usize,
     pub row: usize,
@@ -20,7 +20,7 @@ pub struct Reached {
 
 // What begins at a place: a start tag that the parent names, with the place of its `>`, its row and what it holds; an element that the parent does not
 // name; or anything else.
-#[derive(Drop)]
+#[derive(Clone, Copy)]
 enum Start {
     Named(usize, usize, Holds),
     Unnamed,

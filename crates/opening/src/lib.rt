@@ -9,7 +9,7 @@ ghost use Rattle.request.specs.Request.{first_body, asked, needed, request_ok};
 ghost use Rattle.opening.specs.Opening.{no_cents, opened, open_code, OpenPromise};
 
 // What opening answers.
-#[derive(Drop)]
+#[derive(Clone, Copy)]
 pub enum Opened {
     Open,
     WrongRequest,

@@ -6,7 +6,7 @@ use calendar::Date;
 use codes::Operation;
 
 // The line that a line of a SOSTITUZIONE names, by number, line and esercizio.
-#[derive(Drop)]
+#[derive(Clone, Copy)]
 pub struct NamedLine {
     pub number: u64,
     pub line: u64,
@@ -14,7 +14,7 @@ pub struct NamedLine {
 }
 
 // A line of an order: its progressivo, its cents and the line that it names, zeros where it names none.
-#[derive(Drop)]
+#[derive(Clone, Copy)]
 pub struct Line {
     pub progressivo: u64,
     pub amount: u64,
@@ -22,14 +22,14 @@ pub struct Line {
 }
 
 // An order's lines: how many, and each of them, zeros after them.
-#[derive(Drop)]
+#[derive(Clone, Copy)]
 pub struct Lines {
     pub count: usize,
     pub each: [Line; 8],
 }
 
 // Kind: 1 mandato, 2 reversale.
-#[derive(Drop)]
+#[derive(Clone, Copy)]
 pub struct Order {
     pub kind: u8,
     pub operation: Operation,

@@ -10,7 +10,7 @@ use rows::Next;
 use schema::Parent;
 
 // Where a child stands: the place of its `<`, and its text; zeros where there is none.
-#[derive(Drop)]
+#[derive(Clone, Copy)]
 pub struct Span {
     pub lt: usize,
     pub from: usize,

@@ -1,18 +1,20 @@
 // Tests of the bytes from one index of a buffer up to another, and the answer of a search.
+#![tactic(auto)]
+
 ghost use Rattle.std.specs.Prelude.{◌≡◌, ◌≤◌, length};
 ghost use Rattle.scan.specs.Bytes.{part, all};
 ghost use Rattle.ranges.specs.Ranges.{zeros, is_identifying, is_of, is_nothing};
 ghost use Rattle.ranges.specs.Inner.{greater_of};
 
 // Where a search found what it looked for.
-#[derive(Drop)]
+#[derive(Clone, Copy)]
 pub enum Found {
     At(usize),
     Nothing,
 }
 
 // What the bytes of a code, an identifier or an empty place may be.
-#[derive(Drop)]
+#[derive(Clone, Copy)]
 pub enum Class {
     Digits,
     Alphanumeric,

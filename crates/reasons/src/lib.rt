@@ -9,7 +9,7 @@ use printing::{say, say_number};
 use schema::{Holds, Parent, Spot};
 
 // The form that document 01 asks of an element, if it names it as a field.
-#[derive(Drop)]
+#[derive(Clone, Copy)]
 enum Wanted {
     By(Form),
     Nothing,

@@ -28,7 +28,7 @@ pub const EXECUTED: u8 = 2;
 pub const REPLACED: u8 = 3;
 
 // What a slot holds of an order.
-#[derive(Drop)]
+#[derive(Clone, Copy)]
 pub struct Record {
     pub kind: u8,
     pub state: u8,
@@ -42,7 +42,7 @@ pub struct Record {
 }
 
 // What tells a body's orders apart.
-#[derive(Drop)]
+#[derive(Clone, Copy)]
 pub struct Key {
     pub kind: u64,
     pub esercizio: u64,

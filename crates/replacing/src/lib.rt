@@ -11,7 +11,7 @@ use ranges::Found;
 use record::{Key, Record};
 
 // The line that a line of an order names, and that line's own amount.
-#[derive(Drop)]
+#[derive(Clone, Copy)]
 pub struct Naming {
     pub key: Key,
     pub line: u64,

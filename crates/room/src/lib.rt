@@ -13,7 +13,7 @@ use training::Book;
 pub const SEATS: usize = 16;
 
 // A body: the first bytes of `code` are its code.
-#[derive(Drop)]
+#[derive(Clone, Copy)]
 pub struct Seat {
     pub size: usize,
     pub code: [u8; 16],
@@ -21,7 +21,7 @@ pub struct Seat {
     pub book: Book,
 }
 
-#[derive(Drop)]
+#[derive(Clone, Copy)]
 pub struct Room {
     pub abi: [u8; 5],
     pub count: usize,

@@ -20,7 +20,7 @@ use room::Room;
 use schema::Parent;
 
 // What a flow answers, and the room afterwards.
-#[derive(Drop)]
+#[derive(Clone, Copy)]
 pub struct FlowTaught {
     pub answer: FlowAnswer,
     pub room: Room,

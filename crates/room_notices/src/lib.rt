@@ -16,14 +16,14 @@ use room::Room;
 use training::Book;
 
 // What a notice answers, and the room afterwards.
-#[derive(Drop)]
+#[derive(Clone, Copy)]
 pub struct NoticeTaught {
     pub answer: NoticeAnswer,
     pub room: Room,
 }
 
 // What a notice answers of one body, and its orders afterwards.
-#[derive(Drop)]
+#[derive(Clone, Copy)]
 struct BookNoticed {
     answer: NoticeAnswer,
     book: Book,

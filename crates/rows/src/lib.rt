@@ -13,28 +13,28 @@ use fields::{Form, Value, Valued};
 use schema::{Holds, Parent, Spot};
 
 // A child that its parent names.
-#[derive(Drop)]
+#[derive(Clone, Copy)]
 pub struct Kept {
     pub child: Child,
     pub row: usize,
     pub holds: Holds,
 }
 
-#[derive(Drop)]
+#[derive(Clone, Copy)]
 pub enum Next {
     Named(Kept),
     Done,
 }
 
 // A field of the flow, read by its form: its value and the place after it, or the place of the `<` of one that breaks.
-#[derive(Drop)]
+#[derive(Clone, Copy)]
 pub enum FieldRead {
     Said(Value, usize),
     Broken(usize),
 }
 
 // Whether an order replaces others, where that was read.
-#[derive(Drop)]
+#[derive(Clone, Copy)]
 pub enum Replacing {
     Known(bool),
     Unread,

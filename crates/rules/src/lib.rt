@@ -9,7 +9,7 @@ use order::{Lines, Order};
 use record::Record;
 
 // Where the step table's columns stand.
-#[derive(Drop)]
+#[derive(Clone, Copy)]
 pub enum Situation {
     Absent,
     Annulled,
@@ -18,7 +18,7 @@ pub enum Situation {
 }
 
 // What an order may change.
-#[derive(Drop)]
+#[derive(Clone, Copy)]
 pub enum Change {
     Insert,
     Vary,
@@ -27,14 +27,14 @@ pub enum Change {
 }
 
 // What an order comes to: the change, and the slot that its record takes, or a code.
-#[derive(Drop)]
+#[derive(Clone, Copy)]
 pub enum Ruling {
     Accepted(Change, usize),
     Refused(u8),
 }
 
 // What a notice comes to: the slot of its order and the line's cents, or a code.
-#[derive(Drop)]
+#[derive(Clone, Copy)]
 pub enum Noticed {
     Moved(usize, u64),
     Unmoved(u8),

@@ -13,7 +13,7 @@ ghost use Rattle.salvage.specs.Inner.{Fits};
 use body::Sums;
 
 // What salvage answers: repaired, with the number of slots blanked, or why not.
-#[derive(Drop)]
+#[derive(Clone, Copy)]
 pub enum Salvaged {
     Repaired(usize),
     InvalidContents,
@@ -21,7 +21,7 @@ pub enum Salvaged {
 }
 
 // An answer in document 02's numbers.
-#[derive(Drop)]
+#[derive(Clone, Copy)]
 pub struct SalvageReply {
     pub code: u64,
     pub blanked: u64,

@@ -8,7 +8,7 @@ ghost use Rattle.scan.specs.Characters.{is_char, sized, is_tail, char_size, char
 ghost use Rattle.scan.specs.References.{ref_at};
 
 // Where a reader stands when it is done, or the place at which what it reads breaks.
-#[derive(Drop)]
+#[derive(Clone, Copy)]
 pub enum Walk {
     Past(usize),
     Broken(usize),

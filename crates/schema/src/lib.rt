@@ -7,7 +7,7 @@ use fields::Form;
 
 // The parents of document 01's table, an order and a line of it each with whether the order replaces others; then those of outcome messages, and
 // edition 2's root and header.
-#[derive(Drop)]
+#[derive(Clone, Copy)]
 pub enum Parent {
     FlussoOrdinativi,
     Mandato(bool),
@@ -29,14 +29,14 @@ pub enum Parent {
 }
 
 // What a named child holds.
-#[derive(Drop)]
+#[derive(Clone, Copy)]
 pub enum Holds {
     Text(Form),
     Rows(Parent),
 }
 
 // The row of its parent's table that a name stands in.
-#[derive(Drop)]
+#[derive(Clone, Copy)]
 pub enum Spot {
     At(usize, Holds),
     Passed,

@@ -22,7 +22,7 @@ use rules::{Change, Noticed, Ruling};
 use slots::Sought;
 
 // What an order comes to, and how many slots its search looked at.
-#[derive(Drop)]
+#[derive(Clone, Copy)]
 pub struct Counted {
     pub ruling: Ruling,
     pub steps: usize,

@@ -12,7 +12,7 @@ use rules::Ruling;
 use schema::Parent;
 
 // What a flow's orders come to together: how many were accepted, and how many slots their searches looked at.
-#[derive(Drop)]
+#[derive(Clone, Copy)]
 pub struct FlowSums {
     pub accepted: usize,
     pub steps: usize,

@@ -9,7 +9,7 @@ use ranges::Found;
 use record::Key;
 
 // What a search for an order tells: the place of its record, or that it is absent, and how many records there are; the next slot is the first empty one.
-#[derive(Drop)]
+#[derive(Clone, Copy)]
 pub enum Sought {
     At(usize),
     Absent(usize),

@@ -15,7 +15,7 @@ use rows::{FieldRead, Next};
 use schema::{Holds, Parent};
 
 // What content comes to; a field that breaks is named by its `<`, with its cause.
-#[derive(Drop)]
+#[derive(Clone, Copy)]
 pub enum Standing {
     StructureBreaks,
     FieldBreaks(usize, Cause),
@@ -23,7 +23,7 @@ pub enum Standing {
 }
 
 // What breaks in content. It has no place and no cause, which content that stands would pay for.
-#[derive(Drop)]
+#[derive(Clone, Copy)]
 pub enum Breaking {
     Structure,
     Field,

@@ -24,7 +24,7 @@ pub const OLD_ENTRY: usize = 32;
 
 // What tells tables apart: an entry's size, where its rest begins, whether it keeps totals before that, whether lines may be replaced, whether it has a
 // closed year after the totals, the head's number, the greatest length.
-#[derive(Drop)]
+#[derive(Clone, Copy)]
 pub struct Layout {
     pub entry: usize,
     pub rest: usize,

@@ -8,7 +8,7 @@ use fields::Form;
 use schema::{Holds, Parent};
 
 // A start tag of a parent's named child: the place of its `>`, its row and what it holds; or any other bytes, a tag or none.
-#[derive(Drop)]
+#[derive(Clone, Copy)]
 pub enum Tag {
     Opening(usize, usize, Holds),
     Other,

@@ -8,7 +8,7 @@ ghost use Rattle.target_days.specs.Target.{weekend, fixed_closing, march_day, cl
 use calendar::Date;
 
 // The first TARGET day on or after a date, or 27 with zeros.
-#[derive(Drop)]
+#[derive(Clone, Copy)]
 pub struct FirstDay {
     pub code: u64,
     pub date: Date,

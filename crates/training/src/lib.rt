@@ -22,21 +22,21 @@ use rules::{Change, Noticed, Ruling};
 pub const PLACES: usize = 32;
 
 // A body's orders: how many, and each of them.
-#[derive(Drop)]
+#[derive(Clone, Copy)]
 pub struct Book {
     pub count: usize,
     pub records: [Record; 32],
 }
 
 // The first code that isn't 0 of some lines that are named, and the body's orders with them replaced where there is none.
-#[derive(Drop)]
+#[derive(Clone, Copy)]
 struct Marked {
     code: u8,
     book: Book,
 }
 
 // What an order comes to, how many orders its search looked at, and the body's orders afterwards.
-#[derive(Drop)]
+#[derive(Clone, Copy)]
 pub struct OrderServed {
     pub ruling: Ruling,
     pub steps: usize,
@@ -44,7 +44,7 @@ pub struct OrderServed {
 }
 
 // What a notice comes to, and the body's orders afterwards.
-#[derive(Drop)]
+#[derive(Clone, Copy)]
 pub struct NoticeServed {
     pub noticed: Noticed,
     pub book: Book,

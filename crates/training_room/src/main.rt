@@ -4,7 +4,7 @@ use printing::say;
 use room::Room;
 
 // A room, and whether the lesson goes on.
-#[derive(Drop)]
+#[derive(Clone, Copy)]
 struct Lesson {
     room: Room,
     more: bool,

@@ -13,7 +13,7 @@ use calendar::Date;
 use record::{both, wide};
 
 // A record judged: broken, or valid with the cents of its executed lines.
-#[derive(Drop)]
+#[derive(Clone, Copy)]
 pub enum Judged {
     Broken,
     Right(u64),

@@ -11,7 +11,7 @@ use address::Addressed;
 use body::Sums;
 
 // What a close answers: why not, or the number of records removed.
-#[derive(Drop)]
+#[derive(Clone, Copy)]
 pub enum CloseAnswer {
     InvalidTable,
     UnknownBody,
@@ -23,7 +23,7 @@ pub enum CloseAnswer {
 }
 
 // An answer in document 02's numbers.
-#[derive(Drop)]
+#[derive(Clone, Copy)]
 pub struct CloseReply {
     pub code: u64,
     pub removed: u64,
