@@ -1,4 +1,6 @@
 // Real Gregorian dates of the years 2000 to 2099, which fields write and the table keeps.
+#![tactic(auto)]
+
 ghost use Rattle.std.specs.Prelude.{◌≡◌};
 ghost use Rattle.calendar.specs.Calendar.{leap, month_length, is_date};
 
