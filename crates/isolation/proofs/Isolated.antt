@@ -1,5 +1,5 @@
 -- CONDITION 3, proved of every machine that keeps the laws. Assumes nothing.
-use mathlib.Core.Path.{◌≡◌, refl, sym, ◌∙◌, ap, ap₂}
+use mathlib.Core.Path.{◌≡◌, refl, sym, ◌∙◌, ap, ap₂, subst}
 use mathlib.Core.Bool.{Bool, true, false}
 use mathlib.Core.Option.{Option, none, some}
 use mathlib.Core.List.{List, [], ◌∷◌, ◌++◌, map}
@@ -145,7 +145,9 @@ module _ (M : Machine) where
   answer_at : (i j : ℕ) (cs : List M.Call) (s : M.State) → ticket (j + i) (tickets M (number j cs) s) ≡ get_elem? (map (λ l. l.1) (log M cs s)) i
   answer_at i j [] s = refl
   answer_at zero j (c ∷ cs) s = rw (add-zero, is_same j)
-  answer_at (suc i) j (c ∷ cs) s = rw (is_other j (j + suc i) (omega arith)) (rw (add-suc, ← suc-add) (answer_at i (suc j) cs (M.next c s)))
+  answer_at (suc i) j (c ∷ cs) s =
+      let e : suc j + i ≡ j + suc i = omega arith in
+      rw (is_other j (j + suc i) (omega arith)) (subst (λ (n : ℕ). ticket n (tickets M (number (suc j) cs) (M.next c s)) ≡ get_elem? (map (λ l. l.1) (log M cs (M.next c s))) i) e (answer_at i (suc j) cs (M.next c s)))
 
 -- THE THEOREM
 pub isolated : (M : Machine) (Good : M.State → Type 0) → Laws M Good → (fresh : M.State) → Good fresh → Isolated M fresh
