@@ -1,5 +1,7 @@
 // The markup of a flow or of another document: element and content readers, which call each other, and the whole. What is read is noted, so that later passes
 // look a child's name and end up instead of walking it again.
+#![tactic(auto)]
+
 ghost use Rattle.std.specs.Prelude.{◌≡◌, ℕ, ◌+◌, ◌-◌, ◌≤◌, ◌<◌, length};
 ghost use Rattle.markup.specs.Markup.{element_at, children_by, content_at, closed_by, markup_of};
 ghost use Rattle.markup.specs.Inner.{broken_at, opened_of};
