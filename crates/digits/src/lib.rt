@@ -1,4 +1,6 @@
 // The forms that write a number in digits: esercizio, numero, progressivo, the amounts, and codice_errore of an outcome message.
+#![tactic(auto)]
+
 ghost use Rattle.std.specs.Prelude.{◌≡◌, ◌≤◌};
 ghost use Rattle.scan.specs.Bytes.{between};
 ghost use Rattle.digits.specs.Digits.{is_value, within, digits, esercizio, numero_written, numero, progressivo, importo, is_refusal, codice_errore};
