@@ -1,0 +1,12 @@
+use mathlib.Core.Path.{◌≡◌, refl, sym, ap, ◌∙◌}
+use borrow.Author.Rules.{rules}
+use native.Mathlib.Omega.{arith}
+use Rattle.calendar.specs.Calendar.{leap, month_length}
+use Rattle.days.specs.Days.{length_at, month_start}
+use Rattle.days.proofs.Table.{starts, table_rule}
+use Rattle.days.proofs.wide.Reads as wide-reads
+use Rattle.days.proofs.start_of.Goals as goal
+
+pub returns : goal.returns
+unfolding starts length_at month_length leap
+returns c = c.wide.ensures ∙ table_rule c.args.k c.requires
