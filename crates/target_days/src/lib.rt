@@ -1,4 +1,6 @@
 // TARGET days of the years 2002 to 2099, and the first of them on or after a date.
+#![tactic(auto)]
+
 ghost use Rattle.std.specs.Prelude.{◌≡◌, true, ◌≤◌};
 ghost use Rattle.calendar.specs.Calendar.{is_date};
 ghost use Rattle.days.specs.Days.{served, date_by, next_day};
