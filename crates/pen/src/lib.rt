@@ -1,4 +1,6 @@
 // A pen: bytes, tags, and numbers in digits, written one after the other into a lent buffer.
+#![tactic(auto)]
+
 ghost use Rattle.std.specs.Prelude.{[], ◌∷◌};
 ghost use Rattle.grammar.specs.Grammar.{start_tag, end_tag};
 ghost use Rattle.pen.specs.Pen.{Wrote, Room, tagged};

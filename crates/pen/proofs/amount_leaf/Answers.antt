@@ -1,0 +1,16 @@
+use Rattle.pen.specs.Decimal.{amount}
+use Rattle.pen.proofs.Laws.{room_open, room_in, room_close, wrote_tagged}
+use borrow.Author.Rules.{rules}
+use Rattle.pen.proofs.amount_leaf.Goals as goal
+
+pub open_tag-a-requires : goal.open_tag-a-requires
+open_tag-a-requires c = room_open c.args.name.now (amount c.args.cents) c.requires
+
+pub amount_of-b-requires : goal.amount_of-b-requires
+amount_of-b-requires c = room_in c.args.name.now (amount c.args.cents) c.requires c.open_tag-a.ensures
+
+pub close_tag-requires : goal.close_tag-requires
+close_tag-requires c = room_close c.args.name.now (amount c.args.cents) c.requires c.open_tag-a.ensures c.amount_of-b.ensures
+
+pub returns : goal.returns
+returns c = wrote_tagged c.args.name.now (amount c.args.cents) c.open_tag-a.ensures c.amount_of-b.ensures c.close_tag.ensures

@@ -1,0 +1,15 @@
+use Rattle.pen.proofs.Laws.{room_open, room_in, room_close, wrote_tagged}
+use borrow.Author.Rules.{rules}
+use Rattle.pen.proofs.leaf.Goals as goal
+
+pub open_tag-a-requires : goal.open_tag-a-requires
+open_tag-a-requires c = room_open c.args.name.now c.args.text.now c.requires
+
+pub ink-b-requires : goal.ink-b-requires
+ink-b-requires c = room_in c.args.name.now c.args.text.now c.requires c.open_tag-a.ensures
+
+pub close_tag-requires : goal.close_tag-requires
+close_tag-requires c = room_close c.args.name.now c.args.text.now c.requires c.open_tag-a.ensures c.ink-b.ensures
+
+pub returns : goal.returns
+returns c = wrote_tagged c.args.name.now c.args.text.now c.open_tag-a.ensures c.ink-b.ensures c.close_tag.ensures
