@@ -1,4 +1,6 @@
 // One slot of the table: 96 bytes that hold one record.
+#![tactic(auto)]
+
 ghost use Rattle.std.specs.Prelude.{◌≡◌, ◌&&◌, ◌+◌, ◌*◌, ◌≤◌, ◌<◌, length};
 ghost use Rattle.words.specs.Numbers.{put};
 ghost use Rattle.record.specs.Slot.{slot_size, be8s, eight_at, date_at, record_at, rest_zero, slot_head, flat8, record_bytes, key_is, key_of};

@@ -1,0 +1,16 @@
+use borrow.Author.Rules.{rules}
+use Prim.Native.Nat.{◌-◌, ◌≤◌}
+use mathlib.Core.Path.{◌≡◌, refl, sym}
+use native.Mathlib.Omega.{arith}
+use lib.ListN.{length, take}
+use Rattle.words.specs.Numbers.{put}
+use Rattle.words.proofs.Laws.{put_nil}
+use Rattle.record.specs.Slot.{flat8}
+use Rattle.record.proofs.Laws.{turn, whole}
+use Rattle.record.proofs.put_amounts.Given as goal
+
+abbrev pub invariant-loop-i : goal.invariant-loop-i
+invariant-loop-i l = (l.i ≤ length l.a) × ((length l.t ≡ length l.initial.t) × (l.t ≡ put l.initial.t l.at (flat8 (take l.i l.a))))
+
+abbrev pub decreases-loop-i : goal.decreases-loop-i
+decreases-loop-i l = length l.a - l.i
