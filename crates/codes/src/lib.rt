@@ -1,5 +1,7 @@
 // The forms whose text stays bytes: the two codes, the identifier of a flow, and the words of tipo_operazione and esito_operazione. Nothing here makes
 // a number.
+#![tactic(auto)]
+
 ghost use Rattle.std.specs.Prelude.{◌≡◌};
 ghost use Rattle.codes.specs.Codes.{codice_abi, identificativo, codice_ente, tipo_operazione, is_asked, operation_number, length_in, accepted_word, refused_word, refused_by, esito_by, esito_operazione, is_word};
 

@@ -1,0 +1,7 @@
+use Rattle.codes.specs.Codes.{esito_operazione}
+use borrow.Author.Rules.{rules}
+use Rattle.codes.proofs.esito_operazione.Goals as goal
+
+pub returns : goal.returns
+unfolding esito_operazione
+returns c = rw (c.esito_of.ensures, c.refused_esito.ensures, c.refused_word.ensures, c.accepted_word.ensures)
