@@ -1,5 +1,7 @@
 // When the record in a slot is valid by itself: its ranges, its eight lines, and their sum; and the cents of its executed lines. All is read where the
 // bytes stand.
+#![tactic(auto)]
+
 ghost use Rattle.std.specs.Prelude.{◌≡◌, ◌&&◌, cond, ◌+◌, ◌-◌, ◌*◌, ◌≤◌, ◌<◌, length, get_or, drop, eqb};
 ghost use Rattle.words.specs.Numbers.{be8};
 ghost use Rattle.scan.specs.Bytes.{between};

@@ -1,0 +1,17 @@
+use borrow.Author.Rules.{rules}
+use Prim.Native.Nat.{◌-◌, ◌≤◌}
+use mathlib.Core.Path.{◌≡◌, refl, sym}
+use mathlib.Core.Bool.{◌&&◌}
+use native.Mathlib.Omega.{arith}
+use Rattle.record.specs.Slot.{record_at}
+use Rattle.valid.specs.Valid.{line_ok, all_from}
+use Rattle.valid.proofs.Lines.{past_more, past_done}
+use Rattle.record.proofs.both.Reads as both-reads
+use Rattle.valid.proofs.line_absent.Reads as line-absent-reads
+use Rattle.valid.proofs.absent_from.Given as goal
+
+abbrev pub invariant-loop-k : goal.invariant-loop-k
+invariant-loop-k l = (l.lines ≤ l.k) × (l.k ≤ 8) × (all_from (line_ok (record_at l.t l.at)) l.lines (8 - l.lines) ≡ (l.right && all_from (line_ok (record_at l.t l.at)) l.k (8 - l.k)))
+
+abbrev pub decreases-loop-k : goal.decreases-loop-k
+decreases-loop-k l = 8 - l.k
