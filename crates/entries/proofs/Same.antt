@@ -6,7 +6,7 @@ use Prim.Native.Nat.{ℕ, zero, suc, ◌+◌, ◌-◌, ◌*◌, ◌≤◌, ◌<�
 use native.Mathlib.Nat.{add-zero, mul-zero, not-suc-le-zero}
 use native.Mathlib.Omega.{arith}
 use lib.ListN.{length, get_or, drop, length-drop}
-use lib.Seq.{length-take-le, get_or_take, get_or-drop, ext_get_or}
+use lib.Seq.{length-take-le, get_or-take, get_or-drop, ext_get_or}
 use lib.Dec.{eqb}
 use borrow.Author.Tests.{le-leb}
 use Rattle.scan.specs.Bytes.{part, all, is_alnum}
@@ -26,9 +26,9 @@ module _ {s t : List ℕ} {p q n : ℕ} (h : Agree s p t q n) (k m : ℕ) (f : m
       (λ i b.
       let u : a + i ≡ p + (k + i) = omega arith in
       let v : q + (k + i) ≡ a' + i = omega arith in
-      get_or_take (e - a) (drop a s) i 0 (omega arith) ∙ get_or-drop a s i 0 ∙ ap (λ (z : ℕ). get_or s z 0) u
+      get_or-take (e - a) (drop a s) i 0 (omega arith) ∙ get_or-drop a s i 0 ∙ ap (λ (z : ℕ). get_or s z 0) u
       ∙ h.same (k + i) (omega arith)
-      ∙ ap (λ (z : ℕ). get_or t z 0) v ∙ sym (get_or-drop a' t i 0) ∙ sym (get_or_take (e' - a') (drop a' t) i 0 (omega arith)))
+      ∙ ap (λ (z : ℕ). get_or t z 0) v ∙ sym (get_or-drop a' t i 0) ∙ sym (get_or-take (e' - a') (drop a' t) i 0 (omega arith)))
 
   pub zeros_agree : (a e a' e' : ℕ) → a ≡ p + k → e ≡ p + m → a' ≡ q + k → e' ≡ q + m → e ≤ length s → e' ≤ length t → zeros s a e ≡ zeros t a' e'
   unfolding zeros

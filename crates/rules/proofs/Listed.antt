@@ -8,7 +8,7 @@ use mathlib.Core.Path.{◌≡◌, refl, sym, ap, subst, ◌∙◌}
 use native.Mathlib.Omega.{arith}
 use lib.ListN.{length, get_or}
 use lib.Dec.{eqb, leb, ltb}
-use borrow.Author.Tests.{eq_eqb, ne_eqb, eqb-true, eqb-false, ltb-true, ltb-false, le-ltb, leb-true, leb-false, lt-leb}
+use borrow.Author.Tests.{eq-eqb, ne_eqb, eqb-true, eqb-false, ltb-true, ltb-false, le-ltb, leb-true, leb-false, lt-leb}
 use Rattle.scan.proofs.Laws.{both}
 use Rattle.ranges.specs.Ranges.{is_nothing}
 use Rattle.ranges.specs.declared.Found.{Found}
@@ -64,7 +64,7 @@ found_has rs k i e = record { among = at_in rs i (found_below rs k i no_record e
 is_key : (r : Record) (k : Key) → key_of r ≡ k → key_is r k ≡ true
 unfolding key_is
 is_key r k e =
-    rw (eq_eqb r.kind k.kind (ap (λ (x : Key). x.kind) e), eq_eqb r.esercizio k.esercizio (ap (λ (x : Key). x.esercizio) e), eq_eqb r.number k.number (ap (λ (x : Key). x.number) e))
+    rw (eq-eqb r.kind k.kind (ap (λ (x : Key). x.kind) e), eq-eqb r.esercizio k.esercizio (ap (λ (x : Key). x.esercizio) e), eq-eqb r.number k.number (ap (λ (x : Key). x.number) e))
 
 none_found : (rs : List Record) (j : ℕ) (k : Key) → find_in rs j k ≡ Nothing → (r : Record) → Memᴰ r rs → key_of r ≡ k → ⊥
 unfolding find_in
@@ -165,7 +165,7 @@ numbered_from_lem n [] h = refl
 numbered_from_lem n (l ∷ ls) h =
     let e : l.progressivo ≡ n = omega (arith, h 0 (omega arith)) in
     let r = numbered_from_lem (n + 1) ls (λ k p. omega (arith, h (suc k) (omega arith))) in
-    rw (eq_eqb l.progressivo n e, r)
+    rw (eq-eqb l.progressivo n e, r)
 
 from_numbered : (n : ℕ) (ls : List Line) → numbered_from n ls ≡ true → (k : ℕ) → k < length ls → get_or (numbers ls) k 0 ≡ n + k
 unfolding numbered_from
@@ -184,7 +184,7 @@ true_numbered ls e k p = omega (arith, from_numbered 1 ls e k p)
 same_self : (a : List ℕ) → same_list a a ≡ true
 unfolding same_list
 same_self [] = refl
-same_self (x ∷ a) = rw (eq_eqb x x refl, same_self a)
+same_self (x ∷ a) = rw (eq-eqb x x refl, same_self a)
 
 same_true : (a b : List ℕ) → same_list a b ≡ true → a ≡ b
 unfolding same_list
@@ -304,9 +304,9 @@ module _ (o : Ordinativo) where
   unfolding same_named naming_at
   named_same i j e =
       rw (
-        eq_eqb (line_at o i).named.line (line_at o j).named.line (ap (λ (n : NamedLine). n.line) e),
-        eq_eqb (line_at o i).named.number (line_at o j).named.number (ap (λ (n : NamedLine). n.number) e),
-        eq_eqb (line_at o i).named.esercizio (line_at o j).named.esercizio (ap (λ (n : NamedLine). n.esercizio) e),
+        eq-eqb (line_at o i).named.line (line_at o j).named.line (ap (λ (n : NamedLine). n.line) e),
+        eq-eqb (line_at o i).named.number (line_at o j).named.number (ap (λ (n : NamedLine). n.number) e),
+        eq-eqb (line_at o i).named.esercizio (line_at o j).named.esercizio (ap (λ (n : NamedLine). n.esercizio) e),
       )
 
   before : (n j : ℕ) → named_earlier o.kind o.lines n (at j) ≡ true → (i : ℕ) × (i < n) × ((line_at o i).named ≡ (line_at o j).named)
@@ -578,7 +578,7 @@ module _ (slots year : ℕ) (o : Ordinativo) (rs : List Record) where
       -- the answer is what comes after the step table
       placed_is : answer ≡ placed slots o rs change found
       unfolding judge_order stepped line_code
-      placed_is = rw (numbered, eq_eqb (sum_of o.lines) o.total summed, z)
+      placed_is = rw (numbered, eq-eqb (sum_of o.lines) o.total summed, z)
 
       -- a new order whose named lines all stand, or that names none
       at_end : WithNew o.operation → (c : Change) → answer ≡ first_empty c slots rs → (o.operation ≡ Sostituzione → (i : ℕ) → i < length o.lines → code i ≡ 0) → Decided
@@ -690,7 +690,7 @@ module _ (slots year : ℕ) (o : Ordinativo) (rs : List Record) where
     steps : (numbered : numbered_from 1 o.lines ≡ true) → sum_of o.lines ≡ o.total → (n : ℕ) → step ≡ suc n → Decided
     unfolding judge_order stepped line_code situation_of situation_in
     steps numbered summed n e =
-        stopped (record { turn = 3; with = suc n; is = rw (numbered, eq_eqb (sum_of o.lines) o.total summed, e); applies = go o.operation refl found refl e; first = λ a. past_lines numbered summed (turn_of a) })
+        stopped (record { turn = 3; with = suc n; is = rw (numbered, eq-eqb (sum_of o.lines) o.total summed, e); applies = go o.operation refl found refl e; first = λ a. past_lines numbered summed (turn_of a) })
       where
         kept_as : {x : ℕ} → Applies slots year o rs 3 x → x ≡ suc n → Applies slots year o rs 3 (suc n)
         kept_as a q = subst (Applies slots year o rs 3) q a
@@ -766,7 +766,7 @@ module _ (slots year : ℕ) (o : Ordinativo) (rs : List Record) where
         let a : last_turn o ≡ 1 → ⊥ = λ q. omega arith in
         let b : last_turn o ≡ 2 → ⊥ = λ q. omega arith in
         let c : last_turn o ≡ 3 → ⊥ = λ q. omega arith in
-        sym (rw (ne_eqb _ _ a, ne_eqb _ _ b, ne_eqb _ _ c, eq_eqb (last_turn o) (last_turn o) refl))
+        sym (rw (ne_eqb _ _ a, ne_eqb _ _ b, ne_eqb _ _ c, eq-eqb (last_turn o) (last_turn o) refl))
 
     -- a name's turn, as it is listed
     turned : {t c : ℕ} (j k : ℕ) → j < length o.lines → k < 3 → t ≡ name_turn j + k → c ≡ 24 + k → c ≡ code_at t
@@ -869,7 +869,7 @@ module _ (executing : Bool) (k : Key) (line : ℕ) (rs : List Record) where
 
     closed_by : IsAnnulled it → NoticeBy (notice_at executing line rs (At i)) 2
     unfolding notice_at notice_in
-    closed_by e = record { code = 17; is = rw (eq_eqb it.state 2 e); soon = omega arith }
+    closed_by e = record { code = 17; is = rw (eq-eqb it.state 2 e); soon = omega arith }
 
     moves_by : (c : ℕ) → line_moves executing state ≡ suc c → notice_turn (suc c) ≤ 4 → NoticeBy (notice_at executing line rs (At i)) 4
     moves_by c e l = in_range 4 (omega arith) (rw e (record { code = suc c; is = refl; soon = l }))

@@ -6,7 +6,7 @@ use mathlib.Core.Bool.{Bool, true, false}
 use mathlib.Core.List.{List}
 use native.Mathlib.Omega.{arith}
 use lib.ListN.{length, get_or, drop, length-drop}
-use lib.Seq.{length-take-le, get_or_take, get_or-drop}
+use lib.Seq.{length-take-le, get_or-take, get_or-drop}
 use Rattle.calendar.specs.declared.Date.{Date}
 use Rattle.target_days.specs.Target.{target_code}
 use Rattle.ranges.specs.declared.Found.TheVariants.{At}
@@ -60,7 +60,7 @@ module _ (t : List ℕ) (ok : table_ok t ≡ true) where
   piece at n h = record {
     same = λ i b.
         let z : 0 + (at + i) ≡ at + i = omega arith in
-        get_or_take (size - 0) (drop 0 t) (at + i) 0 (omega arith) ∙ get_or-drop 0 t (at + i) 0 ∙ ap (λ (x : ℕ). get_or t x 0) z;
+        get_or-take (size - 0) (drop 0 t) (at + i) 0 (omega arith) ∙ get_or-drop 0 t (at + i) 0 ∙ ap (λ (x : ℕ). get_or t x 0) z;
   }
 
   rows : (at n : ℕ) → at + entry_size * n ≤ size → Rows (contents_of t) t entry_size entry_size at at n
