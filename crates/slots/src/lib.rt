@@ -1,4 +1,6 @@
 // The records of a body's slots: which are used, the search for an order, and whether a key stands twice.
+#![tactic(auto)]
+
 ghost use Rattle.std.specs.Prelude.{◌≡◌, true, false, ◌+◌, ◌*◌, ◌≤◌, ◌<◌, length};
 ghost use Rattle.record.specs.Slot.{slot_size};
 ghost use Rattle.ranges.specs.Ranges.{is_nothing};

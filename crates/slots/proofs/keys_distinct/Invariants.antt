@@ -1,0 +1,18 @@
+use borrow.Author.Rules.{rules}
+use Prim.Native.Nat.{ℕ, ◌+◌, ◌-◌, ◌*◌, ◌≤◌}
+use mathlib.Core.Bool.{true}
+use mathlib.Core.Path.{◌≡◌, refl, sym, ◌∙◌}
+use native.Mathlib.Omega.{arith}
+use borrow.Author.Tests.{not-true, not-false}
+use lib.ListN.{length-replicate}
+use Rattle.record.specs.Slot.{slot_size}
+use Rattle.slots.specs.Slots.{slots_at, distinct}
+use Rattle.slots.proofs.Laws.{slots_none, distinct_nil}
+use Rattle.slots.proofs.Filter.{Marked, marked_none, unmarked, repeated, one_more, distinct_all}
+use Rattle.slots.proofs.keys_distinct.Given as goal
+
+abbrev pub invariant-loop-later : goal.invariant-loop-later
+invariant-loop-later l = (l.next + slot_size * l.later ≡ l.base + slot_size * l.n) × ((l.later ≤ l.n) × ((distinct (slots_at l.t l.next l.later) ≡ true) × Marked l.seen (slots_at l.t l.next l.later)))
+
+abbrev pub decreases-loop-later : goal.decreases-loop-later
+decreases-loop-later l = l.n - l.later

@@ -1,0 +1,15 @@
+use borrow.Author.Rules.{rules}
+use Prim.Native.Nat.{ℕ, ◌+◌, ◌-◌, ◌*◌, ◌≤◌}
+use mathlib.Core.Path.{◌≡◌, sym, ap, ◌∙◌}
+use native.Mathlib.Omega.{arith}
+use Rattle.record.specs.Slot.{slot_size}
+use Rattle.slots.specs.Slots.{records_at}
+use Rattle.slots.specs.Inner.{seek_in}
+use Rattle.slots.proofs.Laws.{records_end, records_none, records_more, seek_first, seek_later, seek_nil}
+use Rattle.slots.proofs.seek.Given as goal
+
+abbrev pub invariant-loop-i : goal.invariant-loop-i
+invariant-loop-i l = (l.at ≡ l.base + slot_size * l.i) × ((l.i ≤ l.n) × (seek_in (records_at l.t l.base l.n) 0 l.key ≡ seek_in (records_at l.t l.at (l.n - l.i)) l.i l.key))
+
+abbrev pub decreases-loop-i : goal.decreases-loop-i
+decreases-loop-i l = l.n - l.i
