@@ -1,4 +1,6 @@
 // The forms that write a date: data_mandato, data_reversale, data_ora_creazione_flusso, and the times of an outcome message.
+#![tactic(auto)]
+
 ghost use Rattle.std.specs.Prelude.{◌≡◌};
 ghost use Rattle.dates.specs.Dates.{on_date, day_of, data_written, real, data_of, clock, is_on, signs, are_numbers, data_ora_written, data_ora, is_sign, zone_signs, zona_by, data_ora_zona, data_ora_zona_written};
 

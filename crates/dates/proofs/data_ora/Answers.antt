@@ -1,0 +1,37 @@
+use mathlib.Core.Path.{◌≡◌, sym, ap, ◌∙◌}
+use mathlib.Core.Bool.{true, false}
+use native.Mathlib.Omega.{arith}
+use borrow.Author.Rules.{rules}
+use borrow.Author.Tests.{not-true, not-false}
+use Rattle.dates.specs.Dates.{data_of, is_on, signs, date_in}
+use Rattle.dates.proofs.Laws.{seen_19, ora_no_signs, ora_no_day, ora_time}
+use Rattle.dates.proofs.data_ora.Goals as goal
+
+pub returns-then-not-signs_stand : goal.returns-then-not-signs_stand
+returns-then-not-signs_stand c = let t = c.args.t.now in
+    let s : signs t ≡ false = sym c.signs_stand.ensures ∙ not-true _ c.if-not-signs_stand.true-raw in
+    sym (ora_no_signs t s)
+
+pub slice_bounds-data_of-end : goal.slice_bounds-data_of-end
+slice_bounds-data_of-end c = omega (arith, seen_19 _ c.signs_stand.ensures c.if-not-signs_stand.false-raw)
+
+pub returns-then-not-is_on : goal.returns-then-not-is_on
+returns-then-not-is_on c = let t = c.args.t.now in
+    let s : signs t ≡ true = sym c.signs_stand.ensures ∙ not-false _ c.if-not-signs_stand.false-raw in
+    let o : is_on (data_of (date_in t)) ≡ false = ap is_on (sym c.data_of.ensures) ∙ (sym c.is_on.ensures ∙ not-true _ c.if-not-is_on.true-raw) in
+    sym (ora_no_day t s o)
+
+pub slice_bounds-two_digits-end : goal.slice_bounds-two_digits-end
+slice_bounds-two_digits-end c = omega (arith, seen_19 _ c.signs_stand.ensures c.if-not-signs_stand.false-raw)
+
+pub slice_bounds-two_digits-end-2 : goal.slice_bounds-two_digits-end-2
+slice_bounds-two_digits-end-2 c = omega (arith, seen_19 _ c.signs_stand.ensures c.if-not-signs_stand.false-raw)
+
+pub slice_bounds-two_digits-end-3 : goal.slice_bounds-two_digits-end-3
+slice_bounds-two_digits-end-3 c = omega (arith, seen_19 _ c.signs_stand.ensures c.if-not-signs_stand.false-raw)
+
+pub returns : goal.returns
+returns c = let t = c.args.t.now in
+    let s : signs t ≡ true = sym c.signs_stand.ensures ∙ not-false _ c.if-not-signs_stand.false-raw in
+    let o : is_on (data_of (date_in t)) ≡ true = ap is_on (sym c.data_of.ensures) ∙ (sym c.is_on.ensures ∙ not-false _ c.if-not-is_on.false-raw) in
+    rw (c.two_digits.ensures, c.two_digits-2.ensures, c.two_digits-3.ensures) at c.clock_stands.ensures ∙ sym (ora_time t s o)
