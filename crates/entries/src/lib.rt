@@ -1,5 +1,7 @@
 // The bodies' entries: their form, their codes compared byte by byte, the search for a body by its code, the totals that they keep and the last year that
 // was closed. A code is never a number.
+#![tactic(auto)]
+
 ghost use Rattle.std.specs.Prelude.{◌≡◌, true, ◌+◌, ◌*◌, ◌≤◌, ◌<◌, length};
 ghost use Rattle.scan.specs.Bytes.{text_is};
 ghost use Rattle.words.specs.Numbers.{put};

@@ -1,0 +1,15 @@
+use Prim.Native.Nat.{◌-◌, ◌+◌, ◌*◌}
+use mathlib.Core.Path.{◌≡◌, refl, sym, ◌∙◌}
+use mathlib.Core.Bool.{true}
+use native.Mathlib.Omega.{arith}
+use borrow.Author.Tests.{not-true, not-false}
+use Rattle.entries.specs.Entry.{forms_ok, codes_from, distinct_codes}
+use Rattle.entries.proofs.Laws.{times, form, forms_split, distinct_not, distinct_on, distinct_done}
+use Rattle.entries.proofs.code_alone.Reads as code-alone-reads
+use Rattle.entries.proofs.codes_distinct.Given as goal
+
+abbrev pub invariant-loop-left : goal.invariant-loop-left
+invariant-loop-left l = (l.at + l.size * l.left ≡ l.first + l.size * l.n) × (forms_ok l.size l.t l.at l.left ≡ true) × (distinct_codes (codes_from l.size l.t l.first l.n) ≡ distinct_codes (codes_from l.size l.t l.at l.left))
+
+abbrev pub decreases-loop-left : goal.decreases-loop-left
+decreases-loop-left l = l.left
