@@ -1,4 +1,6 @@
 // A caller's text or time: a slice of its own that could stand as text in a flow.
+#![tactic(auto)]
+
 ghost use Rattle.std.specs.Prelude.{◌≡◌};
 ghost use Rattle.texts.specs.Texts.{whole_text, caller_text, istat_text, caller_time};
 
