@@ -1,5 +1,7 @@
 // The eleven forms of document 01's field table, and the six that an outcome message adds: each is read once, for its value, and where it has none for
 // what is wrong.
+#![tactic(auto)]
+
 ghost use Rattle.std.specs.Prelude.{◌≡◌};
 ghost use Rattle.fields.specs.Causes.{cause_number, longest, longer, formed, cause_of};
 ghost use Rattle.fields.specs.Fields.{of_text, of_number, of_day, of_operation, of_esito, field_value, reading_of, field_stands};
