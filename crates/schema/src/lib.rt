@@ -1,5 +1,7 @@
 // Document 01's structure table, with replacement lines, edition 2's header and outcome messages, as data; and where a name stands in the table of
 // a flow's parent.
+#![tactic(auto)]
+
 ghost use Rattle.std.specs.Prelude.{◌≡◌, ◌≤◌, length, [], ◌∷◌};
 ghost use Rattle.schema.specs.Table.{name_is, table, orders_row, spot_in};
 
