@@ -1,4 +1,6 @@
 // The children of an element. A child is looked up in the markup pass's notes, and not read again.
+#![tactic(auto)]
+
 ghost use Rattle.std.specs.Prelude.{◌≡◌, ◌+◌, ◌-◌, ◌≤◌, ◌<◌, length};
 ghost use Rattle.markup.specs.Noted.{Noted};
 ghost use Rattle.children.specs.Child.{child_at, child_to, FieldPromise, NamePromise, TextPromise};

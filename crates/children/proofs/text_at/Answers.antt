@@ -1,0 +1,17 @@
+use mathlib.Core.Path.{refl}
+use native.Mathlib.Omega.{arith}
+use Rattle.children.proofs.Laws.{field_within}
+use borrow.Author.Rules.{rules}
+use Rattle.children.proofs.field_at.Reads as field-at-reads
+use Rattle.children.proofs.text_at.Goals as goal
+
+pub overflow_add-e : goal.overflow_add-e
+overflow_add-e c = let l = (field_within c.args.s.now c.args.place).1 in
+    rw c.field_at-w.ensures (omega arith)
+
+pub returns : goal.returns
+returns c = rw c.field_at-w.ensures
+
+pub slice_bounds-result-end : goal.slice_bounds-result-end
+slice_bounds-result-end c = let l = (field_within c.args.s.now c.args.place).1 in
+    rw c.field_at-w.ensures l
