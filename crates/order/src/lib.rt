@@ -1,4 +1,6 @@
 // An order as a flow writes it. The reader of flows makes it and the rules judge it; neither knows the other.
+#![tactic(auto)]
+
 ghost use Rattle.std.specs.Prelude.{◌≡◌, ◌≤◌, length};
 ghost use Rattle.order.specs.Ordinativo.{lines_there};
 
