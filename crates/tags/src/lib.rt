@@ -1,4 +1,6 @@
 // The start tags that the structure lets expect, compared as they stand, eight bytes at a time.
+#![tactic(auto)]
+
 ghost use Rattle.std.specs.Prelude.{◌≡◌, ◌≤◌, ◌<◌, length};
 ghost use Rattle.scan.specs.Bytes.{bytes, has_at};
 ghost use Rattle.tags.specs.Tags.{Seen};

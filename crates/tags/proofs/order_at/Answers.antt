@@ -1,0 +1,12 @@
+use Rattle.scan.proofs.Laws.{then_is, else_is}
+use mathlib.Core.Path.{sym}
+use borrow.Author.Rules.{rules}
+use Rattle.tags.proofs.stands.Reads as stands-reads
+use Rattle.tags.proofs.tag_at.Reads as tag-at-reads
+use Rattle.tags.proofs.order_at.Goals as goal
+
+pub returns-then-stands : goal.returns-then-stands
+returns-then-stands c = sym (then_is _ _ c.stands.ensures c.if-stands.true)
+
+pub returns : goal.returns
+returns c = sym (else_is _ _ c.stands.ensures c.if-stands.false (sym c.tag_at.ensures))
