@@ -1,4 +1,6 @@
 // Where a name stands in the table of an outcome message's parent.
+#![tactic(auto)]
+
 ghost use Rattle.std.specs.Prelude.{◌≡◌, true, ◌≤◌, length, drop};
 ghost use Rattle.schema.specs.Table.{table, entry_end, error_end, spot_in};
 ghost use Rattle.schema_messages.specs.Inner.{of_message};

@@ -1,0 +1,11 @@
+use mathlib.Core.Path.{sym, ◌∙◌}
+use borrow.Author.Rules.{rules}
+use Rattle.schema_messages.proofs.error_end.Reads as error-end-reads
+use Rattle.schema.proofs.is.Reads as is-reads
+use Rattle.schema_messages.proofs.errori_mandati_spot.Goals as goal
+
+pub returns-then-is : goal.returns-then-is
+returns-then-is c = rw (sym c.is.ensures ∙ c.if-is.true)
+
+pub returns : goal.returns
+returns c = rw (sym c.is.ensures ∙ c.if-is.false) c.error_end.ensures

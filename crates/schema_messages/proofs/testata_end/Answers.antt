@@ -1,0 +1,19 @@
+use mathlib.Core.Path.{sym, ◌∙◌}
+use borrow.Author.Rules.{rules}
+use Rattle.schema.proofs.is.Reads as is-reads
+use Rattle.schema_messages.proofs.testata_end.Goals as goal
+
+pub returns-then-is : goal.returns-then-is
+returns-then-is c = rw (sym c.is.ensures ∙ c.if-is.true)
+
+pub returns-then-is-2 : goal.returns-then-is-2
+returns-then-is-2 c = rw (sym c.is.ensures ∙ c.if-is.false, sym c.is-2.ensures ∙ c.if-is-2.true)
+
+pub returns-then-is-3 : goal.returns-then-is-3
+returns-then-is-3 c = rw (sym c.is.ensures ∙ c.if-is.false, sym c.is-2.ensures ∙ c.if-is-2.false, sym c.is-3.ensures ∙ c.if-is-3.true)
+
+pub returns-then-is-4 : goal.returns-then-is-4
+returns-then-is-4 c = rw (sym c.is.ensures ∙ c.if-is.false, sym c.is-2.ensures ∙ c.if-is-2.false, sym c.is-3.ensures ∙ c.if-is-3.false, sym c.is-4.ensures ∙ c.if-is-4.true)
+
+pub returns : goal.returns
+returns c = rw (sym c.is.ensures ∙ c.if-is.false, sym c.is-2.ensures ∙ c.if-is-2.false, sym c.is-3.ensures ∙ c.if-is-3.false, sym c.is-4.ensures ∙ c.if-is-4.false)
