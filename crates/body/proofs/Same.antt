@@ -29,25 +29,25 @@ slot_ok_agree h i = same_rest h i && record_ok (same_record h i)
 pub used_agree : {s t : List ℕ} {p q : ℕ} (n : ℕ) → Agree s p t q (slot_size * n) → used_at s p n ≡ used_at t q n
 unfolding used_at
 used_agree zero h = refl
-used_agree (suc n) h =
+used_agree {p = p} {q = q} (suc n) h =
     let a = at_it h (omega arith) in
-    let b = used_agree n (on h slot_size (slot_size * n) (omega arith)) in
+    let b = used_agree {p = p + slot_size} {q = q + slot_size} n (on h slot_size (slot_size * n) (omega arith)) in
     λ i. cond (eqb (a i) 0) 0 (suc (b i))
 
 pub slots_agree : {s t : List ℕ} {p q : ℕ} (n : ℕ) → Agree s p t q (slot_size * n) → slots_at s p n ≡ slots_at t q n
 unfolding slots_at
 slots_agree zero h = refl
-slots_agree (suc n) h =
+slots_agree {p = p} {q = q} (suc n) h =
     let a = same_record (fewer h slot_size (omega arith)) in
-    let b = slots_agree n (on h slot_size (slot_size * n) (omega arith)) in
+    let b = slots_agree {p = p + slot_size} {q = q + slot_size} n (on h slot_size (slot_size * n) (omega arith)) in
     λ i. a i ∷ b i
 
 slots_ok_agree : {s t : List ℕ} {p q : ℕ} (n : ℕ) → Agree s p t q (slot_size * n) → slots_ok s p n ≡ slots_ok t q n
 unfolding slots_ok
 slots_ok_agree zero h = refl
-slots_ok_agree (suc n) h =
+slots_ok_agree {p = p} {q = q} (suc n) h =
     let a = slot_ok_agree (fewer h slot_size (omega arith)) in
-    let b = slots_ok_agree n (on h slot_size (slot_size * n) (omega arith)) in
+    let b = slots_ok_agree {p = p + slot_size} {q = q + slot_size} n (on h slot_size (slot_size * n) (omega arith)) in
     λ i. a i && b i
 
 zeros_on : {s t : List ℕ} {p q m : ℕ} → Agree s p t q m → (a e : ℕ) → e ≤ m → zeros s (p + a) (p + e) ≡ true → zeros t (q + a) (q + e) ≡ true

@@ -1,5 +1,7 @@
 // One body: whether its slots are valid, and the sums of its executed lines, in one walk; whether a line is replaced, and whether all records are of later
 // years.
+#![tactic(auto)]
+
 ghost use Rattle.std.specs.Prelude.{◌≡◌, ◌+◌, ◌*◌, ◌≤◌, length};
 ghost use Rattle.bounds.specs.Bounds.{max_slots};
 ghost use Rattle.record.specs.Slot.{slot_size, record_at};

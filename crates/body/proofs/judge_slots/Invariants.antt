@@ -1,0 +1,11 @@
+use borrow.Author.Rules.{rules}
+use mathlib.Core.Path.{◌≡◌, refl, sym, ◌∙◌}
+use native.Mathlib.Omega.{arith}
+use Rattle.body.proofs.Laws.{Sofar, sofar_broken, its_most, sofar_more, sofar_done}
+use Rattle.body.proofs.judge_slots.Given as goal
+
+abbrev pub invariant-loop-left : goal.invariant-loop-left
+invariant-loop-left l = Sofar l.t l.base l.n l.at l.left l.paid l.collected
+
+abbrev pub decreases-loop-left : goal.decreases-loop-left
+decreases-loop-left l = l.left

@@ -1,0 +1,17 @@
+use Prim.Native.Nat.{◌+◌, ◌-◌, ◌*◌, ◌≤◌}
+use mathlib.Core.Path.{◌≡◌, refl, sym, ◌∙◌}
+use native.Mathlib.Omega.{arith}
+use Rattle.record.specs.Slot.{slot_size}
+use Rattle.slots.specs.Slots.{slots_at}
+use Rattle.body.specs.Body.{none_replaced}
+use Rattle.body.proofs.Replaced.{some_first, none_later, none_end}
+use borrow.Author.Rules.{rules}
+use Rattle.body.proofs.any_replaced.Reads as any-replaced-reads
+use Rattle.record.proofs.record_at.Reads as record-at-reads
+use Rattle.body.proofs.slots_unreplaced.Given as goal
+
+abbrev pub invariant-loop-left : goal.invariant-loop-left
+invariant-loop-left l = (l.at + slot_size * l.left ≡ l.base + slot_size * l.n) × (none_replaced (slots_at l.t l.base l.n) ≡ none_replaced (slots_at l.t l.at l.left))
+
+abbrev pub decreases-loop-left : goal.decreases-loop-left
+decreases-loop-left l = l.left
