@@ -1,19 +1,19 @@
 -- Laws of the bytes and characters of a flow, which the crates above cite instead of the definitions' text.
-use mathlib.Core.Path.{◌≡◌, refl, sym, ap, ◌∙◌}
+use mathlib.Core.Path.{◌≡◌, refl, sym, ◌∙◌}
 use mathlib.Core.List.{List, [], ◌∷◌}
 use mathlib.Core.Option.{Option, none, some}
-use mathlib.Core.Bool.{Bool, true, false, cond, not, ◌&&◌, ◌||◌, and-false}
+use mathlib.Core.Bool.{Bool, true, false, cond, not, ◌&&◌, and-false}
 use Prim.Native.Nat.{ℕ, zero, suc, ◌+◌, ◌-◌, ◌*◌, ◌≤◌, ◌<◌}
 use native.Mathlib.Nat.{add-zero}
 use native.Mathlib.Numerals.{add-one}
 use native.Mathlib.Omega.{arith}
-use lib.ListN.{length, get_or, take, drop, drop_of_length-le, length-drop, get_or-eq_default}
+use lib.ListN.{length, get_or, drop, drop_of_length-le, length-drop, get_or-eq_default}
 use lib.Seq.{drop-cons}
 use lib.Dec.{leb, eqb, eqb-zero-suc}
-use borrow.Author.Tests.{eq-eqb, ne_eqb, eqb-true, leb-true, leb-false, le-leb, lt-leb}
+use borrow.Author.Tests.{eq-eqb, ne_eqb, leb-true, leb-false, le-leb, lt-leb}
 use Rattle.scan.specs.declared.Walk.{Walk}
 use Rattle.scan.specs.declared.Walk.TheVariants.{Past, Broken}
-use Rattle.scan.specs.Bytes.{bytes, byte_at, part, between, is_letter, is_digit, is_alnum, is_name_byte, is_white, run, run_end, starts_with, has_at}
+use Rattle.scan.specs.Bytes.{bytes, byte_at, between, run, run_end, starts_with, has_at}
 use Rattle.scan.specs.Characters.{is_char, sized, is_tail, char_size, char_size_at, past_or, char_at}
 use Rattle.scan.specs.References.{Reference, references, which_at, past_ref, ref_at}
 

@@ -1,6 +1,6 @@
 -- Bytes of a flow (document 01, "The markup", "The fields"). Positions are counted from 0 at the flow's first byte; past the end a flow
 -- reads as the byte 0, which no rule of a flow accepts.
-use Rattle.std.specs.Prelude.{ℕ, zero, suc, ◌+◌, ◌-◌, List, [], ◌∷◌, Bool, true, false, cond, ◌&&◌, ◌||◌, length, get_or, take, drop, leb, eqb}
+use Rattle.std.specs.Prelude.{ℕ, suc, ◌+◌, ◌-◌, List, [], ◌∷◌, Bool, true, false, cond, ◌&&◌, ◌||◌, length, get_or, take, drop, leb, eqb}
 use Prim.Native.String.{String}
 use Prim.Native.Char.{Char, code}
 

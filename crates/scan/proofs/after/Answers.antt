@@ -1,7 +1,6 @@
 use lib.ListN.{get_or-eq_default}
 use mathlib.Core.Path.{sym}
 use native.Mathlib.Omega.{arith}
-use borrow.Author.Rules.{rules}
 use Rattle.scan.proofs.after.Goals as goal
 
 pub returns-else-k-s : goal.returns-else-k-s

@@ -1,14 +1,9 @@
 use mathlib.Core.Path.{◌≡◌, sym, ◌∙◌}
-use mathlib.Core.Bool.{true, false}
+use mathlib.Core.Bool.{true}
 use native.Mathlib.Omega.{arith}
 use borrow.Author.Tests.{not-true, not-false}
-use Prim.Native.Nat.{ℕ, ◌≤◌, ◌<◌}
 use Rattle.scan.specs.Characters.{is_tail}
 use Rattle.scan.proofs.Laws.{tail_low, size_one, size_tail, size_no_second, size_two, size_no_third, size_three, size_no_fourth, size_four, size_none}
-use borrow.Author.Rules.{rules}
-use Rattle.scan.proofs.is_tail.Reads as is-tail-reads
-use Rattle.scan.proofs.size_of.Reads as size-of-reads
-use Rattle.scan.proofs.wide.Reads as wide-reads
 use Rattle.scan.proofs.char_size.Goals as goal
 
 pub returns-then-a-le127 : goal.returns-then-a-le127

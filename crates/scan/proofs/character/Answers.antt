@@ -1,12 +1,7 @@
-use mathlib.Core.Path.{◌≡◌, refl, sym, ap, ◌∙◌}
+use mathlib.Core.Path.{◌≡◌, sym}
 use native.Mathlib.Omega.{arith}
-use Prim.Native.Nat.{ℕ, ◌+◌}
-use Rattle.scan.specs.Bytes.{byte_at}
-use Rattle.scan.specs.Characters.{char_size, char_size_at}
+use Rattle.scan.specs.Characters.{char_size_at}
 use Rattle.scan.proofs.Laws.{char_end, char_none, char_some, char_in_flow}
-use borrow.Author.Rules.{rules}
-use Rattle.scan.proofs.after.Reads as after-reads
-use Rattle.scan.proofs.char_size.Reads as char-size-reads
 use Rattle.scan.proofs.character.Goals as goal
 
 pub returns-then-s-at : goal.returns-then-s-at

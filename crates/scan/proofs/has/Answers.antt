@@ -1,11 +1,7 @@
 use native.Mathlib.Nat.{add-zero}
 use native.Mathlib.Omega.{arith}
-use borrow.Author.Rules.{rules}
 use Rattle.scan.proofs.Laws.{has_more, has_not, has_less, has_all}
-use Rattle.scan.specs.Bytes.{has_at}
-use mathlib.Core.Path.{◌≡◌, refl, sym, ◌∙◌}
-use Prim.Native.Nat.{ℕ, ◌≤◌, ◌<◌, ◌-◌, ◌+◌}
-use lib.ListN.{length, get_or, drop}
+use mathlib.Core.Path.{refl, sym, ◌∙◌}
 use Rattle.scan.proofs.has.Goals as goal
 
 pub returns-then-s-at : goal.returns-then-s-at

@@ -1,11 +1,7 @@
-use native.Mathlib.Nat.{add-zero}
-use native.Mathlib.Omega.{arith}
-use borrow.Author.Rules.{rules}
-use Rattle.scan.proofs.Laws.{has_more, has_not, has_less, has_all}
 use Rattle.scan.specs.Bytes.{has_at}
-use mathlib.Core.Path.{◌≡◌, refl, sym, ◌∙◌}
-use Prim.Native.Nat.{ℕ, ◌≤◌, ◌<◌, ◌-◌, ◌+◌}
-use lib.ListN.{length, get_or, drop}
+use mathlib.Core.Path.{◌≡◌}
+use Prim.Native.Nat.{◌≤◌, ◌-◌, ◌+◌}
+use lib.ListN.{length, drop}
 use Rattle.scan.proofs.has.Given as goal
 
 abbrev pub invariant-loop-i : goal.invariant-loop-i

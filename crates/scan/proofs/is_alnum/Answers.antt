@@ -1,9 +1,6 @@
 use mathlib.Core.Path.{◌≡◌, sym, ◌∙◌}
-use mathlib.Core.Bool.{true, false, ◌||◌}
-use Rattle.scan.specs.Bytes.{is_letter, is_digit, is_alnum}
-use borrow.Author.Rules.{rules}
-use Rattle.scan.proofs.is_digit.Reads as is-digit-reads
-use Rattle.scan.proofs.is_letter.Reads as is-letter-reads
+use mathlib.Core.Bool.{true, false}
+use Rattle.scan.specs.Bytes.{is_letter, is_alnum}
 use Rattle.scan.proofs.is_alnum.Goals as goal
 
 pub returns-then-is_letter : goal.returns-then-is_letter

@@ -1,5 +1,4 @@
 use borrow.Author.Tests.{le-leb, lt-leb}
-use mathlib.Core.Bool.{true, false, ◌&&◌}
 use Rattle.scan.specs.Bytes.{is_digit}
 use Rattle.scan.proofs.is_digit.Goals as goal
 

@@ -1,7 +1,6 @@
-use borrow.Author.Rules.{rules}
 use native.Mathlib.Omega.{arith}
-use Rattle.scan.specs.Bytes.{is_letter, is_name_byte, is_white}
-use borrow.Author.Tests.{le-leb, lt-leb, eq-eqb, ne_eqb}
+use Rattle.scan.specs.Bytes.{is_letter}
+use borrow.Author.Tests.{le-leb, lt-leb}
 use Rattle.scan.proofs.is_letter.Goals as goal
 
 pub returns-then-b-lt65 : goal.returns-then-b-lt65

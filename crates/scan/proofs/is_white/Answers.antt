@@ -1,7 +1,5 @@
-use borrow.Author.Rules.{rules}
-use native.Mathlib.Omega.{arith}
-use Rattle.scan.specs.Bytes.{is_letter, is_name_byte, is_white}
-use borrow.Author.Tests.{le-leb, lt-leb, eq-eqb, ne_eqb}
+use Rattle.scan.specs.Bytes.{is_white}
+use borrow.Author.Tests.{eq-eqb, ne_eqb}
 use Rattle.scan.proofs.is_white.Goals as goal
 
 pub returns-then-b-eq32 : goal.returns-then-b-eq32

@@ -1,6 +1,5 @@
 use mathlib.Core.Path.{sym, ◌∙◌}
 use Rattle.scan.proofs.Laws.{ref_amp, ref_lt, ref_gt, ref_quot, ref_apos, ref_none}
-use borrow.Author.Rules.{rules}
 use Rattle.scan.proofs.reference.Goals as goal
 
 pub returns-then-has : goal.returns-then-has

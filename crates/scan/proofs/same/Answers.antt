@@ -1,9 +1,5 @@
-use mathlib.Core.Path.{◌≡◌, sym, ◌∙◌}
-use mathlib.Core.Bool.{◌&&◌, true, false}
 use borrow.Author.Tests.{eq-eqb, ne_eqb}
 use Rattle.scan.specs.Bytes.{text_is}
-use borrow.Author.Rules.{rules}
-use Rattle.scan.proofs.has.Reads as has-reads
 use Rattle.scan.proofs.same.Goals as goal
 
 pub returns-then-t-x : goal.returns-then-t-x

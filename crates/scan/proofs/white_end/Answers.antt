@@ -1,13 +1,11 @@
 use mathlib.Core.Bool.{true, false}
 use borrow.Author.Rules.{rules}
 use native.Mathlib.Omega.{arith}
-use Rattle.scan.proofs.Laws.{run_more, run_stop, run_end_lem, has_more, has_not, has_short, has_all}
-use Rattle.scan.specs.Bytes.{is_name_byte, is_white, run_end, has_at}
+use Rattle.scan.proofs.Laws.{run_more, run_stop, run_end_lem}
+use Rattle.scan.specs.Bytes.{is_white}
 use mathlib.Core.Path.{◌≡◌, refl, sym, ◌∙◌}
-use Prim.Native.Nat.{ℕ, ◌≤◌, ◌<◌, ◌-◌, ◌+◌}
-use lib.ListN.{length, get_or, drop}
+use lib.ListN.{get_or}
 use borrow.Author.Tests.{not-true, not-false}
-use Rattle.scan.proofs.is_white.Reads as is-white-reads
 use Rattle.scan.proofs.white_end.Goals as goal
 
 pub loop-i-init : goal.loop-i-init

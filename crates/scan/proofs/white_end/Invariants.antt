@@ -1,13 +1,7 @@
-use mathlib.Core.Bool.{true, false}
-use borrow.Author.Rules.{rules}
-use native.Mathlib.Omega.{arith}
-use Rattle.scan.proofs.Laws.{run_more, run_stop, run_end_lem, has_more, has_not, has_short, has_all}
-use Rattle.scan.specs.Bytes.{is_name_byte, is_white, run_end, has_at}
-use mathlib.Core.Path.{◌≡◌, refl, sym, ◌∙◌}
-use Prim.Native.Nat.{ℕ, ◌≤◌, ◌<◌, ◌-◌, ◌+◌}
-use lib.ListN.{length, get_or, drop}
-use borrow.Author.Tests.{not-true, not-false}
-use Rattle.scan.proofs.is_white.Reads as is-white-reads
+use Rattle.scan.specs.Bytes.{is_white, run_end}
+use mathlib.Core.Path.{◌≡◌}
+use Prim.Native.Nat.{◌≤◌, ◌-◌}
+use lib.ListN.{length}
 use Rattle.scan.proofs.white_end.Given as goal
 
 abbrev pub invariant-loop-i : goal.invariant-loop-i
