@@ -1,6 +1,5 @@
 -- The editions (document 02, Req 05: "The caller names the edition", "Refusals: 23, no such edition").
 use Rattle.std.specs.Prelude.{ℕ, cond, eqb}
-use Rattle.editions.specs.declared.Edition.{Edition}
 use Rattle.editions.specs.declared.Edition.TheVariants.{Oil, Opi}
 use Rattle.editions.specs.declared.Edited.{Edited}
 use Rattle.editions.specs.declared.Edited.TheVariants.{By, NoEdition}
