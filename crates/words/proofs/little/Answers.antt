@@ -1,8 +1,6 @@
 use native.Mathlib.Omega.{arith}
 use mathlib.Core.Path.{◌∙◌}
 use Rattle.words.proofs.Laws.{be4_by, turned_le}
-use borrow.Author.Rules.{rules}
-use Rattle.words.proofs.wide4.Reads as wide4-reads
 use Rattle.words.proofs.little.Goals as goal
 
 pub returns : goal.returns
