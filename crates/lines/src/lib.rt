@@ -1,4 +1,6 @@
 // One order's lines: numbered 1, 2, 3 and so on, and summing to the total. Lent as one list of line structs, read in place.
+#![tactic(auto)]
+
 ghost use Rattle.std.specs.Prelude.{◌≡◌, ◌&&◌, ◌+◌, ◌-◌, ◌≤◌, ◌<◌, ◌^◌, take, eqb, leb};
 ghost use Rattle.order.specs.Ordinativo.{lines_there};
 ghost use Rattle.lines.specs.Lines.{line_code};
