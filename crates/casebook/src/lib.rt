@@ -1,20 +1,40 @@
 // For programs that print answers, and for those that run cases from a file: lines of columns between tabs, in which \hh stands for the byte hh in
 // hexadecimal digits.
-ghost use Rattle.std.specs.Prelude.{◌+◌, ◌≤◌, ◌<◌, length};
-ghost use Rattle.io.specs.Counts.{IsPrefixLen};
+#![tactic(auto)]
 
-pub fn say(text: &[u8]) {
-    io::write_all(libc::STDOUT_FILENO, text);
+ghost use Rattle.std.specs.Prelude.{◌+◌, ◌≤◌, ◌<◌, length, IfOk};
+ghost use Rattle.std.specs.Counts.{IsPrefixLen};
+
+use std::io;
+use std::io::{Read, Write};
+
+// Reads until buf is full or the input ends: how many bytes stand at its start.
+pub fn read_full<R: Read>(from: &mut R, buf: &mut [u8]) -> io::Result<usize>
+    ensures { IfOk result (λ n. IsPrefixLen n buf.new) }
+{
+    let mut done: usize = 0;
+    while done < buf.len() {
+        let more = from.read(&mut buf[done..])?;
+        if more == 0 {
+            return Ok(done);
+        }
+        done += more;
+    }
+    Ok(done)
 }
 
-pub fn say_number(n: u64) {
-    io::print_decimal(libc::STDOUT_FILENO, n);
+pub fn say<W: Write>(to: &mut W, text: &[u8]) -> io::Result<()> {
+    to.write_all(text)
+}
+
+pub fn say_number<W: Write>(to: &mut W, n: u64) -> io::Result<()> {
+    write!(to, "{n}")
 }
 
 // A number after a space.
-pub fn say_next(n: u64) {
-    say(b" ");
-    say_number(n);
+pub fn say_next<W: Write>(to: &mut W, n: u64) -> io::Result<()> {
+    say(to, b" ")?;
+    say_number(to, n)
 }
 
 fn wide(x: u8) -> u64
@@ -24,34 +44,40 @@ fn wide(x: u8) -> u64
 }
 
 // The outcome of one order, from its 16 bytes: kind, operation, number, lines, total, code.
-fn say_outcome(out: &[u8], at: usize)
+fn say_outcome<W: Write>(to: &mut W, out: &[u8], at: usize) -> io::Result<()>
     requires { at + 16 ≤ length out.now }
 {
-    say_next(wide(out[at]));
-    say_next(wide(out[at + 1]));
-    say_next(words::read4(out, at + 4));
-    say_next(wide(out[at + 3]));
-    say_next(words::read8(out, at + 8));
-    say_next(wide(out[at + 2]));
+    say_next(to, wide(out[at]))?;
+    say_next(to, wide(out[at + 1]))?;
+    say_next(to, words::read4(out, at + 4))?;
+    say_next(to, wide(out[at + 3]))?;
+    say_next(to, words::read8(out, at + 8))?;
+    say_next(to, wide(out[at + 2]))
 }
 
 // The outcomes of so many orders, each between two texts: the place past them.
-pub fn say_outcomes(out: &[u8], orders: u64, before: &[u8], behind: &[u8]) -> usize
-    ensures { result ≤ length out.now }
+pub fn say_outcomes<W: Write>(
+    to: &mut W,
+    out: &[u8],
+    orders: u64,
+    before: &[u8],
+    behind: &[u8],
+) -> io::Result<usize>
+    ensures { IfOk result (λ at. at ≤ length out.now) }
 {
     let mut at: usize = 0;
     let mut left = orders;
     while 0 < left {
         if out.len() - at < 16 {
-            return at;
+            return Ok(at);
         }
-        say(before);
-        say_outcome(out, at);
-        say(behind);
+        say(to, before)?;
+        say_outcome(to, out, at)?;
+        say(to, behind)?;
         at += 16;
         left -= 1;
     }
-    at
+    Ok(at)
 }
 
 // The place of the first byte b from a up to e, or e.
@@ -164,12 +190,12 @@ pub fn column(s: &[u8], a: usize, e: usize, k: usize) -> usize
 }
 
 // Prints column k as it is written.
-pub fn say_column(s: &[u8], a: usize, e: usize, k: usize)
+pub fn say_column<W: Write>(to: &mut W, s: &[u8], a: usize, e: usize, k: usize) -> io::Result<()>
     requires { (a ≤ e) × (e ≤ length s.now) }
 {
     let from = column(s, a, e, k);
-    let to = find(s, from, e, b'\t');
-    say(&s[from..to]);
+    let end = find(s, from, e, b'\t');
+    say(to, &s[from..end])
 }
 
 // Writes what column k stands for into out: how many bytes that is.
@@ -220,11 +246,11 @@ fn last_column(s: &[u8], a: usize, e: usize) -> usize
 }
 
 // What a case expects, its last column, at the end of a line.
-pub fn say_expected(s: &[u8], a: usize, e: usize)
+pub fn say_expected<W: Write>(to: &mut W, s: &[u8], a: usize, e: usize) -> io::Result<()>
     requires { (a ≤ e) × (e ≤ length s.now) }
 {
     let from = last_column(s, a, e);
-    say(b"; expected ");
-    say(&s[from..e]);
-    say(b"\n");
+    say(to, b"; expected ")?;
+    say(to, &s[from..e])?;
+    say(to, b"\n")
 }
