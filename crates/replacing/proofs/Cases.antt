@@ -6,7 +6,7 @@ use Rattle.record.specs.declared.Record.{Record}
 use Rattle.record.specs.Slot.{key_is}
 use Rattle.slots.specs.Slots.{find_in}
 use Rattle.replacing.specs.declared.Naming.{Naming}
-use Rattle.replacing.specs.Replacing.{line_named_in, named_at, named_code, with_replaced_at, with_replaced, first_code, replace_code, replaced_by}
+use Rattle.replacing.specs.Replacing.{line_named_in, named_at, named_code, with_replaced_at, with_replaced, replace_code, replaced_by}
 
 abbrev held : List Record
 held =

@@ -1,6 +1,6 @@
 -- A line that was replaced is replaced for good: it is 25 in every later order, and in a later line of the same one.
 use Prim.Native.Nat.{ℕ}
-use mathlib.Core.Bool.{Bool, true, false, ◌&&◌, cond}
+use mathlib.Core.Bool.{Bool, true, false, cond}
 use mathlib.Core.List.Memᴰ
 use mathlib.Core.List.{List, [], ◌∷◌, Memᴰ}
 use mathlib.Core.Logic.{◌⊎◌, inl, inr}
@@ -9,7 +9,6 @@ use native.Mathlib.Omega.{arith}
 use lib.Dec.{eqb}
 use Rattle.order.specs.declared.Line.{Line}
 use Rattle.record.specs.declared.Record.{Record}
-use Rattle.replacing.specs.declared.Naming.{Naming}
 use Rattle.replacing.specs.Replacing.{naming_of, namings_of, named_code, with_replaced, replace_code, replaced_by}
 use Rattle.replacing.specs.Inner.{same_named, code_again}
 use Rattle.replacing.proofs.Marks.{mark_step, taken_twice, again_taken, or_zero}

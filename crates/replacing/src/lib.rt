@@ -1,4 +1,6 @@
 // The lines that a replacement order names: judged by reading only, then marked as replaced, one byte each.
+#![tactic(auto)]
+
 ghost use Rattle.std.specs.Prelude.{◌≡◌, true, ℕ, ◌+◌, ◌*◌, ◌≤◌, ◌<◌, length};
 ghost use Rattle.order.specs.Ordinativo.{lines_there, ordinativo};
 ghost use Rattle.record.specs.Slot.{slot_size};
