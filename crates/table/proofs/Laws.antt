@@ -334,7 +334,7 @@ head L t e =
 
 -- what right contents tell
 pub record Laid (L : Layout) (t : List ℕ) : Type 0 where
-  pub head_ok_lem : head_ok L t ≡ true
+  pub head_ok : head_ok L t ≡ true
   pub layout : layout_ok L t head_size (bodies t) (head_size + L.entry * bodies t) ≡ true
   pub forms : forms_ok L.entry t head_size (bodies t) ≡ true
   pub distinct : distinct_codes (codes_from L.entry t head_size (bodies t)) ≡ true
@@ -345,11 +345,11 @@ laid L t e =
     let d = distinct_codes (codes_from L.entry t head_size (bodies t)) in
     let a = both (head_ok L t) (l && d) e in
     let b = both l d a.1 in
-    record { head_ok_lem = a.0; layout = b.0; forms = lay_forms L t head_size (bodies t) (head_size + L.entry * bodies t) b.0; distinct = b.1 }
+    record { head_ok = a.0; layout = b.0; forms = lay_forms L t head_size (bodies t) (head_size + L.entry * bodies t) b.0; distinct = b.1 }
 
 -- what a valid table tells
 pub record Table (L : Layout) (t : List ℕ) : Type 0 where
-  pub head_ok_lem : head_ok L t ≡ true
+  pub head_ok : head_ok L t ≡ true
   pub layout : layout_ok L t head_size (bodies t) (head_size + L.entry * bodies t) ≡ true
   pub forms : forms_ok L.entry t head_size (bodies t) ≡ true
   pub distinct : distinct_codes (codes_from L.entry t head_size (bodies t)) ≡ true
@@ -363,7 +363,7 @@ pub table : (L : Layout) (t : List ℕ) → valid_as L t ≡ true → Table L t
 table L t e =
     let w = valid_split L t e in
     let a = laid L t w.0 in
-    record { head_ok_lem = a.head_ok; layout = a.layout; forms = a.forms; distinct = a.distinct; valid = w.1 }
+    record { head_ok = a.head_ok; layout = a.layout; forms = a.forms; distinct = a.distinct; valid = w.1 }
 
 -- contents_ok, a way out of the code at a time; n is the number of bodies read
 module _ (L : Layout) (t : List ℕ) where

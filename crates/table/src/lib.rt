@@ -1,5 +1,7 @@
 // The whole table: head, entries, layout, validity, and the search for a body. Tables 1 and 2 are judged by the same functions, which take what tells
 // them apart.
+#![tactic(auto)]
+
 ghost use Rattle.std.specs.Prelude.{◌≡◌, true, ◌+◌, ◌*◌, ◌≤◌, ◌<◌, length};
 ghost use Rattle.bounds.specs.Bounds.{max_bodies, max_length, max_slots};
 ghost use Rattle.record.specs.Slot.{slot_size};
