@@ -1,9 +1,12 @@
 // What the desk's programs read and print: standard input whole, and document 01's lines. A read says whether it failed, and each print
 // whether all was written.
-ghost use Rattle.std.specs.Prelude.{◌≡◌, ◌+◌, ◌≤◌, length, pos, nat_abs, ◌<ℤ◌};
-ghost use Rattle.io.specs.Counts.{IsPrefixLen};
+#![tactic(auto)]
 
-use libc::{STDERR_FILENO, STDIN_FILENO, STDOUT_FILENO};
+ghost use Rattle.std.specs.Prelude.{◌≡◌, ◌+◌, ◌≤◌, length, pos, nat_abs, ◌<ℤ◌};
+ghost use Rattle.std.specs.Counts.{IsPrefixLen};
+
+use std::io;
+use std::io::{Read, Write};
 
 // What was read: how many bytes, and whether the last read failed.
 #[derive(Clone, Copy)]
@@ -12,32 +15,36 @@ pub struct Input {
     pub failed: bool,
 }
 
-fn read_some(buf: &mut [u8]) -> Input
+fn read_some<R: Read>(from: &mut R, buf: &mut [u8]) -> Input
     ensures { IsPrefixLen result.read buf.new }
 {
-    let got = libc::read(STDIN_FILENO, buf);
-    let read = io::count(got, buf);
-    Input {
-        read,
-        failed: got < 0,
+    match from.read(buf) {
+        Ok(read) => Input {
+            read,
+            failed: false,
+        },
+        Err(_) => Input {
+            read: 0,
+            failed: true,
+        },
     }
 }
 
 // One read into what stands from a place on.
-fn read_from(buf: &mut [u8], from: usize) -> Input
-    requires { from ≤ length buf.old }
-    ensures { from + result.read ≤ length buf.new }
+fn read_from<R: Read>(from: &mut R, buf: &mut [u8], at: usize) -> Input
+    requires { at ≤ length buf.old }
+    ensures { at + result.read ≤ length buf.new }
 {
-    read_some(&mut buf[from..])
+    read_some(from, &mut buf[at..])
 }
 
-// Reads standard input to its end, as far as there is room. A read that fails is not the end.
-pub fn read_input(buf: &mut [u8]) -> Input
+// Reads what is to be read, as standard input, to its end, as far as there is room. A read that fails is not the end.
+pub fn read_input<R: Read>(from: &mut R, buf: &mut [u8]) -> Input
     ensures { IsPrefixLen result.read buf.new }
 {
     let mut done: usize = 0;
     while done < buf.len() {
-        let more = read_from(buf, done);
+        let more = read_from(from, buf, done);
         if more.read == 0 {
             return Input {
                 read: done,
@@ -52,21 +59,21 @@ pub fn read_input(buf: &mut [u8]) -> Input
     }
 }
 
-pub fn say(text: &[u8]) -> bool {
-    io::write_all(STDOUT_FILENO, text)
+pub fn say<W: Write>(to: &mut W, text: &[u8]) -> io::Result<()> {
+    to.write_all(text)
 }
 
 // What goes wrong around a run, on standard error: there is no exit status to give.
-pub fn complain(text: &[u8]) {
-    io::write_all(STDERR_FILENO, text);
+pub fn complain<W: Write>(errors: &mut W, text: &[u8]) -> io::Result<()> {
+    errors.write_all(text)
 }
 
-pub fn say_number(n: u64) -> bool {
-    say(b" ") && io::print_decimal(STDOUT_FILENO, n)
+pub fn say_number<W: Write>(to: &mut W, n: u64) -> io::Result<()> {
+    write!(to, " {n}")
 }
 
-fn say_byte(b: u8) -> bool {
-    say_number(b as u64)
+fn say_byte<W: Write>(to: &mut W, b: u8) -> io::Result<()> {
+    say_number(to, b as u64)
 }
 
 // How far a number below zero is from it.
@@ -78,39 +85,51 @@ fn magnitude(n: i64) -> u64
 }
 
 // A number that may be below zero.
-fn say_signed(n: i64) -> bool {
+fn say_signed<W: Write>(to: &mut W, n: i64) -> io::Result<()> {
     if n < 0 {
-        say(b" -") && io::print_decimal(STDOUT_FILENO, magnitude(n))
+        say(to, b" -")?;
+        let far = magnitude(n);
+        write!(to, "{far}")
     } else {
-        say_number(n as u64)
+        say_number(to, n as u64)
     }
 }
 
 // The line of a flow: code, place, orders, accepted.
-pub fn say_flow(code: u64, place: u64, orders: u64, accepted: u64) -> bool {
-    say(b"flow")
-        && say_number(code)
-        && say_number(place)
-        && say_number(orders)
-        && say_number(accepted)
-        && say(b"\n")
+pub fn say_flow<W: Write>(
+    to: &mut W,
+    code: u64,
+    place: u64,
+    orders: u64,
+    accepted: u64,
+) -> io::Result<()> {
+    say(to, b"flow")?;
+    say_number(to, code)?;
+    say_number(to, place)?;
+    say_number(to, orders)?;
+    say_number(to, accepted)?;
+    say(to, b"\n")
 }
 
 // The line of an order, from its 16 outcome bytes: kind, operation, number, lines, total, code.
-pub fn say_order(out: &[u8], at: usize) -> bool
+pub fn say_order<W: Write>(to: &mut W, out: &[u8], at: usize) -> io::Result<()>
     requires { at + 16 ≤ length out.now }
 {
-    say(b"order")
-        && say_byte(out[at])
-        && say_byte(out[at + 1])
-        && say_number(words::read4(out, at + 4))
-        && say_byte(out[at + 3])
-        && say_number(words::read8(out, at + 8))
-        && say_byte(out[at + 2])
-        && say(b"\n")
+    say(to, b"order")?;
+    say_byte(to, out[at])?;
+    say_byte(to, out[at + 1])?;
+    say_number(to, words::read4(out, at + 4))?;
+    say_byte(to, out[at + 3])?;
+    say_number(to, words::read8(out, at + 8))?;
+    say_byte(to, out[at + 2])?;
+    say(to, b"\n")
 }
 
 // The line of a body: its code, used slots, balance.
-pub fn say_body(code: &[u8], used: u64, balance: i64) -> bool {
-    say(b"body ") && say(code) && say_number(used) && say_signed(balance) && say(b"\n")
+pub fn say_body<W: Write>(to: &mut W, code: &[u8], used: u64, balance: i64) -> io::Result<()> {
+    say(to, b"body ")?;
+    say(to, code)?;
+    say_number(to, used)?;
+    say_signed(to, balance)?;
+    say(to, b"\n")
 }
