@@ -1,13 +1,12 @@
 -- Laws of the closing code, one way through it at a time.
-use Prim.Native.Nat.{ℕ, zero, suc, ◌+◌, ◌-◌, ◌*◌, ◌≤◌, ◌<◌}
-use mathlib.Core.Bool.{Bool, true, false, ◌&&◌, ◌||◌, not, cond}
+use Prim.Native.Nat.{ℕ, ◌+◌, ◌*◌, ◌≤◌, ◌<◌}
+use mathlib.Core.Bool.{Bool, true, false}
 use mathlib.Core.List.{List, [], ◌∷◌, ◌++◌}
 use mathlib.Core.Path.{◌≡◌, refl, sym, ap, ◌∙◌}
 use native.Mathlib.Omega.{arith}
 use native.Mathlib.Numerals.{add-one}
 use lib.ListN.{length, get_or, take, drop, set, drop_of_length-le}
 use lib.Seq.{take-suc-set, take_all, drop-cons}
-use lib.Dec.{eqb, ltb}
 use borrow.Author.Tests.{eq-eqb, ne_eqb, lt-ltb, le-ltb}
 use Rattle.packing.specs.Packing.{flag}
 use Rattle.words.specs.Numbers.{be2}
@@ -16,7 +15,7 @@ use Rattle.record.specs.Slot.{slot_size, states_offset, eight_at, record_at}
 use Rattle.record.proofs.Back.{eight_at_lem}
 use Rattle.slots.specs.Slots.{slots_at}
 use Rattle.slots.proofs.Index.{slots_snoc}
-use Rattle.closing.specs.Closing.{any, of_earlier, other_year, any_waiting, waits, stays, flags_by, stays_at}
+use Rattle.closing.specs.Closing.{any, of_earlier, any_waiting, waits, stays, flags_by, stays_at}
 
 -- A WALK over a body's records for one that passes a test
 

@@ -1,5 +1,5 @@
 -- Closing an esercizio in one body (document 02, Req 14): "its records are removed, the rest move up"; and what stands against it.
-use Rattle.std.specs.Prelude.{ℕ, Bool, true, false, ◌&&◌, ◌||◌, not, cond, List, [], ◌∷◌, length, eqb, ltb}
+use Rattle.std.specs.Prelude.{ℕ, Bool, false, ◌&&◌, ◌||◌, not, cond, List, [], ◌∷◌, length, eqb, ltb}
 use Rattle.record.specs.declared.Record.{Record}
 use Rattle.record.specs.Slot.{acquired_state, waiting_line}
 use Rattle.slots.specs.Slots.{slots_at}

@@ -1,4 +1,6 @@
 // Closing an esercizio in one body: what stands against it, read where the bytes stand, and its records removed, the rest moved up.
+#![tactic(auto)]
+
 ghost use Rattle.std.specs.Prelude.{◌≡◌, true, ◌+◌, ◌*◌, ◌≤◌, length};
 ghost use Rattle.packing.specs.Packing.{flag};
 ghost use Rattle.bounds.specs.Bounds.{max_slots};
