@@ -1,4 +1,6 @@
 // The children that a parent names, in the rows of its table; and the one reader of a field.
+#![tactic(auto)]
+
 ghost use Rattle.std.specs.Prelude.{◌≡◌, ◌+◌, ◌≤◌, length};
 ghost use Rattle.markup.specs.Noted.{Noted};
 ghost use Rattle.schema.specs.Table.{table, spot_in};
