@@ -1,6 +1,8 @@
 // For the case programs: a text with one part of it replaced, or with a part put behind it many times.
+#![tactic(auto)]
+
 ghost use Rattle.std.specs.Prelude.{◌+◌, ◌≤◌, ◌<◌, length};
-ghost use Rattle.io.specs.Counts.{IsPrefixLen};
+ghost use Rattle.std.specs.Counts.{IsPrefixLen};
 
 fn one_if(b: bool) -> u64 {
     if b { 1 } else { 0 }
