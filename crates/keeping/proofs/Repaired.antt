@@ -294,16 +294,16 @@ keeps_agree closed a seen =
     let y = same_record a in
     λ i. x i && (ltb closed (y i).esercizio && is_nothing (find_in seen 0 (key_of (y i))))
 
-flags_agree : (closed : ℕ) {s t : List ℕ} {p q : ℕ} (n : ℕ) (seen : List Record) → Agree s p t q (slot_size * n) → keeps_from closed s p n seen ≡ keeps_from closed t q n seen
+flags_agree : (closed : ℕ) {s t : List ℕ} (p q : ℕ) (n : ℕ) (seen : List Record) → Agree s p t q (slot_size * n) → keeps_from closed s p n seen ≡ keeps_from closed t q n seen
 unfolding keeps_from
-flags_agree closed zero seen a = refl
-flags_agree closed {s} {t} {p} {q} (suc n) seen a =
+flags_agree closed p q zero seen a = refl
+flags_agree closed {s} {t} p q (suc n) seen a =
     let h = fewer a slot_size (omega arith) in
     let k = keeps_agree closed h seen in
     let r = same_record h in
-    let z = flags_agree closed n (seen ++ cond (keeps closed s p seen) (record_at s p ∷ []) []) (on a slot_size (slot_size * n) (omega arith)) in
+    let z = flags_agree closed (p + slot_size) (q + slot_size) n (seen ++ cond (keeps closed s p seen) (record_at s p ∷ []) []) (on a slot_size (slot_size * n) (omega arith)) in
     ap (λ (l : List ℕ). flag (keeps closed s p seen) ∷ l) z
     ∙ (λ i. flag (k i) ∷ keeps_from closed t (q + slot_size) n (seen ++ cond (k i) (r i ∷ []) []))
 
 pub kept_agree : (closed : ℕ) {s t : List ℕ} {p q : ℕ} (n : ℕ) → Agree s p t q (slot_size * n) → kept_at closed s p n ≡ kept_at closed t q n
-kept_agree closed n a i = chosen (slots_agree n a i) (flags_agree closed n [] a i)
+kept_agree closed n a i = chosen (slots_agree n a i) (flags_agree closed _ _ n [] a i)

@@ -1,4 +1,6 @@
 // One body under repair: which of its slots are kept, one flag for each slot, and what the report says of the others.
+#![tactic(auto)]
+
 ghost use Rattle.std.specs.Prelude.{◌≡◌, true, false, ◌+◌, ◌*◌, ◌≤◌, ◌<◌, length, take};
 ghost use Rattle.words.specs.Numbers.{put, bytes4};
 ghost use Rattle.record.specs.Slot.{slot_size, record_at, key_of};

@@ -1,0 +1,31 @@
+use borrow.Author.Rules.{rules}
+use Prim.Native.Nat.{ℕ, ◌+◌, ◌-◌, ◌*◌, ◌≤◌}
+use mathlib.Core.List.{List}
+use lib.ListN.{length}
+use Rattle.record.specs.Slot.{slot_size}
+use Rattle.keeping.specs.Keeping.{blanked_from}
+use Rattle.keeping.proofs.Laws.{blanked_rest, rest_yes, rest_no, rest_end}
+use native.Mathlib.Omega.{arith}
+use mathlib.Core.Path.{◌≡◌, refl, sym, ap, ◌∙◌}
+use Rattle.keeping.proofs.is_blanked.Reads as is-blanked-reads
+use Rattle.keeping.proofs.count_blanked.Goals as goal
+use Rattle.keeping.proofs.count_blanked.Goals.{then-is_blanked, else-is_blanked}
+
+pub loop-i-init : goal.loop-i-init
+loop-i-init c = (omega arith, omega arith, omega arith, omega arith)
+
+pub loop-i-preserved : goal.loop-i-preserved
+loop-i-preserved c = let l = c.loop-i in
+    elim c.if-is_blanked.branch [
+      | then-is_blanked w ↦
+          let k = rest_yes c.args.t.now l.at c.args.flags.now l.i (omega arith) c.is_blanked.ensures w.if-is_blanked.true in
+          (omega arith, omega arith, omega (arith, w.count-is), l.invariant.3 ∙ omega (arith, w.count-is, ap length k))
+      | else-is_blanked w ↦
+          let k = rest_no c.args.t.now l.at c.args.flags.now l.i (omega arith) c.is_blanked.ensures w.if-is_blanked.false in
+          (omega arith, omega arith, omega (arith, w.count-is), l.invariant.3 ∙ omega (arith, w.count-is, ap length k))
+    ]
+
+pub returns : goal.returns
+returns c = let l = c.loop-i in
+    let k = rest_end c.args.t.now l.at c.args.flags.now l.i (omega arith) in
+    (omega (arith, l.invariant.3, ap length k), omega arith)
