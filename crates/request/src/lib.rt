@@ -1,4 +1,6 @@
 // A request to open a table, judged: five ABI digits and twenty bytes per body.
+#![tactic(auto)]
+
 ghost use Rattle.std.specs.Prelude.{◌≡◌, ◌+◌, ◌*◌, ◌≤◌, length};
 ghost use Rattle.bounds.specs.Bounds.{max_bodies};
 ghost use Rattle.entries.specs.Entry.{request_size, slots_from};
