@@ -5,18 +5,17 @@ use mathlib.Core.List.{List, [], ◌∷◌, ◌++◌}
 use mathlib.Core.Logic.{◌⊎◌, inl, inr}
 use mathlib.Core.Path.{◌≡◌, refl, sym, ap, ◌∙◌}
 use native.Mathlib.Omega.{arith}
-use lib.ListN.{length, get_or, take, set, replicate, length-set, length-replicate, get_or-replicate, get_or-eq_default}
-use lib.Seq.{get_or-set_same, get_or-set_other}
-use lib.Dec.{eqb, leb, ltb}
-use borrow.Author.Tests.{lt-ltb, le-ltb, le-leb, ltb-true, ltb-false, ne_eqb, eqb-true, eqb-false}
+use lib.ListN.{length, get_or, take, replicate, length-replicate, get_or-replicate, get_or-eq_default}
+use lib.Dec.{eqb}
+use borrow.Author.Tests.{le-leb, eqb-true}
 use Rattle.scan.specs.Bytes.{between}
-use Rattle.scan.proofs.Laws.{both, in_range}
+use Rattle.scan.proofs.Laws.{both}
 use Rattle.order.specs.declared.Line.{Line}
 use Rattle.order.specs.Ordinativo.{Ordinativo}
 use Rattle.record.specs.declared.Record.{Record}
-use Rattle.record.specs.Slot.{annulled_state, key_of, record_with, with_state}
+use Rattle.record.specs.Slot.{annulled_state, key_of, record_with}
 use Rattle.ranges.specs.declared.Found.TheVariants.{At}
-use Rattle.valid.specs.Valid.{line_there, line_absent, line_ok, sum, ranges_ok}
+use Rattle.valid.specs.Valid.{line_ok, sum, ranges_ok}
 use Rattle.slots.specs.Slots.{find_in, nth, no_record}
 use Rattle.valid.proofs.Valid.{Valid, one_of_sum, ok_bounds, ok_line, ok_sum, ok_amount, ok_tests, ok_from}
 use Rattle.valid.proofs.Moved.{within, split, line_waits, line_moved, line_in, line_absent_lem, line_none}

@@ -8,7 +8,7 @@ use mathlib.Core.Path.{◌≡◌, refl, sym, ap, subst, ◌∙◌}
 use native.Mathlib.Omega.{arith}
 use lib.ListN.{length, get_or}
 use lib.Dec.{eqb, leb, ltb}
-use borrow.Author.Tests.{eq-eqb, ne_eqb, eqb-true, eqb-false, ltb-true, ltb-false, le-ltb, leb-true, leb-false, lt-leb}
+use borrow.Author.Tests.{eq-eqb, ne_eqb, eqb-true, eqb-false, ltb-true, ltb-false, leb-false, lt-leb}
 use Rattle.scan.proofs.Laws.{both}
 use Rattle.ranges.specs.Ranges.{is_nothing}
 use Rattle.ranges.specs.declared.Found.{Found}
@@ -17,7 +17,7 @@ use Rattle.codes.specs.declared.Operation.{Operation}
 use Rattle.codes.specs.declared.Operation.TheVariants.{Inserimento, Variazione, Annullo, Sostituzione}
 use Rattle.order.specs.declared.Line.{Line}
 use Rattle.order.specs.declared.NamedLine.{NamedLine}
-use Rattle.order.specs.Ordinativo.{no_line, Ordinativo}
+use Rattle.order.specs.Ordinativo.{Ordinativo}
 use Rattle.record.specs.declared.Record.{Record}
 use Rattle.record.specs.declared.Key.{Key}
 use Rattle.record.specs.Slot.{key_of, key_is}
@@ -25,11 +25,11 @@ use Rattle.slots.specs.Slots.{find_in, distinct, nth, no_record}
 use Rattle.slots.proofs.Search.{nothing_is, found_below, found_key}
 use Rattle.lines.specs.Lines.{numbered_from, sum_of, line_code}
 use Rattle.replacing.specs.declared.Naming.{Naming}
-use Rattle.replacing.specs.Replacing.{namings, line_named_in, named_at, named_code, replace_code}
+use Rattle.replacing.specs.Replacing.{line_named_in, named_at, named_code}
 use Rattle.replacing.specs.Inner.{naming_at, same_named, named_earlier, code_again, read_code}
 use Rattle.replacing.proofs.Marks.{Comes, stops, stands, comes}
 use Rattle.rules.specs.declared.Situation.{Situation}
-use Rattle.rules.specs.declared.Situation.TheVariants.{Absent, Annulled, Waiting, Executed}
+use Rattle.rules.specs.declared.Situation.TheVariants.{Annulled, Waiting, Executed}
 use Rattle.rules.specs.declared.Change.{Change}
 use Rattle.rules.specs.declared.Change.TheVariants.{Insert, Vary, Annul, Replace}
 use Rattle.rules.specs.declared.Ruling.{Ruling}

@@ -5,7 +5,6 @@ use mathlib.Core.List.{List, map, Memᴰ}
 use Rattle.codes.specs.declared.Operation.{Operation}
 use Rattle.codes.specs.declared.Operation.TheVariants.{Inserimento, Variazione, Annullo, Sostituzione}
 use Rattle.order.specs.declared.Line.{Line}
-use Rattle.order.specs.declared.NamedLine.{NamedLine}
 use Rattle.order.specs.Ordinativo.{no_line, Ordinativo}
 use Rattle.record.specs.declared.Record.{Record}
 use Rattle.record.specs.declared.Key.{Key}

@@ -1,4 +1,6 @@
 // The rules for one order or one notice, over values: the step table, what is written. Nothing here touches a table.
+#![tactic(auto)]
+
 ghost use Rattle.std.specs.Prelude.{◌≡◌, cond, ◌≤◌, replicate, ltb};
 ghost use Rattle.order.specs.Ordinativo.{lines_there, ordinativo};
 ghost use Rattle.record.specs.Slot.{acquired_state, annulled_state, waiting_line, key_of, record_with};
