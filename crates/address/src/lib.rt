@@ -1,4 +1,6 @@
 // A code looked up once: the body of the table that it names.
+#![tactic(auto)]
+
 ghost use Rattle.std.specs.Prelude.{◌≡◌, true};
 ghost use Rattle.table.specs.Table.{table_ok};
 ghost use Rattle.address.specs.Address.{body_named, addressed};
