@@ -1,5 +1,9 @@
 // Which elements of document 01's structure stand nowhere in a flow, said one after another.
+#![tactic(auto)]
+
 use printing::say;
+use std::io;
+use std::io::Write;
 
 // Whether these bytes stand somewhere in a flow.
 fn occurs(s: &[u8], x: &[u8]) -> bool {
@@ -14,95 +18,96 @@ fn occurs(s: &[u8], x: &[u8]) -> bool {
 }
 
 // Says so of a start tag that stands nowhere in a flow.
-fn say_lack(flow: &[u8], tag: &[u8]) -> bool {
+fn say_lack<W: Write>(to: &mut W, flow: &[u8], tag: &[u8]) -> io::Result<()> {
     if occurs(flow, tag) {
-        return true;
+        return Ok(());
     }
-    say(b"; no ") && say(tag)
+    say(to, b"; no ")?;
+    say(to, tag)
 }
 
-fn say_header_lacks(flow: &[u8]) -> bool {
-    say_lack(flow, b"<flusso_ordinativi>")
-        && say_lack(flow, b"<codice_ABI_BT>")
-        && say_lack(flow, b"<identificativo_flusso>")
-        && say_lack(flow, b"<data_ora_creazione_flusso>")
-        && say_lack(flow, b"<codice_ente_BT>")
-        && say_lack(flow, b"<esercizio>")
-        && say_lack(flow, b"<tipo_operazione>")
+fn say_header_lacks<W: Write>(to: &mut W, flow: &[u8]) -> io::Result<()> {
+    say_lack(to, flow, b"<flusso_ordinativi>")?;
+    say_lack(to, flow, b"<codice_ABI_BT>")?;
+    say_lack(to, flow, b"<identificativo_flusso>")?;
+    say_lack(to, flow, b"<data_ora_creazione_flusso>")?;
+    say_lack(to, flow, b"<codice_ente_BT>")?;
+    say_lack(to, flow, b"<esercizio>")?;
+    say_lack(to, flow, b"<tipo_operazione>")
 }
 
-fn say_mandato_lacks(flow: &[u8]) -> bool {
-    say_lack(flow, b"<numero_mandato>")
-        && say_lack(flow, b"<data_mandato>")
-        && say_lack(flow, b"<importo_mandato>")
-        && say_lack(flow, b"<informazioni_beneficiario>")
-        && say_lack(flow, b"<progressivo_beneficiario>")
-        && say_lack(flow, b"<importo_beneficiario>")
-        && say_lack(flow, b"<beneficiario>")
-        && say_lack(flow, b"<anagrafica_beneficiario>")
+fn say_mandato_lacks<W: Write>(to: &mut W, flow: &[u8]) -> io::Result<()> {
+    say_lack(to, flow, b"<numero_mandato>")?;
+    say_lack(to, flow, b"<data_mandato>")?;
+    say_lack(to, flow, b"<importo_mandato>")?;
+    say_lack(to, flow, b"<informazioni_beneficiario>")?;
+    say_lack(to, flow, b"<progressivo_beneficiario>")?;
+    say_lack(to, flow, b"<importo_beneficiario>")?;
+    say_lack(to, flow, b"<beneficiario>")?;
+    say_lack(to, flow, b"<anagrafica_beneficiario>")
 }
 
-fn say_reversale_lacks(flow: &[u8]) -> bool {
-    say_lack(flow, b"<numero_reversale>")
-        && say_lack(flow, b"<data_reversale>")
-        && say_lack(flow, b"<importo_reversale>")
-        && say_lack(flow, b"<informazioni_versante>")
-        && say_lack(flow, b"<progressivo_versante>")
-        && say_lack(flow, b"<importo_versante>")
-        && say_lack(flow, b"<versante>")
-        && say_lack(flow, b"<anagrafica_versante>")
+fn say_reversale_lacks<W: Write>(to: &mut W, flow: &[u8]) -> io::Result<()> {
+    say_lack(to, flow, b"<numero_reversale>")?;
+    say_lack(to, flow, b"<data_reversale>")?;
+    say_lack(to, flow, b"<importo_reversale>")?;
+    say_lack(to, flow, b"<informazioni_versante>")?;
+    say_lack(to, flow, b"<progressivo_versante>")?;
+    say_lack(to, flow, b"<importo_versante>")?;
+    say_lack(to, flow, b"<versante>")?;
+    say_lack(to, flow, b"<anagrafica_versante>")
 }
 
 // The structure of each line of an order that replaces others.
-fn say_mandato_structure(flow: &[u8]) -> bool {
-    say_lack(flow, b"<sostituzione_mandato>")
-        && say_lack(flow, b"<numero_mandato_da_sostituire>")
-        && say_lack(flow, b"<progressivo_beneficiario_da_sostituire>")
-        && say_lack(flow, b"<esercizio_mandato_da_sostituire>")
+fn say_mandato_structure<W: Write>(to: &mut W, flow: &[u8]) -> io::Result<()> {
+    say_lack(to, flow, b"<sostituzione_mandato>")?;
+    say_lack(to, flow, b"<numero_mandato_da_sostituire>")?;
+    say_lack(to, flow, b"<progressivo_beneficiario_da_sostituire>")?;
+    say_lack(to, flow, b"<esercizio_mandato_da_sostituire>")
 }
 
-fn say_reversale_structure(flow: &[u8]) -> bool {
-    say_lack(flow, b"<sostituzione_reversale>")
-        && say_lack(flow, b"<numero_reversale_da_sostituire>")
-        && say_lack(flow, b"<progressivo_versante_da_sostituire>")
-        && say_lack(flow, b"<esercizio_reversale_da_sostituire>")
+fn say_reversale_structure<W: Write>(to: &mut W, flow: &[u8]) -> io::Result<()> {
+    say_lack(to, flow, b"<sostituzione_reversale>")?;
+    say_lack(to, flow, b"<numero_reversale_da_sostituire>")?;
+    say_lack(to, flow, b"<progressivo_versante_da_sostituire>")?;
+    say_lack(to, flow, b"<esercizio_reversale_da_sostituire>")
 }
 
 // Where a flow has orders that replace others.
-fn say_structure_lacks(flow: &[u8]) -> bool {
+fn say_structure_lacks<W: Write>(to: &mut W, flow: &[u8]) -> io::Result<()> {
     if !occurs(flow, b">SOSTITUZIONE<") {
-        return true;
+        return Ok(());
     }
     if occurs(flow, b"<mandato>") {
         if occurs(flow, b"<reversale>") {
-            return true;
+            return Ok(());
         }
-        return say_mandato_structure(flow);
+        return say_mandato_structure(to, flow);
     }
     if occurs(flow, b"<reversale>") {
-        return say_reversale_structure(flow);
+        return say_reversale_structure(to, flow);
     }
-    true
+    Ok(())
 }
 
 // The elements that a flow of mandati, of reversali or of both cannot do without.
-fn say_order_lacks(flow: &[u8]) -> bool {
+fn say_order_lacks<W: Write>(to: &mut W, flow: &[u8]) -> io::Result<()> {
     if occurs(flow, b"<mandato>") {
-        if !say_mandato_lacks(flow) {
-            return false;
-        }
+        say_mandato_lacks(to, flow)?;
         if occurs(flow, b"<reversale>") {
-            return say_reversale_lacks(flow);
+            return say_reversale_lacks(to, flow);
         }
-        return true;
+        return Ok(());
     }
     if occurs(flow, b"<reversale>") {
-        return say_reversale_lacks(flow);
+        return say_reversale_lacks(to, flow);
     }
-    say(b"; no <mandato> or <reversale>")
+    say(to, b"; no <mandato> or <reversale>")
 }
 
 // The start tags that stand nowhere in a flow whose structure breaks.
-pub fn say_lacks(flow: &[u8]) -> bool {
-    say_header_lacks(flow) && say_order_lacks(flow) && say_structure_lacks(flow)
+pub fn say_lacks<W: Write>(to: &mut W, flow: &[u8]) -> io::Result<()> {
+    say_header_lacks(to, flow)?;
+    say_order_lacks(to, flow)?;
+    say_structure_lacks(to, flow)
 }
