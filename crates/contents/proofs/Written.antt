@@ -15,7 +15,7 @@ use Rattle.bounds.specs.Bounds.{abi_length, max_bodies, max_length}
 use Rattle.record.specs.Slot.{slot_size}
 use Rattle.ranges.specs.Ranges.{zeros}
 use Rattle.ranges.proofs.Laws.{get_zeros}
-use Rattle.entries.specs.Entry.{entry_size, entry_fixed, closed_place, entry_rest, request_size, slots_of, place_of, kept, kept_bytes, closed_of, forms_ok, slots_from}
+use Rattle.entries.specs.Entry.{entry_size, closed_place, entry_rest, request_size, slots_of, place_of, kept, kept_bytes, closed_of, forms_ok, slots_from}
 use Rattle.entries.proofs.Laws.{times, forms_split}
 use Rattle.entries.proofs.Same.{part_agree, slots_agree, form_agree, Rows}
 use Rattle.entries.proofs.Same.Rows.{none, row}

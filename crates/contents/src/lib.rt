@@ -1,4 +1,6 @@
 // The contents of a table written: the head, and one body's entry.
+#![tactic(auto)]
+
 ghost use Rattle.std.specs.Prelude.{◌≡◌, ◌+◌, ◌≤◌, length};
 ghost use Rattle.words.specs.Numbers.{put};
 ghost use Rattle.bounds.specs.Bounds.{abi_length};
