@@ -1,4 +1,6 @@
 // One body of n slots under repair, which has closed the years up to `closed`, with room for its flags: how many slots are blanked, how many records moved, the places blanked, and the slots repaired.
+#![tactic(auto)]
+
 ghost use Rattle.std.specs.Prelude.{◌≡◌, ◌+◌, ◌*◌, ◌≤◌, length};
 ghost use Rattle.bounds.specs.Bounds.{max_slots};
 ghost use Rattle.words.specs.Numbers.{put, bytes4};
