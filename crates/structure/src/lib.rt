@@ -1,4 +1,6 @@
 // The structure of a flow, as its walk asks it: which number of elements a row takes, and that a field holds no element.
+#![tactic(auto)]
+
 ghost use Rattle.std.specs.Prelude.{◌≡◌, ◌+◌, ◌≤◌, ◌<◌, length};
 ghost use Rattle.markup.specs.Noted.{Noted};
 ghost use Rattle.schema.specs.Table.{table};
