@@ -1,8 +1,12 @@
 // A clerk's line: how it is read from standard input, and what it says: its words, and the numbers, kinds and dates that they write.
-ghost use Rattle.std.specs.Prelude.{◌≤◌, length};
-ghost use Rattle.io.specs.Counts.{IsPrefixLen};
+#![tactic(auto)]
+
+ghost use Rattle.std.specs.Prelude.{◌≤◌, length, IfOk};
+ghost use Rattle.std.specs.Counts.{IsPrefixLen};
 
 use calendar::Date;
+use std::io;
+use std::io::Read;
 
 // A line that was read: its length, and whether the input goes on.
 #[derive(Clone, Copy)]
@@ -29,45 +33,45 @@ fn blank(b: u8) -> u8 {
     }
 }
 
-fn next_byte() -> Next {
+fn next_byte<R: Read>(from: &mut R) -> io::Result<Next> {
     let mut one = [0u8; 1];
-    let got = libc::read(libc::STDIN_FILENO, &mut one);
+    let got = from.read(&mut one)?;
     if got == 1 {
-        Next::Byte(blank(one[0]))
+        Ok(Next::Byte(blank(one[0])))
     } else {
-        Next::End
+        Ok(Next::End)
     }
 }
 
 // Reads a line without its end; of one that is longer than there is room, the rest is another.
-pub fn read_line(buf: &mut [u8]) -> Line
-    ensures { IsPrefixLen result.size buf.new }
+pub fn read_line<R: Read>(from: &mut R, buf: &mut [u8]) -> io::Result<Line>
+    ensures { IfOk result (λ line. IsPrefixLen line.size buf.new) }
 {
     let mut n: usize = 0;
     while n < buf.len() {
-        match next_byte() {
+        match next_byte(from)? {
             Next::End => {
-                return Line {
+                return Ok(Line {
                     size: n,
                     more: false,
-                };
+                });
             }
             Next::Byte(b) => {
                 if b == b'\n' {
-                    return Line {
+                    return Ok(Line {
                         size: n,
                         more: true,
-                    };
+                    });
                 }
                 buf[n] = b;
             }
         }
         n += 1;
     }
-    Line {
+    Ok(Line {
         size: n,
         more: true,
-    }
+    })
 }
 
 // The place of the next word.
