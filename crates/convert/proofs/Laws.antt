@@ -1,23 +1,20 @@
 -- Laws of the bytes that conversion writes, and of its answer.
-use mathlib.Core.Path.{◌≡◌, refl, sym, ap, ◌∙◌, subst}
+use mathlib.Core.Path.{◌≡◌, refl, ap, ◌∙◌, subst}
 use mathlib.Core.List.{List, [], ◌++◌, append-nil}
 use mathlib.Core.Bool.{Bool, true, false}
 use Prim.Native.Nat.{ℕ, zero, suc, ◌+◌, ◌-◌, ◌*◌, ◌≤◌, ◌<◌}
-use native.Mathlib.Nat.{zero-add}
 use native.Mathlib.Omega.{arith}
-use lib.ListN.{length, take, drop, length-append, length-drop, drop_of_length-le}
+use lib.ListN.{length, drop, length-append, length-drop, drop_of_length-le}
 use lib.Seq.{length-take-le}
-use lib.Dec.{eqb}
 use borrow.Author.Tests.{eqb-true, eq-eqb, ne_eqb}
 use Rattle.scan.specs.Bytes.{part}
 use Rattle.words.specs.Numbers.{put}
 use Rattle.bounds.specs.Bounds.{abi_length, max_bodies, max_slots}
 use Rattle.record.specs.Slot.{slot_size}
 use Rattle.slots.specs.Slots.{records_at}
-use Rattle.body.specs.Body.{body_ok, cents_of}
+use Rattle.body.specs.Body.{body_ok}
 use Rattle.body.specs.Inner.{summed}
 use Rattle.body.specs.declared.Sums.TheVariants.{Broken, Right}
-use Rattle.body.proofs.Laws.{summed_right, summed_broken}
 use Rattle.entries.specs.Entry.{entry_size, request_size, slots_of, place_of, slots_from}
 use Rattle.entries.proofs.Laws.{put_next}
 use Rattle.table.specs.declared.Layout.{Layout}

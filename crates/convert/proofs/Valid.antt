@@ -5,18 +5,18 @@ use mathlib.Core.Bool.{true, ◌&&◌}
 use Prim.Native.Nat.{ℕ, zero, suc, ◌+◌, ◌-◌, ◌*◌, ◌≤◌, ◌<◌}
 use native.Mathlib.Nat.{not-suc-le-zero}
 use native.Mathlib.Omega.{arith}
-use lib.ListN.{length, get_or, drop, length-append, get_or-append}
+use lib.ListN.{length, drop, length-append, get_or-append}
 use lib.Seq.{get_or-take, get_or-drop}
 use Rattle.scan.specs.Bytes.{part}
 use Rattle.words.proofs.Laws.{Agree, on}
-use Rattle.bounds.specs.Bounds.{max_length, max_slots}
+use Rattle.bounds.specs.Bounds.{max_length}
 use Rattle.record.specs.Slot.{slot_size}
 use Rattle.slots.specs.Slots.{records_at}
 use Rattle.body.specs.Body.{body_ok, cents_of, all_later}
 use Rattle.body.proofs.Laws.{cents_most}
 use Rattle.body.proofs.Later.{open_later}
-use Rattle.body.proofs.Same.{fewer, records_agree, body_agree}
-use Rattle.entries.specs.Entry.{entry_size, request_size, kept, closed_of, slots_of, place_of, codes_from, slots_from, forms_ok}
+use Rattle.body.proofs.Same.{records_agree, body_agree}
+use Rattle.entries.specs.Entry.{entry_size, kept, closed_of, slots_of, place_of, codes_from, slots_from}
 use Rattle.entries.proofs.Same.{Rows, codes_rows, slots_rows}
 use Rattle.table.specs.Table.{table1, table2, head_size, bodies, abi_of, head_ok, layout_ok, agrees, records_of, body_holds, valid_as, table_ok, codes_of, entry_of}
 use Rattle.table.proofs.Laws.{known_1, known_2, entry, lay_split, head, table}
@@ -25,9 +25,8 @@ use Rattle.contents.specs.Contents.{head_bytes, entries_bytes}
 use Rattle.contents.proofs.Written.{get_d_second, agree_left, agree_right, head_bodies, head_abi, head_valid, Written, written_place, written_rest, written_rows, written_layout, written_kept, written_open}
 use Rattle.convert.specs.Convert.{grown_length, cents_at, converted}
 use Rattle.convert.specs.Same.{old_entry, Same}
-use Rattle.convert.proofs.Laws.{room, few, five, long_head, long_entries, long_slots, converted_long, lay_sum}
+use Rattle.convert.proofs.Laws.{room, few, five, long_head, long_entries, converted_long, lay_sum}
 use borrow.Author.Tests.{eq-eqb}
-use lib.Dec.{eqb}
 
 -- each place moves by as much as the contents grow
 moved_place : (o u : List ℕ) (d to at n p q b : ℕ) → Written table1.entry (cents_at o) u o to at n p → layout_ok table1 o at n q ≡ true → p ≡ q + d

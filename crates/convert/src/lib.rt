@@ -1,4 +1,6 @@
 // A table 1 converted into a table 2: every byte of the second buffer written where the old table is valid and the length fits, or none.
+#![tactic(auto)]
+
 ghost use Rattle.std.specs.Prelude.{◌≡◌, true, ◌+◌, ◌*◌, ◌≤◌, length};
 ghost use Rattle.bounds.specs.Bounds.{max_slots};
 ghost use Rattle.words.specs.Numbers.{put};
