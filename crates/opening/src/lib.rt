@@ -1,4 +1,6 @@
 // Opening a table: every byte of the buffer written where the request is right and the length fits, or none.
+#![tactic(auto)]
+
 ghost use Rattle.std.specs.Prelude.{◌≡◌, true, ◌+◌, ◌*◌, ◌≤◌, length, replicate};
 ghost use Rattle.words.specs.Numbers.{put};
 ghost use Rattle.bounds.specs.Bounds.{max_bodies};
