@@ -1,5 +1,7 @@
 // What a flow's content comes to: its structure breaks, or a field does, or it stands. One walk says which; only where a field breaks does a second one
 // say where, and why.
+#![tactic(auto)]
+
 ghost use Rattle.std.specs.Prelude.{◌≡◌, ◌+◌, ◌≤◌, ◌<◌, length};
 ghost use Rattle.markup.specs.Noted.{Noted};
 ghost use Rattle.schema.specs.Table.{table};
