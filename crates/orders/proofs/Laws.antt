@@ -68,9 +68,12 @@ held_line SostituzioneMandato h e w = absurd w
 held_line SostituzioneReversale h e w = absurd w
 held_line Beneficiario h e w = absurd w
 held_line Versante h e w = absurd w
+held_line MessaggiEsito h e w = absurd w
 held_line TestataMessaggio h e w = let z : ◌≡◌ {A = ℕ} 9 5 = ap length e in absurd (omega arith)
 held_line EsitoReversali h e w = let z : ◌≡◌ {A = ℕ} 9 5 = ap length e in absurd (omega arith)
 held_line EsitoMandati h e w = let z : ◌≡◌ {A = ℕ} 9 5 = ap length e in absurd (omega arith)
+held_line ErroriReversali h e w = absurd w
+held_line ErroriMandati h e w = absurd w
 held_line FlussoOpi h e w = absurd w
 held_line TestataFlusso h e w = absurd w
 

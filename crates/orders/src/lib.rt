@@ -1,4 +1,6 @@
 // The orders of a flow that stands, as values. Children are read one after the other: the structure says which row each is.
+#![tactic(auto)]
+
 ghost use Rattle.std.specs.Prelude.{◌≡◌, ℕ, ◌+◌, ◌≤◌, ◌<◌, length, drop, true};
 ghost use Rattle.markup.specs.Noted.{Noted};
 ghost use Rattle.tokens.specs.Tokens.{white_at};
