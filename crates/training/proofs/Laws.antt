@@ -1,11 +1,11 @@
 -- Laws of the training engine: an array and how many of it count, then the ways out of the code over plain lists.
 use Prim.Native.Nat.{ℕ, zero, suc, ◌+◌, ◌-◌, ◌≤◌, ◌<◌}
 use mathlib.Core.Bool.{Bool, true, false}
-use mathlib.Core.List.{List, [], ◌∷◌, ◌++◌, map}
+use mathlib.Core.List.{List, [], ◌∷◌, ◌++◌}
 use mathlib.Core.Path.{◌≡◌, refl, sym, ap, ◌∙◌}
 use native.Mathlib.Omega.{arith}
 use native.Mathlib.Numerals.{add-one}
-use lib.ListN.{length, get_or, take, drop, set, length-map, drop_of_length-le}
+use lib.ListN.{length, get_or, take, drop, set, drop_of_length-le}
 use lib.Seq.{length-take-le, take-suc-set, take-set-lt, take_all, drop-cons, set_split}
 use Rattle.ranges.specs.declared.Found.{Found}
 use Rattle.ranges.specs.declared.Found.TheVariants.{At, Nothing}
@@ -39,10 +39,6 @@ use Rattle.training.specs.Inner.{on_record, on_none, Ruled, ChangeTaken, Marks}
 
 -- THE ARRAY
 
--- what is known of an array of structs in a struct is known of it field by field
-pub unmapped : {A B : Type 0} (f : A → B) (l : List A) (n : ℕ) → length (map f l) ≡ n → length l ≡ n
-unmapped f l n e = sym (length-map l f) ∙ e
-
 pub taken_few : (l : List Record) (n : ℕ) → n ≤ length l → n ≡ length (take n l)
 taken_few l n h = sym (length-take-le n l h)
 
@@ -56,8 +52,8 @@ taken_low (suc n) (x ∷ l) zero h = (omega arith, omega arith)
 taken_low (suc n) (x ∷ l) (suc i) h = let r = taken_low n l i (omega arith) in (omega arith, omega arith)
 
 -- the index of one that counts is an index of the array
-pub index_in : {B : Type 0} (f : Record → B) (n : ℕ) (l : List Record) (i m : ℕ) → length (map f l) ≡ m → i < length (take n l) → (length l ≡ m) × (i < length l)
-index_in f n l i m e h = (unmapped f l m e, (taken_low n l i h).1)
+pub index_in : (n : ℕ) (l : List Record) (i m : ℕ) → length l ≡ m → i < length (take n l) → (length l ≡ m) × (i < length l)
+index_in n l i m e h = (e, (taken_low n l i h).1)
 
 -- fewer than there are places: they are as many as it says
 pub taken_short : (n : ℕ) (l : List Record) → length (take n l) < length l → n < length l

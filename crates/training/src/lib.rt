@@ -1,5 +1,7 @@
 // The training engine over one body: its orders in a plain list, in order of arrival. It judges by the rules that the table engine judges by, and knows no
 // bytes. Four functions look into the array (`size`, `order_at`, `appended`, `replaced`); all others speak of the list.
+#![tactic(auto)]
+
 ghost use Rattle.std.specs.Prelude.{◌≡◌, ◌&&◌, [], ◌∷◌, ◌++◌, ◌+◌, ◌≤◌, ◌<◌, length, set};
 ghost use Rattle.order.specs.Ordinativo.{ordinativo};
 ghost use Rattle.record.specs.Slot.{key_is, with_state};

@@ -1,0 +1,15 @@
+use Prim.Native.Nat.{◌-◌, ◌≤◌}
+use mathlib.Core.Path.{◌≡◌, refl, sym, ap, ◌∙◌}
+use native.Mathlib.Omega.{arith}
+use lib.ListN.{length, drop}
+use Rattle.slots.specs.Slots.{find_in}
+use Rattle.training.specs.Training.{list_of}
+use Rattle.training.proofs.Laws.{found_here, found_later, found_none}
+use borrow.Author.Rules.{rules}
+use Rattle.training.proofs.find.Given as goal
+
+abbrev pub invariant-loop-i : goal.invariant-loop-i
+invariant-loop-i l = (l.i ≤ l.n) × (find_in (list_of l.b) 0 l.key ≡ find_in (drop l.i (list_of l.b)) l.i l.key)
+
+abbrev pub decreases-loop-i : goal.decreases-loop-i
+decreases-loop-i l = l.n - l.i

@@ -1,0 +1,20 @@
+use native.Mathlib.Omega.{arith}
+use Rattle.training.specs.Training.{list_of}
+use Rattle.training.proofs.Laws.{moved_low, moved_first, notice_moved, notice_unmoved}
+use borrow.Author.Rules.{rules}
+use Rattle.training.proofs.take_notice.Goals as goal
+
+pub overflow_sub-k : goal.overflow_sub-k
+overflow_sub-k c = omega (arith, moved_first (list_of c.args.b) c.args.executing c.args.key c.args.line c.judge_notice.ensures c.in-Moved.is)
+
+pub order_at-requires : goal.order_at-requires
+order_at-requires c = moved_low (list_of c.args.b) c.args.executing c.args.key c.args.line c.judge_notice.ensures c.in-Moved.is
+
+pub replaced-requires : goal.replaced-requires
+replaced-requires c = moved_low (list_of c.args.b) c.args.executing c.args.key c.args.line c.judge_notice.ensures c.in-Moved.is
+
+pub returns-in-Moved : goal.returns-in-Moved
+returns-in-Moved c = notice_moved (list_of c.args.b) c.args.executing c.args.key c.args.line c.judge_notice.ensures c.in-Moved.is c.order_at.ensures c.moved_to.ensures c.with_state-w.ensures c.replaced.ensures
+
+pub returns-in-Unmoved : goal.returns-in-Unmoved
+returns-in-Unmoved c = notice_unmoved (list_of c.args.b) c.args.executing c.args.key c.args.line c.judge_notice.ensures c.in-Unmoved.is
