@@ -78,7 +78,7 @@ lines_same n [] a hs ht e = a
 lines_same {s} {t} {p} {q} n (m ∷ ms) a hs ht e =
     let z = or_zero (named_code (records_at t q n) m) _ e in
     let f = ap (λ (rs : List Record). named_code rs m) (records_agree n a) ∙ z.0 in
-    lines_same n ms (line_same n m a hs ht z.0) (omega (arith, line_long s p n m f hs)) (omega (arith, line_long t q n m z.0 ht))
+    lines_same {s = line_put s p n m} {t = line_put t q n m} n ms (line_same n m a hs ht z.0) (omega (arith, line_long s p n m f hs)) (omega (arith, line_long t q n m z.0 ht))
     (ap (λ (rs : List Record). replace_code rs ms) (line_records t q n m z.0 ht) ∙ z.1)
 
 -- AN ORDER
@@ -208,7 +208,7 @@ all_own {s} {t} {p} {q} n year (o ∷ os) a hs ht (more w ws) y =
     let ks = order_kept s p n year o hs.0 hs.1 w y in
     let kt = order_kept t q n year o ht.0 ht.1 w y in
     let b = order_own n a hs.0 ht.0 year o in
-    let r = all_own n year os b (omega (arith, ks.long, hs), ks.ok) (omega (arith, kt.long, ht), kt.ok) ws y in
+    let r = all_own {s = order_leaves s p n year o} {t = order_leaves t q n year o} n year os b (omega (arith, ks.long, hs), ks.ok) (omega (arith, kt.long, ht), kt.ok) ws y in
     record {
       outcomes = λ k. outcome_bytes o (order_code (e k)) ++ r.outcomes k;
       accepted = λ k. cond (eqb (order_code (e k)) 0) 1 0 + r.accepted k;

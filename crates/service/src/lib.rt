@@ -1,4 +1,6 @@
 // One order or one notice served on a body of a table's bytes: judged first, then stored. Each looks at the one record that its search found.
+#![tactic(auto)]
+
 ghost use Rattle.std.specs.Prelude.{◌≡◌, true, ◌+◌, ◌*◌, ◌≤◌, ◌<◌, length, set};
 ghost use Rattle.bounds.specs.Bounds.{max_slots};
 ghost use Rattle.words.specs.Numbers.{put};
