@@ -16,15 +16,14 @@ use Rattle.record.proofs.Back.{eight_at_lem, be8s_at}
 use Rattle.record.specs.declared.Record.{Record}
 use Rattle.record.specs.declared.Key.{Key}
 use Rattle.ranges.specs.Ranges.{is_nothing}
-use Rattle.ranges.specs.declared.Found.{Found}
 use Rattle.ranges.specs.declared.Found.TheVariants.{At, Nothing}
 use Rattle.slots.specs.Slots.{find_in, distinct}
 use Rattle.slots.proofs.Laws.{find_first, find_later}
-use Rattle.slots.proofs.Search.{key_is_lem, nothing_is, found_below, found_key}
+use Rattle.slots.proofs.Search.{key_is_lem, nothing_is}
 use Rattle.journal.specs.declared.Movement.{Movement}
-use Rattle.journal.specs.Journal.{movement_of, executed_from, executed_of, executed_lines, same_line, same_movement, any_of, movement_code, code_then}
+use Rattle.journal.specs.Journal.{movement_of, executed_from, executed_of, executed_lines, same_line, any_of, movement_code, code_then}
 use Rattle.journal.specs.Inner.{movement_key, line_executed, code_by}
-use Rattle.journal.proofs.Laws.{clash, any_append, any_same, line_is, is_line, not_line}
+use Rattle.journal.proofs.Laws.{clash, any_append, any_same, is_line, not_line}
 
 -- KEYS
 

@@ -15,7 +15,7 @@ use Rattle.record.proofs.Back.{eight_at_lem}
 use Rattle.record.specs.declared.Record.{Record}
 use Rattle.record.specs.declared.Key.{Key}
 use Rattle.ranges.specs.declared.Found.TheVariants.{At}
-use Rattle.slots.specs.Slots.{used_at, slots_at, records_at, find_in}
+use Rattle.slots.specs.Slots.{slots_at, records_at, find_in}
 use Rattle.slots.proofs.Laws.{used_le, slots_more}
 use Rattle.slots.proofs.Index.{length_records, get_record}
 use Rattle.journal.specs.declared.Movement.{Movement}

@@ -1,5 +1,5 @@
 -- What a journal's code says, without the walk.
-use Prim.Native.Nat.{ℕ, zero, suc, ◌+◌, ◌≤◌, ◌<◌}
+use Prim.Native.Nat.{ℕ, ◌+◌}
 use mathlib.Core.Bool.{Bool, true, false, ◌&&◌, ◌||◌, cond, and-true}
 use mathlib.Core.Logic.{◌⊎◌, inl, inr}
 use mathlib.Core.List.Memᴰ
@@ -7,17 +7,16 @@ use mathlib.Core.List.{List, [], ◌∷◌, ◌++◌, append_assoc, append-nil, 
 use mathlib.Core.Path.{◌≡◌, refl, sym, ap, subst, ◌∙◌}
 use native.Mathlib.Omega.{arith}
 use lib.Dec.{eqb}
-use borrow.Author.Tests.{eq-eqb, ne_eqb, eqb-true}
+use borrow.Author.Tests.{eq-eqb, eqb-true}
 use Rattle.scan.proofs.Laws.{both}
 use Rattle.record.specs.Slot.{executed_line, key_of}
 use Rattle.record.specs.declared.Record.{Record}
-use Rattle.record.specs.declared.Key.{Key}
 use Rattle.slots.specs.Slots.{find_in, distinct}
 use Rattle.journal.specs.declared.Movement.{Movement}
-use Rattle.journal.specs.Journal.{movement_of, executed_from, executed_of, executed_lines, same_line, same_movement, any_of, all_of, movement_code, missing_code, code_then, journal_code}
+use Rattle.journal.specs.Journal.{movement_of, executed_from, executed_of, executed_lines, same_line, same_movement, any_of, all_of, movement_code, missing_code, journal_code}
 use Rattle.journal.specs.Inner.{movement_key}
-use Rattle.journal.specs.Told.{Permutation, none, one, OneLine, NoneOf, SomeOf, Right, start, next, FirstWrong, Told, JournalTold}
-use Rattle.journal.proofs.Laws.{clash, line_is, is_line, not_line, any_same, code_more, code_stops, code_goes, code_ends}
+use Rattle.journal.specs.Told.{Permutation, none, one, OneLine, NoneOf, SomeOf, Right, start, next, FirstWrong, JournalTold}
+use Rattle.journal.proofs.Laws.{clash, line_is, is_line, any_same, code_stops, code_goes, code_ends}
 use Rattle.journal.proofs.Lines.{apart, none_lines, past_from}
 
 -- TESTS AND WHAT THEY SAY

@@ -8,14 +8,13 @@ use lib.ListN.{length, get_or, set, replicate}
 use lib.Dec.{eqb}
 use borrow.Author.Tests.{eq-eqb, ne_eqb}
 use Rattle.record.specs.Slot.{slot_size, record_at, key_of}
-use Rattle.record.specs.declared.Record.{Record}
 use Rattle.ranges.specs.declared.Found.TheVariants.{At, Nothing}
-use Rattle.slots.specs.Slots.{used_at, slots_at, records_at, find_in}
+use Rattle.slots.specs.Slots.{slots_at, records_at, find_in}
 use Rattle.slots.proofs.Laws.{used_le}
-use Rattle.slots.proofs.Index.{length_records, get_record}
+use Rattle.slots.proofs.Index.{length_records}
 use Rattle.slots.proofs.Search.{found_below, found_key}
 use Rattle.journal.specs.declared.Movement.{Movement}
-use Rattle.journal.specs.Journal.{movement_size, movement_at, movements_at, executed_lines, same_line, any_of, movement_code, missing_code, code_then, journal_code}
+use Rattle.journal.specs.Journal.{movement_size, movement_at, movements_at, executed_lines, same_line, any_of, movement_code, code_then, journal_code}
 use Rattle.journal.specs.Inner.{movement_key, code_by, all_marked, Walked}
 use Rattle.journal.proofs.Laws.{movements_more, movements_none, movements_add, code_stops, code_goes, code_ends, missing_by}
 use Rattle.journal.proofs.Lines.{code_none, code_is, by_line, record_states, record_amounts}

@@ -1,5 +1,5 @@
 -- What the functions of this crate tell each other. The promises speak of none of it.
-use Rattle.std.specs.Prelude.{ℕ, zero, suc, ◌+◌, ◌-◌, ◌*◌, ◌≤◌, ◌≡◌, Bool, true, false, ◌&&◌, ◌||◌, not, cond, List, [], ◌∷◌, length, get_or, eqb, leb}
+use Rattle.std.specs.Prelude.{ℕ, ◌+◌, ◌-◌, ◌*◌, ◌≤◌, ◌≡◌, Bool, true, ◌&&◌, ◌||◌, not, cond, List, [], ◌∷◌, length, get_or, eqb}
 use Rattle.scan.specs.Bytes.{between}
 use Rattle.bounds.specs.Bounds.{max_slots}
 use Rattle.record.specs.Slot.{slot_size, executed_line}

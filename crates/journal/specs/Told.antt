@@ -1,5 +1,5 @@
 -- What a journal's code says (document 02, Req 10), without the walk. Proved: `journal-told : JournalTold`.
-use Rattle.std.specs.Prelude.{ℕ, ◌≡◌, true}
+use Rattle.std.specs.Prelude.{◌≡◌, true}
 use mathlib.Core.List.{List, [], ◌∷◌, ◌++◌, Memᴰ}
 use Rattle.record.specs.declared.Record.{Record}
 use Rattle.slots.specs.Slots.{distinct}

@@ -1,4 +1,6 @@
 // Checking the bank's cash journal: whether its movements are the executed lines of a body, each listed once with its cents.
+#![tactic(auto)]
+
 ghost use Rattle.std.specs.Prelude.{◌≡◌, true, ◌&&◌, ◌||◌, not, [], ◌+◌, ◌*◌, ◌/◌, ◌≤◌, ◌<◌, length, eqb, ltb};
 ghost use Rattle.bounds.specs.Bounds.{max_slots};
 ghost use Rattle.record.specs.Slot.{slot_size, record_at, eight_at, states_offset, executed_line, key_is};
