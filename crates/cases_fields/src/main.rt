@@ -4,52 +4,54 @@ ghost use Rattle.std.specs.Prelude.{◌≤◌, ◌<◌, length};
 
 use casebook::{say, say_column, say_number};
 use fields::{Form, Judged, Reading, Value};
+use std::io;
+use std::io::Write;
 
-fn say_judged(j: Judged) {
+fn say_judged<W: Write>(to: &mut W, j: Judged) -> io::Result<()> {
     match j {
-        Judged::Stands => say(b"stands"),
-        Judged::Breaks => say(b"breaks"),
+        Judged::Stands => say(to, b"stands"),
+        Judged::Breaks => say(to, b"breaks"),
     }
 }
 
-fn say_value(v: Value) {
-    say(b"stands");
+fn say_value<W: Write>(to: &mut W, v: Value) -> io::Result<()> {
+    say(to, b"stands")?;
     match v {
-        Value::Text => {}
+        Value::Text => Ok(()),
         Value::Number(n) => {
-            say(b" ");
-            say_number(n);
+            say(to, b" ")?;
+            say_number(to, n)
         }
         Value::Day(date) => {
-            say(b" ");
-            say_number(date.year);
-            say(b" ");
-            say_number(date.month);
-            say(b" ");
-            say_number(date.day);
+            say(to, b" ")?;
+            say_number(to, date.year)?;
+            say(to, b" ")?;
+            say_number(to, date.month)?;
+            say(to, b" ")?;
+            say_number(to, date.day)
         }
         Value::Operation(o) => {
-            say(b" ");
-            say_number(codes::operation_number(o) as u64);
+            say(to, b" ")?;
+            say_number(to, codes::operation_number(o) as u64)
         }
         Value::Accepted(o) => {
-            say(b" accepted ");
-            say_number(codes::operation_number(o) as u64);
+            say(to, b" accepted ")?;
+            say_number(to, codes::operation_number(o) as u64)
         }
         Value::Refused(o) => {
-            say(b" refused ");
-            say_number(codes::operation_number(o) as u64);
+            say(to, b" refused ")?;
+            say_number(to, codes::operation_number(o) as u64)
         }
     }
 }
 
 // A value, or the number of the cause.
-fn say_reading(r: Reading) {
+fn say_reading<W: Write>(to: &mut W, r: Reading) -> io::Result<()> {
     match r {
-        Reading::Holds(v) => say_value(v),
+        Reading::Holds(v) => say_value(to, v),
         Reading::Breaks(c) => {
-            say(b"breaks ");
-            say_number(fields::cause_number(c));
+            say(to, b"breaks ")?;
+            say_number(to, fields::cause_number(c))
         }
     }
 }
@@ -113,36 +115,37 @@ fn form_of(form: &[u8]) -> Form {
 }
 
 // One case: the line from a up to e.
-fn run_case(s: &[u8], a: usize, e: usize)
+fn run_case<W: Write>(to: &mut W, s: &[u8], a: usize, e: usize) -> io::Result<()>
     requires { (a ≤ e) × (e ≤ length s.now) × (length s.now ≤ 65536) }
 {
     let b = casebook::find(s, a, e, b'\t');
     let mut text = [0u8; 2048];
     let n = casebook::bytes(s, a, e, 1, &mut text);
-    say_column(s, a, e, 0);
-    say(b" \"");
-    say_column(s, a, e, 1);
-    say(b"\": ");
-    say_reading(fields::field_of(form_of(&s[a..b]), &text[..n]));
-    say(b", expected ");
-    say_column(s, a, e, 2);
-    say(b"; by its form it ");
-    say_judged(fields::field_stands(form_of(&s[a..b]), &text[..n]));
-    say(b"\n");
+    say_column(to, s, a, e, 0)?;
+    say(to, b" \"")?;
+    say_column(to, s, a, e, 1)?;
+    say(to, b"\": ")?;
+    say_reading(to, fields::field_of(form_of(&s[a..b]), &text[..n]))?;
+    say(to, b", expected ")?;
+    say_column(to, s, a, e, 2)?;
+    say(to, b"; by its form it ")?;
+    say_judged(to, fields::field_stands(form_of(&s[a..b]), &text[..n]))?;
+    say(to, b"\n")
 }
 
-fn run_cases(s: &[u8])
+fn run_cases<W: Write>(to: &mut W, s: &[u8]) -> io::Result<()>
     requires { length s.now ≤ 65536 }
 {
     let mut at = 0;
     while at < s.len() {
-        run_case(s, at, casebook::line_end(s, at));
+        run_case(to, s, at, casebook::line_end(s, at))?;
         at = casebook::next_line(s, at);
     }
+    Ok(())
 }
 
-fn main() {
-    let mut input = io::large_buffer();
-    let n = io::read_full(libc::STDIN_FILENO, &mut input);
-    run_cases(&input[..n]);
+fn main(rt: HostRuntime) -> io::Result<()> {
+    let mut input = [0u8; 65536];
+    let n = casebook::read_full(&mut rt.stdin(), &mut input)?;
+    run_cases(&mut rt.stdout(), &input[..n])
 }
