@@ -19,7 +19,7 @@ use Rattle.rows.specs.declared.Kept.{Kept}
 use Rattle.rows.specs.declared.Next.{Next}
 use Rattle.rows.specs.declared.Next.TheVariants.{Named, Done}
 use Rattle.rows.specs.Kept.{kept_from, next_of}
-use Rattle.rows.proofs.Laws.{next_at, next_done}
+use Rattle.rows.proofs.Laws.{next_at}
 use Rattle.orders.specs.Orders.{of_row, in_row, text_of_next, text_in}
 use Rattle.orders.proofs.Laws.{ThoseAt, those_done, those_at, those_end, row_one, row_other}
 use Rattle.parts.specs.declared.Span.{Span}

@@ -1,4 +1,6 @@
 // The parts of an element, in one walk over its named children: for each row of its table where the first child there stands.
+#![tactic(auto)]
+
 ghost use Rattle.std.specs.Prelude.{◌≡◌, ◌≤◌, length};
 ghost use Rattle.scan.specs.Bytes.{part};
 ghost use Rattle.markup.specs.Noted.{Noted};

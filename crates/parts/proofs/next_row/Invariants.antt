@@ -1,0 +1,12 @@
+use mathlib.Core.Path.{◌≡◌}
+use Prim.Native.Nat.{◌-◌, ◌≤◌}
+use lib.ListN.{length}
+use Rattle.rows.specs.Kept.{kept_from}
+use Rattle.orders.specs.Orders.{in_row}
+use Rattle.parts.proofs.next_row.Given as goal
+
+abbrev pub invariant-loop-k : goal.invariant-loop-k
+invariant-loop-k l = (l.i ≤ length l.s) × (in_row l.row (kept_from l.parent l.s l.from) ≡ in_row l.row (kept_from l.parent l.s l.i))
+
+abbrev pub decreases-loop-k : goal.decreases-loop-k
+decreases-loop-k l = length l.s - l.i
