@@ -1,5 +1,7 @@
 // Content read as far as it stands: markup, structure and fields in one pass. Where anything else stands it ends, and the general readers go on from there;
 // so nothing is promised of an early end: it costs time, never an answer.
+#![tactic(auto)]
+
 ghost use Rattle.std.specs.Prelude.{◌≡◌, ◌+◌, ◌≤◌, ◌<◌, length};
 ghost use Rattle.scan.specs.Bytes.{bytes, has_at};
 ghost use Rattle.markup.specs.Noted.{Noted};
