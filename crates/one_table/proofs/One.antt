@@ -1,30 +1,29 @@
 -- A valid table 2 is fixed by its bank, its bodies' codes and slots, their records and closed years: head, entries and slots, one after another.
 use Prim.Native.Nat.{ℕ, zero, suc, ◌+◌, ◌-◌, ◌*◌, ◌≤◌, ◌<◌}
 use mathlib.Core.Path.{◌≡◌, refl, sym, ap, ◌∙◌}
-use mathlib.Core.Bool.{Bool, true, false}
+use mathlib.Core.Bool.{true}
 use mathlib.Core.List.{List, []}
 use native.Mathlib.Omega.{arith}
-use lib.ListN.{length, get_or, take, drop}
+use lib.ListN.{length, get_or, drop}
 use lib.Seq.{get_or-take, get_or-drop, ext_get_or}
 use borrow.Author.Tests.{eqb-true}
 use Rattle.scan.specs.Bytes.{part}
-use Rattle.bounds.specs.Bounds.{abi_length, max_code}
+use Rattle.bounds.specs.Bounds.{abi_length}
 use Rattle.words.proofs.Laws.{Agree}
 use Rattle.record.specs.Slot.{slot_size}
-use Rattle.record.specs.declared.Record.{Record}
 use Rattle.slots.specs.Slots.{records_at}
 use Rattle.body.specs.Body.{body_ok, cents_of}
 use Rattle.body.proofs.Same.{fewer}
-use Rattle.entries.specs.Entry.{entry_size, closed_place, entry_rest, code_length, code_at, slots_of, place_of, closed_of, kept, codes_from}
+use Rattle.entries.specs.Entry.{entry_size, closed_place, entry_rest, code_length, code_at, slots_of, place_of, closed_of, kept}
 use Rattle.entries.proofs.Laws.{form}
 use Rattle.entries.proofs.Codes.{codes_length, codes_get}
-use Rattle.table.specs.Table.{table2, head_size, bodies, abi_of, codes_of, records_of, agrees, layout_ok, table_ok, entry_of}
+use Rattle.table.specs.Table.{table2, head_size, bodies, abi_of, records_of, layout_ok, table_ok, entry_of}
 use Rattle.table.proofs.Laws.{Entry, entry, lay_split, lay_within, head, table, Holds}
 use Rattle.table.proofs.Bodies.{body_at_lem}
 use Rattle.table.proofs.Kept.{first, later}
 use Rattle.contents.proofs.Laws.{length_part}
 use Rattle.service.proofs.Totals.{agrees_is}
-use Rattle.one_table.specs.One.{are_bytes, Matching, OneTable}
+use Rattle.one_table.specs.One.{OneTable}
 use Rattle.one_table.proofs.Bytes.{small, nothing, one, adjoined, two, four, eight}
 use Rattle.one_table.proofs.Slots.{both_zero, body_fixed}
 

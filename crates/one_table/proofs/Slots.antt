@@ -1,14 +1,14 @@
 -- A body's records and its slots' number fix the bytes of its slots.
-use Prim.Native.Nat.{ℕ, zero, suc, ◌+◌, ◌-◌, ◌*◌, ◌≤◌, ◌<◌}
+use Prim.Native.Nat.{ℕ, zero, suc, ◌+◌, ◌-◌, ◌*◌, ◌<◌}
 use mathlib.Core.Path.{◌≡◌, refl, sym, ap, ◌∙◌}
-use mathlib.Core.Bool.{Bool, true, false}
-use mathlib.Core.List.{List, ◌∷◌}
+use mathlib.Core.Bool.{true}
+use mathlib.Core.List.{List}
 use native.Mathlib.Omega.{arith}
 use lib.ListN.{length, get_or}
-use lib.Dec.{leb, eqb}
-use borrow.Author.Tests.{leb-true, leb-false, eqb-true}
+use lib.Dec.{eqb}
+use borrow.Author.Tests.{eqb-true}
 use Rattle.scan.proofs.Laws.{both}
-use Rattle.words.specs.Numbers.{be2, be8}
+use Rattle.words.specs.Numbers.{be2}
 use Rattle.words.proofs.Laws.{Agree}
 use Rattle.record.specs.Slot.{slot_size, eight_at, be8s, record_at, rest_zero}
 use Rattle.record.specs.declared.Record.{Record}
