@@ -22,7 +22,7 @@ use Rattle.service.proofs.Moved.{notice_settled, notice_records}
 use Rattle.service.proofs.Totals.{Settled, kept_settled}
 use Rattle.isolation.proofs.Carry.{StandsFor, run_image, log_image}
 use Rattle.one_list.specs.Lists.{list_outcomes, list_accepted, list_steps}
-use Rattle.one_list.proofs.OneList.{Call, orders, notice, Answer, of_orders, of_notice, table_answer, table_after, in_table, list_answer, list_after, OneList}
+use Rattle.one_list.proofs.OneList.{Call, orders, notice, of_orders, table_answer, table_after, in_table, list_answer, list_after, OneList}
 
 -- A FLOW'S ORDERS
 pub record Agrees (t : List ℕ) (base n year : ℕ) (os : List Ordinativo) : Type 0 where
