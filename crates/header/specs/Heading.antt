@@ -1,5 +1,5 @@
 -- The header of a flow that stands, as the places of its parts: names for the contracts of the code. What it says is `header_in` of Header.
-use Rattle.std.specs.Prelude.{ℕ, ◌+◌, ◌≤◌, ◌≡◌, List, ◌∷◌, length}
+use Rattle.std.specs.Prelude.{ℕ, ◌+◌, ◌≤◌, List, ◌∷◌, length}
 use Rattle.scan.specs.Bytes.{part}
 use Rattle.schema.specs.declared.Parent.{Parent}
 use Rattle.rows.specs.declared.Kept.{Kept}

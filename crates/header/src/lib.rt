@@ -1,5 +1,7 @@
 // The header of a flow that stands, read once, in one pass over the children that hold it: the structure says which row each is. Each edition has
 // its own function; what they give is the same.
+#![tactic(auto)]
+
 ghost use Rattle.std.specs.Prelude.{◌≡◌, ◌+◌, ◌≤◌, length};
 ghost use Rattle.scan.specs.Bytes.{part};
 ghost use Rattle.markup.specs.Noted.{Noted};
