@@ -1,5 +1,7 @@
 // Each form of field at its edges. A line of the input is a form, a text and what documents 01 and 02 say of it, by hand: its value, or the cause;
 // a line of the output has what the code says beside it.
+#![tactic(auto)]
+
 ghost use Rattle.std.specs.Prelude.{◌≤◌, ◌<◌, length};
 
 use casebook::{say, say_column, say_number};
