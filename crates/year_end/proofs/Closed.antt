@@ -1,14 +1,13 @@
 -- WHAT A CLOSE LEAVES of its table: the body's slots and its entry's own bytes are written, and nothing else; the body is valid, its entry keeps the totals of what
 -- stays and the year, and all that stays is of later years.
-use Prim.Native.Nat.{ℕ, ◌+◌, ◌-◌, ◌*◌, ◌≤◌, ◌<◌}
+use Prim.Native.Nat.{ℕ, ◌+◌, ◌*◌, ◌≤◌, ◌<◌}
 use mathlib.Core.Path.{◌≡◌, refl, sym, ap, ◌∙◌}
-use mathlib.Core.Bool.{Bool, true, false}
-use mathlib.Core.List.{List, ◌++◌}
+use mathlib.Core.Bool.{true, false}
+use mathlib.Core.List.{List}
 use native.Mathlib.Omega.{arith}
 use lib.ListN.{length, length-append}
 use Rattle.words.specs.Numbers.{put, be2, bytes2, bytes8}
 use Rattle.words.proofs.Laws.{Agree, round2, length_put}
-use Rattle.bounds.specs.Bounds.{max_cents, max_slots}
 use Rattle.record.specs.declared.Record.{Record}
 use Rattle.record.specs.Slot.{slot_size}
 use Rattle.record.proofs.Back.{agree_before, agree_after}
@@ -16,7 +15,7 @@ use Rattle.slots.specs.Slots.{records_at}
 use Rattle.body.specs.Body.{body_ok, cents_of, all_later}
 use Rattle.body.proofs.Laws.{cents_most}
 use Rattle.body.proofs.Same.{records_agree, body_agree}
-use Rattle.entries.specs.Entry.{entry_size, entry_fixed, closed_place, entry_rest, kept, kept_bytes, closed_of}
+use Rattle.entries.specs.Entry.{entry_size, entry_fixed, closed_place, entry_rest, kept_bytes, closed_of}
 use Rattle.table.specs.Table.{agrees}
 use Rattle.service.specs.Service.{settled}
 use Rattle.service.proofs.Totals.{is_agrees, kept_same, put_paid, put_collected}

@@ -1,7 +1,7 @@
 -- Laws of a close, a way out of the code at a time.
-use Prim.Native.Nat.{ℕ, ◌+◌, ◌*◌, ◌≤◌, ◌<◌}
+use Prim.Native.Nat.{ℕ, ◌+◌, ◌≤◌, ◌<◌}
 use mathlib.Core.Path.{◌≡◌, refl, sym, ap, ◌∙◌}
-use mathlib.Core.Bool.{Bool, true, false, ◌&&◌, cond}
+use mathlib.Core.Bool.{Bool, true, false, cond}
 use mathlib.Core.List.{List}
 use native.Mathlib.Omega.{arith}
 use lib.ListN.{length}
@@ -9,20 +9,16 @@ use lib.Dec.{leb}
 use borrow.Author.Tests.{le-leb, lt-leb, leb-false}
 use Rattle.bounds.specs.Bounds.{is_year}
 use Rattle.words.specs.Numbers.{put, bytes2}
-use Rattle.words.proofs.Laws.{Agree}
 use Rattle.record.specs.declared.Record.{Record}
-use Rattle.record.specs.Slot.{slot_size}
 use Rattle.slots.specs.Slots.{records_at}
-use Rattle.body.specs.declared.Sums.{Sums}
 use Rattle.body.specs.declared.Sums.TheVariants.{Broken, Right}
 use Rattle.body.specs.Body.{body_ok, cents_of}
 use Rattle.body.specs.Inner.{summed}
 use Rattle.entries.specs.Entry.{entry_fixed, closed_place, kept_bytes, closed_of}
 use Rattle.service.specs.Service.{settled}
 use Rattle.packing.proofs.Packed.{packed_long}
-use Rattle.closing.specs.Closing.{earlier_remains, line_waits, staying, removed, stays_at, year_removed}
+use Rattle.closing.specs.Closing.{earlier_remains, line_waits, removed, stays_at, year_removed}
 use Rattle.closing.proofs.Removed.{removed_records, removed_ok, length_open}
-use Rattle.address.specs.declared.Addressed.{Addressed}
 use Rattle.address.specs.declared.Addressed.TheVariants.{Invalid, Unknown, Body}
 use Rattle.address.specs.Address.{addressed}
 use Rattle.address.proofs.Laws.{Slots}

@@ -1,18 +1,17 @@
 -- A CLOSE GOES BY ITS BODY ALONE: on two tables with the same bytes in the body's slots and in its entry's own bytes it answers the same, and leaves the same there.
-use Prim.Native.Nat.{ℕ, zero, suc, ◌+◌, ◌-◌, ◌*◌, ◌≤◌, ◌<◌}
+use Prim.Native.Nat.{ℕ, ◌+◌, ◌-◌, ◌*◌, ◌≤◌}
 use mathlib.Core.Path.{◌≡◌, refl, sym, ap, ◌∙◌}
-use mathlib.Core.Bool.{Bool, true, cond}
+use mathlib.Core.Bool.{cond}
 use mathlib.Core.List.{List, [], ◌∷◌, ◌++◌}
 use native.Mathlib.Omega.{arith}
 use lib.ListN.{length, length-append, replicate}
 use lib.Dec.{eqb}
-use Rattle.scan.specs.Bytes.{part}
 use Rattle.words.specs.Numbers.{put, bytes2, bytes8}
 use Rattle.words.proofs.Laws.{Agree, on, length_put}
 use Rattle.record.specs.declared.Record.{Record}
 use Rattle.record.specs.Slot.{slot_size}
 use Rattle.record.proofs.Back.{agree_after}
-use Rattle.slots.specs.Slots.{slots_at, records_at}
+use Rattle.slots.specs.Slots.{records_at}
 use Rattle.body.specs.Body.{cents_of}
 use Rattle.body.proofs.Same.{fewer, slots_agree, records_agree}
 use Rattle.entries.specs.Entry.{entry_size, entry_fixed, closed_place, kept_bytes, closed_of}

@@ -1,4 +1,6 @@
 // Closing a year: a body's call, on any bytes at all. All is judged before a byte is written.
+#![tactic(auto)]
+
 ghost use Rattle.std.specs.Prelude.{◌≡◌, ◌+◌, ◌≤◌};
 ghost use Rattle.slots.specs.Slots.{records_at};
 ghost use Rattle.entries.specs.Entry.{closed_of};
