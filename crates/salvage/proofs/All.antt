@@ -2,7 +2,7 @@
 -- closed year.
 use Prim.Native.Nat.{ℕ, zero, suc, ◌+◌, ◌-◌, ◌*◌, ◌≤◌, ◌<◌}
 use mathlib.Core.Bool.{Bool, true, false}
-use mathlib.Core.List.{List, [], ◌++◌}
+use mathlib.Core.List.{List, []}
 use mathlib.Core.Path.{◌≡◌, refl, sym, ap, ◌∙◌, subst}
 use native.Mathlib.Omega.{arith}
 use lib.ListN.{length, length-append}
@@ -10,25 +10,24 @@ use lib.Dec.{ltb}
 use borrow.Author.Tests.{ltb-true, ltb-false}
 use Rattle.words.specs.Numbers.{put, bytes8}
 use Rattle.words.proofs.Laws.{Agree, on, length_put}
-use Rattle.bounds.specs.Bounds.{max_cents, max_slots}
 use Rattle.record.specs.declared.Record.{Record}
 use Rattle.record.specs.Slot.{slot_size}
 use Rattle.record.proofs.Back.{agree_before, agree_after}
 use Rattle.slots.specs.Slots.{records_at}
 use Rattle.body.specs.Body.{body_ok, cents_of, all_later}
 use Rattle.body.proofs.Laws.{cents_most}
-use Rattle.body.proofs.Same.{fewer, records_agree, body_agree}
+use Rattle.body.proofs.Same.{records_agree, body_agree}
 use Rattle.entries.specs.Entry.{entry_size, entry_fixed, closed_place, kept, kept_bytes, closed_of, slots_of, place_of}
 use Rattle.entries.proofs.Same.{slots_agree, place_agree, closed_agree}
 use Rattle.table.specs.Table.{table2, head_size, bodies, agrees, contents_ok, records_of, entry_of}
 use Rattle.table.proofs.Laws.{known_2}
-use Rattle.table.proofs.Bodies.{Placed, placed_of, placed_before}
+use Rattle.table.proofs.Bodies.{placed_of, placed_before}
 use Rattle.table.proofs.Kept.{Contents, Rest, rest_agree, Own, number, bank, codes, same_contents, same_valid}
 use Rattle.service.specs.Service.{settled}
 use Rattle.service.proofs.Totals.{agrees_is, is_agrees, kept_same, put_paid, put_collected}
 use Rattle.packing.specs.Packing.{packed}
 use Rattle.packing.proofs.Packed.{joined as through, packed_long, packed_before, packed_after}
-use Rattle.keeping.specs.Keeping.{keeps_at, kept_at}
+use Rattle.keeping.specs.Keeping.{kept_at}
 use Rattle.keeping.proofs.Repaired.{keeps_length, repaired_ok, repaired_records, repaired_later, kept_agree}
 use Rattle.salvage.specs.Salvage.{keeps_of, kept_of, body_repaired, repaired_from, repaired}
 use Rattle.salvage.specs.Repaired.{Repairs}

@@ -19,7 +19,6 @@ use Rattle.table.proofs.Kept.{number}
 use Rattle.service.specs.Service.{settled}
 use Rattle.packing.specs.Packing.{packed}
 use Rattle.keeping.specs.Keeping.{keeps_at, blanked_from, moved, each_bytes}
-use Rattle.salvage.specs.declared.Salvaged.{Salvaged}
 use Rattle.salvage.specs.declared.Salvaged.TheVariants.{Repaired, InvalidContents, ShortReport}
 use Rattle.salvage.specs.Salvage.{keeps_of, body_repaired, repaired_from, moved_in, blanked_in, blanked, report_of, salvage_of}
 use Rattle.salvage.specs.Inner.{Fits}

@@ -1,10 +1,10 @@
 -- A VALID TABLE COMES OUT THE SAME, with nothing moved and nothing blanked; and so salvage twice is salvage once.
-use Prim.Native.Nat.{ℕ, zero, suc, ◌+◌, ◌-◌, ◌*◌, ◌≤◌, ◌<◌}
+use Prim.Native.Nat.{ℕ, zero, suc, ◌+◌, ◌-◌, ◌*◌, ◌<◌}
 use mathlib.Core.Bool.{Bool, true, false, cond}
 use mathlib.Core.List.{List, [], ◌∷◌, ◌++◌}
-use mathlib.Core.Path.{◌≡◌, refl, sym, ap, ◌∙◌}
+use mathlib.Core.Path.{◌≡◌, refl, sym, ◌∙◌}
 use native.Mathlib.Omega.{arith}
-use lib.ListN.{length, get_or, take, drop, replicate, length-take}
+use lib.ListN.{length, take, drop, replicate, length-take}
 use lib.Seq.{get_or-take, get_or-drop}
 use lib.Dec.{eqb}
 use Rattle.scan.specs.Bytes.{all}
@@ -12,8 +12,8 @@ use Rattle.words.specs.Numbers.{put, bytes8}
 use Rattle.record.specs.declared.Record.{Record}
 use Rattle.record.specs.Slot.{slot_size}
 use Rattle.body.specs.Body.{cents_of}
-use Rattle.entries.specs.Entry.{entry_size, entry_fixed, kept_bytes, slots_of, place_of}
-use Rattle.table.specs.Table.{table2, head_size, bodies, contents_ok, records_of, table_ok, entry_of}
+use Rattle.entries.specs.Entry.{entry_size, entry_fixed, kept_bytes, place_of}
+use Rattle.table.specs.Table.{table2, head_size, bodies, contents_ok, table_ok}
 use Rattle.table.proofs.Laws.{valid_split}
 use Rattle.table.proofs.Bodies.{body_at_lem}
 use Rattle.table.proofs.Kept.{first, later}

@@ -1,4 +1,6 @@
 // Salvage of a damaged table: head and entries tested, the report written, each body repaired; or nothing is written.
+#![tactic(auto)]
+
 ghost use Rattle.std.specs.Prelude.{◌≡◌, true, ◌+◌, ◌*◌, ◌≤◌, length};
 ghost use Rattle.bounds.specs.Bounds.{max_slots};
 ghost use Rattle.words.specs.Numbers.{put, bytes2, bytes4};
