@@ -1,4 +1,6 @@
 // A whole flow, or another document of rows: markup, then structure, then fields, each over all of it; what stands is read once for all three.
+#![tactic(auto)]
+
 ghost use Rattle.std.specs.Prelude.{◌≡◌, ◌+◌, ◌≤◌, length};
 ghost use Rattle.markup.specs.Markup.{element_at, children_by, content_at};
 ghost use Rattle.markup.specs.Noted.{Noted};

@@ -1,0 +1,6 @@
+use mathlib.Core.Path.{sym, ◌∙◌}
+use borrow.Author.Rules.{rules}
+use Rattle.flow.proofs.content_on.Goals as goal
+
+pub returns : goal.returns
+returns c = (c.children.ensures.0 ∙ sym (c.requires.at_value c.if-reached-eq0.false), c.children.ensures.1)

@@ -1,0 +1,21 @@
+use mathlib.Core.Path.{sym, ◌∙◌}
+use borrow.Author.Tests.{not-true, not-false}
+use Rattle.flow.proofs.Laws.{root_other, root_judged}
+use borrow.Author.Rules.{rules}
+use native.Mathlib.Omega.{arith}
+use Rattle.flow.proofs.verdict_at.Goals as goal
+
+pub returns-then-not-is : goal.returns-then-not-is
+returns-then-not-is c = sym (root_other c.args.name.now c.args.root c.args.s.now c.args.lt c.args.e c.args.at (sym c.is.ensures ∙ not-true _ c.if-not-is.true-raw))
+
+pub judge_on-requires : goal.judge_on-requires
+judge_on-requires c = record { at_in_bounds = (c.requires.2, omega arith, c.requires.3); goes = c.requires.4.goes }
+
+pub returns-in-StructureBreaks : goal.returns-in-StructureBreaks
+returns-in-StructureBreaks c = sym (root_judged c.args.name.now c.args.root c.args.s.now c.args.lt c.args.e c.args.at _ (sym c.is.ensures ∙ not-false _ c.if-not-is.false-raw) (sym c.judge_on.ensures ∙ c.in-StructureBreaks.is))
+
+pub returns-in-FieldBreaks : goal.returns-in-FieldBreaks
+returns-in-FieldBreaks c = sym (root_judged c.args.name.now c.args.root c.args.s.now c.args.lt c.args.e c.args.at _ (sym c.is.ensures ∙ not-false _ c.if-not-is.false-raw) (sym c.judge_on.ensures ∙ c.in-FieldBreaks.is))
+
+pub returns-in-Stands : goal.returns-in-Stands
+returns-in-Stands c = sym (root_judged c.args.name.now c.args.root c.args.s.now c.args.lt c.args.e c.args.at _ (sym c.is.ensures ∙ not-false _ c.if-not-is.false-raw) (sym c.judge_on.ensures ∙ c.in-Stands.is))
