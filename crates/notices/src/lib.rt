@@ -1,4 +1,6 @@
 // The bank's notices of execution and reversal, and a body's totals, on any bytes at all.
+#![tactic(auto)]
+
 ghost use Rattle.std.specs.Prelude.{◌≡◌, true, false, ℕ, ◌*◌, ◌≤◌, pos, ◌-ℤ◌};
 ghost use Rattle.bounds.specs.Bounds.{max_cents, max_slots};
 ghost use Rattle.address.specs.Address.{addressed};
