@@ -1,4 +1,6 @@
 // A flow's orders served one after another, each on the table that the one before left, and its outcome written.
+#![tactic(auto)]
+
 ghost use Rattle.std.specs.Prelude.{◌≡◌, cond, ◌*◌, ◌≤◌, length, eqb};
 ghost use Rattle.bounds.specs.Bounds.{max_slots};
 ghost use Rattle.slots.specs.Slots.{records_at};
