@@ -1,12 +1,11 @@
 -- What `field_at` shows is what the grammar says of the place.
 use mathlib.Core.Path.{◌≡◌, refl, sym, ap, ◌∙◌}
-use mathlib.Core.Logic.{◌↔◌}
 use mathlib.Core.List.{List, ◌++◌}
 use Prim.Native.Nat.{ℕ, ◌+◌, ◌-◌}
 use native.Mathlib.Omega.{arith}
 use lib.ListN.{length, length-append}
 use lib.Seq.{take_all}
-use Rattle.scan.specs.Bytes.{bytes, part, has_at}
+use Rattle.scan.specs.Bytes.{bytes, part}
 use Rattle.tokens.specs.Tokens.{white_at}
 use Rattle.tokens.proofs.Laws.{name_past, end_past}
 use Rattle.markup.proofs.Laws.{content_at_past}
@@ -17,7 +16,7 @@ use Rattle.children.specs.declared.Child.{Child}
 use Rattle.children.specs.declared.FieldSpans.{FieldSpans}
 use Rattle.children.specs.declared.Step.{Step}
 use Rattle.children.specs.declared.Step.TheVariants.{One, End}
-use Rattle.children.specs.Child.{child_at, spans_of, field_at, FieldPromise}
+use Rattle.children.specs.Child.{child_at, spans_of, field_at}
 use Rattle.children.proofs.Laws.{child_read}
 use Rattle.tree.specs.Field.{ElementThere, FieldShown, shown, nothing, FieldAnswered}
 use Rattle.tree.proofs.Read.{stands}

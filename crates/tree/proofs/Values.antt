@@ -28,7 +28,7 @@ use Rattle.fields.specs.declared.Judged.TheVariants.{Stands}
 use Rattle.fields.specs.Fields.{is_number, is_day, is_operation, field_stands}
 use Rattle.order.specs.declared.Line.{Line}
 use Rattle.schema.specs.declared.Parent.{Parent}
-use Rattle.schema.specs.declared.Parent.TheVariants.{FlussoOrdinativi, Mandato, Reversale, InformazioniBeneficiario, InformazioniVersante, SostituzioneMandato, SostituzioneReversale, FlussoOpi, TestataFlusso}
+use Rattle.schema.specs.declared.Parent.TheVariants.{FlussoOrdinativi, Mandato, Reversale, FlussoOpi, TestataFlusso}
 use Rattle.schema.specs.declared.Holds.{Holds}
 use Rattle.schema.specs.declared.Holds.TheVariants.{Text, Rows}
 use Rattle.schema.specs.declared.Spot.TheVariants.{At, Passed}

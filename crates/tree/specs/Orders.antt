@@ -2,7 +2,6 @@
 use Rattle.std.specs.Prelude.{◌≡◌, ◌⊎◌, ℕ, List, [], ◌∷◌, Bool, false, cond, ◌||◌}
 use Prim.Native.String.{String}
 use Rattle.scan.specs.Bytes.{bytes, text_is}
-use Rattle.calendar.specs.declared.Date.{Date}
 use Rattle.codes.specs.declared.Operation.{Operation}
 use Rattle.codes.specs.declared.Operation.TheVariants.{Inserimento, Variazione, Annullo, Sostituzione}
 use Rattle.codes.specs.declared.Asked.TheVariants.{Operazione}

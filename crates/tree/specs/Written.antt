@@ -9,7 +9,6 @@ use Rattle.flow.specs.Flow.{flow_kind, verdict_of, header_of, flow_orders}
 use Rattle.tree.specs.Tree.{Tree, tree, Held, says, holds, Trees, none, more, held_of, kids_in, ReadsAs}
 use Rattle.tree.specs.Fields.{AllStand}
 use Rattle.tree.specs.Orders.{HeaderIn, OrdersIn}
-use Rattle.order.specs.Ordinativo.{ordinativo}
 use Rattle.tree.specs.Flow.{Structured, fields_of}
 
 -- an element of text, and one of elements. (What is written gets its places by being written)
