@@ -1,5 +1,7 @@
-// The C interface: thin functions over the desk, each with its promise; those of outcome messages stand in messages.rt. Every result is written on every
-// path.
+// The calls of the C interface: thin functions over the desk, each with its promise; those of outcome messages stand in messages.rt. Every result is written
+// on every path. Crate hondivole_c exports them to C.
+#![tactic(auto)]
+
 pub mod messages;
 
 ghost use Rattle.std.specs.Prelude.{true, false};
@@ -18,24 +20,21 @@ use calendar::Date;
 use record::Key;
 
 // Opens a table.
-#[unsafe(no_mangle)]
-pub extern "C" fn hondivole_open(request: &[u8], table: &mut [u8]) -> u64
+pub fn hondivole_open(request: &[u8], table: &mut [u8]) -> u64
     ensures { OpenReplies request.now table.old result table.new }
 {
     opening::code_of(opening::open_table(request, table))
 }
 
 // Converts a table 1 into a table 2.
-#[unsafe(no_mangle)]
-pub extern "C" fn hondivole_convert(old: &[u8], table: &mut [u8]) -> u64
+pub fn hondivole_convert(old: &[u8], table: &mut [u8]) -> u64
     ensures { ConvertReplies old.now table.old result table.new }
 {
     convert::code_of(convert::convert(old, table))
 }
 
 // Repairs a damaged table, and reports what was moved and what blanked.
-#[unsafe(no_mangle)]
-pub extern "C" fn hondivole_salvage(table: &mut [u8], report: &mut [u8], blanked: &mut u64) -> u64
+pub fn hondivole_salvage(table: &mut [u8], report: &mut [u8], blanked: &mut u64) -> u64
     ensures { SalvageReplies table.old report.old result blanked.new table.new report.new }
 {
     let a = salvage::reply_of(salvage::salvage(table, report));
@@ -44,13 +43,7 @@ pub extern "C" fn hondivole_salvage(table: &mut [u8], report: &mut [u8], blanked
 }
 
 // Closes a year for a body, and tells how many records were removed.
-#[unsafe(no_mangle)]
-pub extern "C" fn hondivole_close(
-    table: &mut [u8],
-    body: &[u8],
-    year: u64,
-    removed: &mut u64,
-) -> u64
+pub fn hondivole_close(table: &mut [u8], body: &[u8], year: u64, removed: &mut u64) -> u64
     ensures { CloseReplies table.old body.now year result removed.new table.new }
 {
     let a = year_end::reply_of(year_end::close(table, body, year));
@@ -59,8 +52,7 @@ pub extern "C" fn hondivole_close(
 }
 
 // Takes a flow of the edition of a number.
-#[unsafe(no_mangle)]
-pub extern "C" fn hondivole_flow(
+pub fn hondivole_flow(
     table: &mut [u8],
     edition: u64,
     flow: &[u8],
@@ -92,8 +84,7 @@ pub extern "C" fn hondivole_flow(
 }
 
 // Takes a notice of execution.
-#[unsafe(no_mangle)]
-pub extern "C" fn hondivole_execute(
+pub fn hondivole_execute(
     table: &mut [u8],
     body: &[u8],
     kind: u64,
@@ -120,8 +111,7 @@ pub extern "C" fn hondivole_execute(
 }
 
 // Takes a notice of reversal.
-#[unsafe(no_mangle)]
-pub extern "C" fn hondivole_reverse(
+pub fn hondivole_reverse(
     table: &mut [u8],
     body: &[u8],
     kind: u64,
@@ -148,16 +138,14 @@ pub extern "C" fn hondivole_reverse(
 }
 
 // Checks a cash journal's movements against a body's executed lines.
-#[unsafe(no_mangle)]
-pub extern "C" fn hondivole_journal(table: &[u8], body: &[u8], movements: &[u8]) -> u64
+pub fn hondivole_journal(table: &[u8], body: &[u8], movements: &[u8]) -> u64
     ensures { JournalPromise table.now body.now movements.now result }
 {
     journal::check(table, body, movements)
 }
 
 // A body's totals.
-#[unsafe(no_mangle)]
-pub extern "C" fn hondivole_totals(
+pub fn hondivole_totals(
     table: &[u8],
     body: &[u8],
     used: &mut u64,
@@ -178,8 +166,7 @@ pub extern "C" fn hondivole_totals(
 }
 
 // Where the name and the text of the element at a place stand.
-#[unsafe(no_mangle)]
-pub extern "C" fn hondivole_field_at(
+pub fn hondivole_field_at(
     flow: &[u8],
     place: u64,
     name: &mut u64,
@@ -187,7 +174,7 @@ pub extern "C" fn hondivole_field_at(
     text: &mut u64,
     text_len: &mut u64,
 )
-    ensures { FieldPromise flow.now place (record { name = name.exit.now; name_len = name_len.new; text = text.new; text_len = text_len.new }) }
+    ensures { FieldPromise flow.now place (record { name = name.new; name_len = name_len.new; text = text.new; text_len = text_len.new }) }
 {
     let f = children::field_at(flow, place as usize);
     *name = f.name as u64;
@@ -197,8 +184,7 @@ pub extern "C" fn hondivole_field_at(
 }
 
 // The first TARGET day on or after a date.
-#[unsafe(no_mangle)]
-pub extern "C" fn hondivole_first_target_day(
+pub fn hondivole_first_target_day(
     year: u64,
     month: u64,
     day: u64,
@@ -218,8 +204,7 @@ pub extern "C" fn hondivole_first_target_day(
 }
 
 // The number of days between two dates, below zero when the second is earlier.
-#[unsafe(no_mangle)]
-pub extern "C" fn hondivole_days_between(
+pub fn hondivole_days_between(
     year: u64,
     month: u64,
     day: u64,

@@ -5,8 +5,7 @@ ghost use Rattle.message_read.specs.Promise.{ReadPromise};
 ghost use Rattle.message_rewrite.specs.Promise.{RewritePromise};
 
 // Writes the outcome message of a flow.
-#[unsafe(no_mangle)]
-pub extern "C" fn hondivole_message_write(
+pub fn hondivole_message_write(
     edition: u64,
     flow: &[u8],
     outcomes: &[u8],
@@ -47,8 +46,7 @@ pub extern "C" fn hondivole_message_write(
 }
 
 // Reads an outcome message into values.
-#[unsafe(no_mangle)]
-pub extern "C" fn hondivole_message_read(
+pub fn hondivole_message_read(
     edition: u64,
     message: &[u8],
     values: &mut [u8],
@@ -67,8 +65,7 @@ pub extern "C" fn hondivole_message_read(
 }
 
 // Reads an outcome message and writes it again.
-#[unsafe(no_mangle)]
-pub extern "C" fn hondivole_message_rewrite(
+pub fn hondivole_message_rewrite(
     edition: u64,
     message: &[u8],
     again: &mut [u8],
