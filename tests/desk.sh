@@ -42,10 +42,10 @@ absent() { [ ! -e "$1" ]; }
 
 # ---- a tree with a stand-in for rt: it refuses crates that hold the word BROKEN, and its program prints what the source says
 at=$work/tree
-mkdir -p "$at/crates/order_desk/src" "$at/tools" "$work/kit/bin" "$work/kit/on/$(uname -m)/toolchain/bin"
+mkdir -p "$at/crates/order_desk/src" "$at/crates/hondivole_c/src" "$at/tools" "$work/kit/bin" "$work/kit/on/$(uname -m)/toolchain/bin"
 cp "$root/desk" "$root/library" "$root/KIT" "$at/"
 cp "$root/tools/proved" "$root/tools/run" "$at/tools/"
-echo "order_desk:" > "$at/crates.txt"
+printf 'order_desk:\nhondivole_c staticlib:\n' > "$at/crates.txt"
 source=$at/crates/order_desk/src/main.rt
 echo one > "$source"
 echo flow > "$work/flow.xml"
@@ -53,19 +53,19 @@ echo flow > "$work/flow.xml"
 cat > "$work/kit/bin/rt" << END
 #!/bin/sh
 echo "\$*" >> "$work/calls"
-if grep -rq BROKEN crates; then
-  echo "fn order_desk::main: not proved"
-  echo "rt: FAILED: order_desk"
+if grep -rq BROKEN ../*/src; then
+  echo "fn order_desk::main: not proved" >&2
   exit 1
 fi
-mkdir -p target/bin target/stamp target/staticlib
-said=\$(cat crates/order_desk/src/main.rt)
+mkdir -p out
+said=\$(cat ../order_desk/src/main.rt)
+name=\$(basename "\$PWD")
 case \$1 in
-  check) printf '#!/bin/sh\ncat > /dev/null\necho "%s"\n' "\$said" > target/bin/\$2 && chmod +x target/bin/\$2 ;;
-  staticlib) echo "\$said" > target/staticlib/lib\$2.a ;;
+  run) printf '#!/bin/sh\ncat > /dev/null\necho "%s"\n' "\$said" > "out/\$name" && chmod +x "out/\$name" && "./out/\$name" && : > "out/\$name.stamp" ;;
+  lib) echo "\$said" > "out/lib\$name.a" ;;
 esac
-echo "rt: order_desk proved (1 s)"
-echo "rt: ok"
+echo "crate \$name: modules loaded=0 checked=1" >&2
+echo "logic=proved functions=1" >&2
 END
 printf '#!/bin/sh\nshift 3\nexec "$@"\n' > "$work/kit/on/$(uname -m)/toolchain/bin/qemu-x86_64"
 chmod +x "$work/kit/bin/rt" "$work/kit/on/$(uname -m)/toolchain/bin/qemu-x86_64"
@@ -87,7 +87,7 @@ for time in first second; do
   is 1 "a broken proof, $time run" ./desk ../flow.xml
   holds "a broken proof has no answer, $time run" out_is ""
   holds "a broken proof's failing line, $time run" err_has "order_desk::main: not proved"
-  holds "a broken proof leaves no program, $time run" absent "$at/target/bin/order_desk"
+  holds "a broken proof leaves no program, $time run" absent "$at/crates/order_desk/out/order_desk"
 done
 echo one > "$source"
 is 0 "undoing the edit" ./desk ../flow.xml
@@ -141,7 +141,7 @@ chmod -R a-w "$at"
 as_user=()
 [ "$(id -u)" -ne 0 ] || as_user=(setpriv --reuid=65534 --regid=65534 --clear-groups)
 is 1 "a read-only checkout" "${as_user[@]}" ./desk ../flow.xml
-holds "its cause is said" err_has "cannot write to $at/target, where order_desk is proved and built: Permission denied"
+holds "its cause is said" err_has "cannot write to $at/target, where order_desk is kept once it is proved and built: Permission denied"
 
 # ---- the program itself
 unset RATTLE_HOME

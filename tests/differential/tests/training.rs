@@ -2,7 +2,7 @@
 //! (without the feature `native`: the reference). The same calls are made on the same table, and every line that the program prints is held
 //! to the answer, the outcome bytes and, in the end, the records in the table's bytes.
 //!
-//! The program is target/bin/training_room, or the one that HONDIVOLE_TRAINING names.
+//! The program is crates/training_room/out/training_room, or the one that HONDIVOLE_TRAINING names.
 
 use std::collections::BTreeSet;
 use std::fs::{self, File};
@@ -337,11 +337,11 @@ impl Drop for Folder {
 }
 
 fn program() -> PathBuf {
-    let built = || Path::new(ROOT).join("target/bin/training_room");
+    let built = || Path::new(ROOT).join("crates/training_room/out/training_room");
     let path = env::var_os("HONDIVOLE_TRAINING").map_or_else(built, PathBuf::from);
     path.canonicalize().unwrap_or_else(|error| {
         let path = path.display();
-        panic!("the training room's program {path}: {error}. Build it with `rt check training_room`, or set HONDIVOLE_TRAINING to its path")
+        panic!("the training room's program {path}: {error}. Build it with `rt run` in crates/training_room, or set HONDIVOLE_TRAINING to its path")
     })
 }
 
