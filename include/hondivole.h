@@ -34,7 +34,7 @@
 #define HONDIVOLE_VERSION_MINOR 1
 #define HONDIVOLE_VERSION_PATCH 0
 #define HONDIVOLE_VERSION "0.1.0"
-#define HONDIVOLE_KIT "rattle-kit-5b logic 064da1ca440f63e7"
+#define HONDIVOLE_KIT "rattle-kit-13f logic dac8208d650f15bf"
 
 #ifdef __cplusplus
 extern "C" {
