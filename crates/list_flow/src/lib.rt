@@ -1,4 +1,6 @@
 // A flow's orders taken on one body's plain list, one after another, each on the list that the one before left, and their outcomes written.
+#![tactic(auto)]
+
 ghost use Rattle.std.specs.Prelude.{◌*◌, ◌≤◌, length};
 ghost use Rattle.bounds.specs.Bounds.{max_slots};
 ghost use Rattle.service.specs.Service.{outcome_size};
