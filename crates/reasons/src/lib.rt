@@ -1,12 +1,16 @@
 // Why a flow or an order is refused, in a sentence for the school: the rule of document 01, and for a field that breaks its name, its text,
 // what is wrong with it and the form that document 01 asks of it.
+#![tactic(auto)]
+
 ghost use Rattle.std.specs.Prelude.{length};
-ghost use Rattle.io.specs.Counts.{IsPrefixLen};
+ghost use Rattle.std.specs.Counts.{IsPrefixLen};
 
 use fields::{Form, Longest};
 use markup::Markup;
 use printing::{say, say_number};
 use schema::{Holds, Parent, Spot};
+use std::io;
+use std::io::Write;
 
 // The form that document 01 asks of an element, if it names it as a field.
 #[derive(Clone, Copy)]
@@ -16,35 +20,40 @@ enum Wanted {
 }
 
 // What document 01's field table says of a form.
-fn say_form(f: Form) -> bool {
+fn say_form<W: Write>(to: &mut W, f: Form) -> io::Result<()> {
     match f {
-        Form::CodiceAbi => say(b"five digits"),
-        Form::Identificativo => say(b"1 to 35 of letters, digits, - _ ."),
+        Form::CodiceAbi => say(to, b"five digits"),
+        Form::Identificativo => say(to, b"1 to 35 of letters, digits, - _ ."),
         Form::DataOra => say(
+            to,
             b"YYYY-MM-DDThh:mm:ss, a real date of the years 2000 to 2099, hh 00 to 23, mm and ss 00 to 59",
         ),
-        Form::CodiceEnte => say(b"1 to 16 letters and digits"),
-        Form::Esercizio => say(b"four digits, 2000 to 2099"),
-        Form::TipoOperazione => say(b"INSERIMENTO, VARIAZIONE, ANNULLO or SOSTITUZIONE"),
-        Form::Numero => say(b"1 to 7 digits, value 1 to 9,999,999"),
-        Form::Data => say(b"YYYY-MM-DD, a real date of the years 2000 to 2099"),
+        Form::CodiceEnte => say(to, b"1 to 16 letters and digits"),
+        Form::Esercizio => say(to, b"four digits, 2000 to 2099"),
+        Form::TipoOperazione => say(to, b"INSERIMENTO, VARIAZIONE, ANNULLO or SOSTITUZIONE"),
+        Form::Numero => say(to, b"1 to 7 digits, value 1 to 9,999,999"),
+        Form::Data => say(to, b"YYYY-MM-DD, a real date of the years 2000 to 2099"),
         Form::Importo => say(
+            to,
             b"1 to 9 digits, a point, two digits; no zero in front unless it is the only digit there; no sign",
         ),
-        Form::Progressivo => say(b"1 to 3 digits"),
+        Form::Progressivo => say(to, b"1 to 3 digits"),
         Form::Anagrafica => say(
+            to,
             b"1 to 140 characters, each of the five references counting as one",
         ),
         Form::DataOraZona => say(
+            to,
             b"YYYY-MM-DDThh:mm:ss as a flow's time, then Z or a sign and hh:mm to 23:59",
         ),
-        Form::Testo => say(b"1 to 140 bytes"),
+        Form::Testo => say(to, b"1 to 140 bytes"),
         Form::EsitoOperazione => say(
+            to,
             b"ACQUISITO, VARIATO, ANNULLATO or SOSTITUITO, refused with NON in front",
         ),
-        Form::CodiceErrore => say(b"two digits, the code of a refused order"),
-        Form::Descrizione => say(b"the two digits of codice_errore again"),
-        Form::Elemento => say(b"the name of the element that the code speaks of"),
+        Form::CodiceErrore => say(to, b"two digits, the code of a refused order"),
+        Form::Descrizione => say(to, b"the two digits of codice_errore again"),
+        Form::Elemento => say(to, b"the name of the element that the code speaks of"),
     }
 }
 
@@ -111,116 +120,170 @@ fn show(t: &[u8], out: &mut [u8]) -> usize
 }
 
 // A text between quotes, its first 160 bytes.
-fn say_text(t: &[u8]) -> bool {
+fn say_text<W: Write>(to: &mut W, t: &[u8]) -> io::Result<()> {
     let mut out = [0u8; 160];
     let n = show(t, &mut out);
-    say(b" '") && say(&out[..n]) && say(b"'")
+    say(to, b" '")?;
+    say(to, &out[..n])?;
+    say(to, b"'")
 }
 
 // The longest text that a form allows.
-fn say_longest(f: Form) -> bool {
+fn say_longest<W: Write>(to: &mut W, f: Form) -> io::Result<()> {
     match fields::longest_of(f) {
-        Longest::Bytes(n) => say_number(n as u64) && say(b" bytes"),
-        Longest::Characters(n) => say_number(n as u64)
-            && say(b" characters, each reference counting as one"),
+        Longest::Bytes(n) => {
+            say_number(to, n as u64)?;
+            say(to, b" bytes")
+        }
+        Longest::Characters(n) => {
+            say_number(to, n as u64)?;
+            say(to, b" characters, each reference counting as one")
+        }
     }
 }
 
 // What is wrong with a field, in document 02's words.
-fn say_cause(cause: u64, f: Form) -> bool {
+fn say_cause<W: Write>(to: &mut W, cause: u64, f: Form) -> io::Result<()> {
     match cause {
-        1 => say(b": empty"),
-        2 => say(b": longer than the longest allowed text, of") && say_longest(f),
-        3 => say(b": wrong form"),
-        _ => say(b": right form but a value outside its range"),
+        1 => say(to, b": empty"),
+        2 => {
+            say(to, b": longer than the longest allowed text, of")?;
+            say_longest(to, f)
+        }
+        3 => say(to, b": wrong form"),
+        _ => say(to, b": right form but a value outside its range"),
     }
 }
 
-fn say_wanted(name: &[u8], cause: u64) -> bool {
+fn say_wanted<W: Write>(to: &mut W, name: &[u8], cause: u64) -> io::Result<()> {
     match wanted_of(name) {
-        Wanted::By(f) => say_cause(cause, f) && say(b"; its form: ") && say_form(f),
-        Wanted::Nothing => true,
+        Wanted::By(f) => {
+            say_cause(to, cause, f)?;
+            say(to, b"; its form: ")?;
+            say_form(to, f)
+        }
+        Wanted::Nothing => Ok(()),
     }
 }
 
-fn say_field(flow: &[u8], place: u64, cause: u64) -> bool {
+fn say_field<W: Write>(to: &mut W, flow: &[u8], place: u64, cause: u64) -> io::Result<()> {
     let name = children::name_at(flow, place as usize);
     let text = children::text_at(flow, place as usize);
-    say(b"  5, a field breaks: ")
-        && say(name)
-        && say_text(text)
-        && say(b" at byte")
-        && say_number(place)
-        && say_wanted(name, cause)
-        && say(b"\n")
+    say(to, b"  5, a field breaks: ")?;
+    say(to, name)?;
+    say_text(to, text)?;
+    say(to, b" at byte")?;
+    say_number(to, place)?;
+    say_wanted(to, name, cause)?;
+    say(to, b"\n")
 }
 
 // The first 40 bytes from a place on.
-fn say_from(flow: &[u8], place: usize) -> bool {
+fn say_from<W: Write>(to: &mut W, flow: &[u8], place: usize) -> io::Result<()> {
     if flow.len() <= place {
-        return say(b", its end");
+        return say(to, b", its end");
     }
     let mut out = [0u8; 40];
     let n = show(&flow[place..], &mut out);
-    say(b", before '") && say(&out[..n]) && say(b"'")
+    say(to, b", before '")?;
+    say(to, &out[..n])?;
+    say(to, b"'")
 }
 
-fn say_markup(flow: &[u8]) -> bool {
+fn say_markup<W: Write>(to: &mut W, flow: &[u8]) -> io::Result<()> {
     match markup::markup_of(flow, false) {
-        Markup::Root(_, _, _) => true,
+        Markup::Root(_, _, _) => Ok(()),
         Markup::Breaks(p) => {
-            say(b"  3, the markup breaks at byte")
-                && say_number(p as u64)
-                && say_from(flow, p)
-                && say(b"\n")
+            say(to, b"  3, the markup breaks at byte")?;
+            say_number(to, p as u64)?;
+            say_from(to, flow, p)?;
+            say(to, b"\n")
         }
     }
 }
 
 // The markup stands here, so that a start tag is one: what stands nowhere is missing.
-fn say_structure(flow: &[u8]) -> bool {
+fn say_structure<W: Write>(to: &mut W, flow: &[u8]) -> io::Result<()> {
     say(
+        to,
         b"  4, the structure breaks: an element of docs/FORMAT.md is missing, twice there or out of its order, or holds what it may not",
-    ) && lacks::say_lacks(flow)
-        && say(b"\n")
+    )?;
+    lacks::say_lacks(to, flow)?;
+    say(to, b"\n")
 }
 
 // Why a flow is refused. (Of the table and the outcome buffer the school knows nothing.)
-pub fn of_flow(flow: &[u8], code: u64, place: u64, cause: u64) -> bool {
+pub fn of_flow<W: Write>(
+    to: &mut W,
+    flow: &[u8],
+    code: u64,
+    place: u64,
+    cause: u64,
+) -> io::Result<()> {
     match code {
-        0 => true,
-        1 => say(b"  1, the table is not valid\n"),
-        2 => say(b"  2, the flow is longer than 32,768 bytes\n"),
-        3 => say_markup(flow),
-        4 => say_structure(flow),
-        5 => say_field(flow, place, cause),
-        6 => say(b"  6, codice_ABI_BT is not the bank that this table is for\n"),
+        0 => Ok(()),
+        1 => say(to, b"  1, the table is not valid\n"),
+        2 => say(to, b"  2, the flow is longer than 32,768 bytes\n"),
+        3 => say_markup(to, flow),
+        4 => say_structure(to, flow),
+        5 => say_field(to, flow, place, cause),
+        6 => say(
+            to,
+            b"  6, codice_ABI_BT is not the bank that this table is for\n",
+        ),
         7 => say(
+            to,
             b"  7, no body of this table has this codice_ente_BT: codes are compared byte by byte, zeros in front too\n",
         ),
-        36 => say(b"  36, the body has closed this esercizio or a later one\n"),
-        _ => say(b"  8, the outcome buffer has under 16 bytes per order\n"),
+        36 => say(
+            to,
+            b"  36, the body has closed this esercizio or a later one\n",
+        ),
+        _ => say(
+            to,
+            b"  8, the outcome buffer has under 16 bytes per order\n",
+        ),
     }
 }
 
 // Why an order is refused.
-pub fn of_order(code: u8) -> bool {
+pub fn of_order<W: Write>(to: &mut W, code: u8) -> io::Result<()> {
     match code {
-        0 => true,
-        12 => say(b"  12, the order's lines are not numbered 1, 2, 3 and so on\n"),
-        13 => say(b"  13, the order's line amounts do not sum to its total\n"),
-        14 => say(b"  14, the body already has an order of this kind, esercizio and number\n"),
-        15 => say(b"  15, the body has no empty slot\n"),
-        16 => say(b"  16, the body has no order of this kind, esercizio and number\n"),
-        17 => say(b"  17, the order is annulled, and stays so\n"),
+        0 => Ok(()),
+        12 => say(
+            to,
+            b"  12, the order's lines are not numbered 1, 2, 3 and so on\n",
+        ),
+        13 => say(
+            to,
+            b"  13, the order's line amounts do not sum to its total\n",
+        ),
+        14 => say(
+            to,
+            b"  14, the body already has an order of this kind, esercizio and number\n",
+        ),
+        15 => say(to, b"  15, the body has no empty slot\n"),
+        16 => say(
+            to,
+            b"  16, the body has no order of this kind, esercizio and number\n",
+        ),
+        17 => say(to, b"  17, the order is annulled, and stays so\n"),
         18 => say(
+            to,
             b"  18, a line of the order is executed, and has to be reversed first, or is replaced\n",
         ),
         19 => say(
+            to,
             b"  19, ANNULLO: total, number of lines or a line amount differs from the record\n",
         ),
-        24 => say(b"  24, SOSTITUZIONE: a line names a line that is not there\n"),
-        25 => say(b"  25, SOSTITUZIONE: a named line is not executed, or is replaced already\n"),
-        _ => say(b"  26, SOSTITUZIONE: a named line has another amount\n"),
+        24 => say(
+            to,
+            b"  24, SOSTITUZIONE: a line names a line that is not there\n",
+        ),
+        25 => say(
+            to,
+            b"  25, SOSTITUZIONE: a named line is not executed, or is replaced already\n",
+        ),
+        _ => say(to, b"  26, SOSTITUZIONE: a named line has another amount\n"),
     }
 }
