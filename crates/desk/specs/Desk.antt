@@ -1,5 +1,5 @@
 -- A flow's call (document 01, "Answers"): what it answers, and every byte of table and outcomes that it leaves.
-use Rattle.std.specs.Prelude.{ℕ, zero, suc, ◌+◌, ◌*◌, ◌-◌, ◌≡◌, Bool, true, false, cond, List, [], ◌∷◌, ◌++◌, length, eqb, leb}
+use Rattle.std.specs.Prelude.{ℕ, ◌*◌, ◌≡◌, cond, List, length, leb}
 use Rattle.bounds.specs.Bounds.{max_flow}
 use Rattle.scan.specs.Bytes.{text_is}
 use Rattle.words.specs.Numbers.{put}

@@ -1,5 +1,7 @@
 // A flow's call, on any bytes at all: the table is checked, then the edition, the flow's length, markup, structure and fields, then bank, body, year and room; then
 // its orders are served.
+#![tactic(auto)]
+
 ghost use Rattle.std.specs.Prelude.{◌≡◌, true, ℕ, ◌+◌, ◌*◌, ◌≤◌, ◌<◌, length};
 ghost use Rattle.markup.specs.Noted.{Noted};
 ghost use Rattle.bounds.specs.Bounds.{max_flow};
