@@ -2,7 +2,7 @@
 use mathlib.Core.Path.{◌≡◌, refl, sym, ap, ◌∙◌}
 use mathlib.Core.List.{List, [], ◌∷◌}
 use mathlib.Core.Bool.{Bool, true, false, cond, ◌&&◌, ◌||◌}
-use Prim.Native.Nat.{ℕ, suc}
+use Prim.Native.Nat.{ℕ, suc, ◌+◌}
 use Prim.Native.String.{String}
 use native.Mathlib.Omega.{arith}
 use lib.ListN.{length}
@@ -18,7 +18,7 @@ use Rattle.fields.specs.declared.Cause.TheVariants.{Misformed}
 use Rattle.standing.specs.Readings.{Bad, Place, Nowhere}
 use Rattle.tree.specs.Tree.{Tree, tree, Held, says, holds, Trees, none, more, held_of, kids_in}
 use Rattle.tree.specs.Orders.{children_named, Words, mandato_words, reversale_words, text_named}
-use Rattle.tree.specs.Written.{placed, placed_held, placed_all}
+use Rattle.tree.specs.Written.{placed, placed_held, placed_all, bytes_of}
 use Rattle.tree.proofs.Places.{kids_placed, named_placed}
 use Rattle.message.specs.Message.{element_name, number_name, date_name}
 use Rattle.message.specs.Read.{first_kids, kids_named, place_named, code_in, entry_in, each_of, message_in, word_agrees, errors_agree, first_off, entries_off, entries_in}
@@ -29,7 +29,7 @@ module _ {A : Type 0} (f : Trees → A) (e : (q : ℕ) (ts : Trees) → f (place
   pub kids_named_placed : (x : String) (q : ℕ) (ts : Trees) → f (kids_named x (placed_all q ts)) ≡ f (kids_named x ts)
   unfolding children_named placed_all placed
   kids_named_placed x q none = refl
-  kids_named_placed x q (more (tree r n h) ts) = go (text_is (bytes x) n) _ _ (kids_placed f e _ h) (kids_named_placed x _ ts)
+  kids_named_placed x q (more (tree r n h) ts) = go (text_is (bytes x) n) _ _ (kids_placed f e _ h) (kids_named_placed x (q + length (bytes_of (tree r n h))) ts)
     where
       go : (b : Bool) (k l : ℕ) → f (kids_in (placed_held k h)) ≡ f (kids_in h) → f (first_kids (children_named (x ∷ []) (placed_all l ts))) ≡ f (first_kids (children_named (x ∷ []) ts))
           → f (first_kids (cond (b || false) (tree q n (placed_held k h) ∷ children_named (x ∷ []) (placed_all l ts)) (children_named (x ∷ []) (placed_all l ts)))) ≡ f (first_kids (cond (b || false) (tree r n h ∷ children_named (x ∷ []) ts) (children_named (x ∷ []) ts)))
@@ -39,7 +39,7 @@ module _ {A : Type 0} (f : Trees → A) (e : (q : ℕ) (ts : Trees) → f (place
   pub each_placed : (x : String) (q : ℕ) (ts : Trees) → each_of f (children_named (x ∷ []) (placed_all q ts)) ≡ each_of f (children_named (x ∷ []) ts)
   unfolding children_named placed_all placed each_of
   each_placed x q none = refl
-  each_placed x q (more (tree r n h) ts) = go (text_is (bytes x) n) _ _ (kids_placed f e _ h) (each_placed x _ ts)
+  each_placed x q (more (tree r n h) ts) = go (text_is (bytes x) n) _ _ (kids_placed f e _ h) (each_placed x (q + length (bytes_of (tree r n h))) ts)
     where
       go : (b : Bool) (k l : ℕ) → f (kids_in (placed_held k h)) ≡ f (kids_in h) → each_of f (children_named (x ∷ []) (placed_all l ts)) ≡ each_of f (children_named (x ∷ []) ts)
           → each_of f (cond (b || false) (tree q n (placed_held k h) ∷ children_named (x ∷ []) (placed_all l ts)) (children_named (x ∷ []) (placed_all l ts))) ≡ each_of f (cond (b || false) (tree r n h ∷ children_named (x ∷ []) ts) (children_named (x ∷ []) ts))

@@ -46,7 +46,7 @@ pub record Spelt (p q : Parent) (w : Words) : Type 0 where
   pub described : RowAt q 2 1 1 "descrizione" (TextOf Descrizione)
   pub element : RowAt q 3 1 1 "elemento" (TextOf Elemento)
   pub rows : table p ≡ entry_rows (number_name w) (progressivo_name w) (date_name w) q
-  pub error_rows_lem : table q ≡ error_rows (progressivo_name w)
+  pub error_rows : table q ≡ error_rows (progressivo_name w)
   pub entry_fixed : Fixed p
   pub errors_fixed : Fixed q
 
@@ -65,7 +65,7 @@ spelt_reversale = record {
   described = record { row = (_, refl); spot = refl };
   element = record { row = (_, refl); spot = refl };
   rows = refl;
-  error_rows_lem = refl;
+  error_rows = refl;
   entry_fixed = λ b. refl;
   errors_fixed = λ b. refl;
 }
@@ -85,7 +85,7 @@ spelt_mandato = record {
   described = record { row = (_, refl); spot = refl };
   element = record { row = (_, refl); spot = refl };
   rows = refl;
-  error_rows_lem = refl;
+  error_rows = refl;
   entry_fixed = λ b. refl;
   errors_fixed = λ b. refl;
 }
