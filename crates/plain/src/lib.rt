@@ -1,1 +1,2 @@
 // What the plain engine of the training room answers and leaves, call by call: definitions in specs/. No code.
+#![tactic(auto)]
