@@ -70,7 +70,7 @@ is_waiting (s ∷ states) (suc k) e = go (eqb s waiting_line) (is_waiting states
 
 -- "an acquired order of that year has a waiting line"
 pub record Waits (year : ℕ) (r : Record) : Type 0 where
-  pub of_year_lem : r.esercizio ≡ year
+  pub of_year : r.esercizio ≡ year
   pub acquired : r.state ≡ acquired_state
   pub line : ℕ
   pub waiting : get_or r.states line 0 ≡ waiting_line
@@ -81,7 +81,7 @@ waits_is year r e =
     let a = both (of_year year r) _ e in
     let b = both (eqb r.state acquired_state) _ a.1 in
     let w = waiting_is r.states b.1 in
-    record { of_year_lem = eqb-true _ _ a.0; acquired = eqb-true _ _ b.0; line = w.0; waiting = w.1 }
+    record { of_year = eqb-true _ _ a.0; acquired = eqb-true _ _ b.0; line = w.0; waiting = w.1 }
 
 is_waits : (year : ℕ) (r : Record) → Waits year r → waits year r ≡ true
 unfolding waits
