@@ -4,7 +4,7 @@ use Prim.Native.Nat.{ℕ, zero, suc, ◌+◌, ◌*◌, ◌≤◌, ◌<◌}
 use native.Mathlib.Omega.{arith}
 use mathlib.Core.Logic.{inl, inr}
 use mathlib.Core.Path.{◌≡◌, refl, sym, ap, ◌∙◌}
-use mathlib.Core.Bool.{Bool, true, false, cond}
+use mathlib.Core.Bool.{Bool, true, false}
 use mathlib.Core.Option.{Option, none, some}
 use mathlib.Core.List.{List, [], ◌∷◌}
 use lib.IntN.{pos, ◌-ℤ◌}
@@ -14,7 +14,6 @@ use borrow.Author.Tests.{leb-false}
 use Rattle.words.specs.Numbers.{put}
 use Rattle.words.proofs.Laws.{Agree}
 use Rattle.record.specs.Slot.{slot_size}
-use Rattle.calendar.specs.declared.Date.{Date}
 use Rattle.target_days.specs.Target.{target_code}
 use Rattle.record.specs.declared.Key.{Key}
 use Rattle.body.specs.Body.{cents_of, all_later}

@@ -1,5 +1,5 @@
 -- Closing a year: a close that is answered 0 is its body's own, and stays.
-use Prim.Native.Nat.{ℕ, ◌≤◌, ◌<◌}
+use Prim.Native.Nat.{ℕ, ◌<◌}
 use mathlib.Core.Path.{◌≡◌, refl, sym, ap, ◌∙◌, subst}
 use mathlib.Core.Bool.{Bool, true, false}
 use mathlib.Core.List.{List}
@@ -15,7 +15,7 @@ use Rattle.year_end.specs.declared.CloseAnswer.TheVariants.{InvalidTable, Unknow
 use Rattle.year_end.specs.YearEnd.{close_of, body_closed, close_stored, close_by, close_table_by, close_code, CloseReplies}
 use Rattle.year_end.proofs.Laws.{May, closed_when}
 use Rattle.isolation.proofs.History.{rises}
-use Rattle.theorems.specs.Engine.{Call, Engine, body_records, machine, table_after}
+use Rattle.theorems.specs.Engine.{body_records, machine}
 use Rattle.theorems.specs.Closing.{OwnClose, YearClosing}
 use Rattle.theorems.proofs.Condition2.{is_body, no_table, no_body}
 use Rattle.theorems.proofs.Condition3.{laws}

@@ -9,8 +9,6 @@ use lib.Dec.{eqb, leb, ltb}
 use lib.ListN.{length, get_or}
 use Rattle.ranges.specs.declared.Found.{Found}
 use Rattle.ranges.specs.declared.Found.TheVariants.{At, Nothing}
-use Rattle.codes.specs.declared.Operation.{Operation}
-use Rattle.codes.specs.declared.Operation.TheVariants.{Inserimento, Variazione, Annullo, Sostituzione}
 use Rattle.fields.specs.declared.Cause.TheVariants.{Empty, Long, Misformed, OutOfRange}
 use Rattle.order.specs.declared.Line.{Line}
 use Rattle.order.specs.Ordinativo.{Ordinativo}
@@ -48,7 +46,7 @@ use Rattle.opening.specs.Opening.{open_code}
 use Rattle.desk.specs.declared.FlowAnswer.{FlowAnswer}
 use Rattle.desk.specs.declared.FlowAnswer.TheVariants.{InvalidTable, UnknownEdition, TooLong, BrokenMarkup, BrokenStructure, BrokenField, OtherBank, UnknownBody, ClosedYear, NoRoom, Taken}
 use Rattle.desk.specs.Desk.{flow_reply, flow_code}
-use Rattle.journal.specs.Journal.{checked, journal_by, journal_of}
+use Rattle.journal.specs.Journal.{journal_by, journal_of}
 use Rattle.journal.proofs.Laws.{checked_one}
 use Rattle.year_end.specs.declared.CloseAnswer.{CloseAnswer}
 use Rattle.year_end.specs.YearEnd.{close_by, close_code}

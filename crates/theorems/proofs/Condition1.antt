@@ -23,15 +23,12 @@ use Rattle.opening.specs.declared.Opened.{Opened}
 use Rattle.opening.specs.declared.Opened.TheVariants.{Open, WrongRequest, WrongLength}
 use Rattle.opening.specs.Opening.{open_code, open_table}
 use Rattle.convert.specs.declared.Converted.{Converted}
-use Rattle.convert.specs.declared.Converted.TheVariants as Converted
 use Rattle.convert.specs.Convert.{convert_code, convert_table}
 use Rattle.salvage.specs.declared.Salvaged.{Salvaged}
-use Rattle.salvage.specs.declared.Salvaged.TheVariants as Salvaged
 use Rattle.salvage.specs.Salvage.{salvage_reply, salvage_table, salvage_report}
 use Rattle.entries.specs.Entry.{closed_of}
 use Rattle.slots.specs.Slots.{records_at}
 use Rattle.year_end.specs.declared.CloseAnswer.{CloseAnswer}
-use Rattle.year_end.specs.declared.CloseAnswer.TheVariants as CloseAnswer
 use Rattle.year_end.specs.YearEnd.{close_of, close_stored, close_by, close_table_by, close_reply, close_code}
 use Rattle.desk.proofs.Refusals.{code_keeps}
 use Rattle.digits.specs.Digits.{is_refusal}

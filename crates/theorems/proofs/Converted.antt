@@ -34,9 +34,9 @@ use Rattle.one_table.proofs.Bytes.{bytes_part, bytes_append, bytes_2, bytes_4, b
 use Rattle.one_table.proofs.One.{one_table}
 use Rattle.isolation.specs.Machine.{log}
 use Rattle.theorems.specs.Engine.{machine, table_after}
-use Rattle.theorems.specs.Condition2.{codes_in_turn, Taken}
+use Rattle.theorems.specs.Condition2.{codes_in_turn}
 use Rattle.theorems.specs.History.{History}
-use Rattle.theorems.specs.Totals.{old_body, TakenOld, Conversion, FromTable1}
+use Rattle.theorems.specs.Totals.{old_body, TakenOld, FromTable1}
 use Rattle.theorems.proofs.Condition2.{condition2}
 use Rattle.theorems.proofs.Condition3.{condition3}
 use Rattle.theorems.proofs.History.{history}

@@ -20,13 +20,11 @@ use Rattle.body.specs.Body.{body_ok}
 use Rattle.body.proofs.Slots.{parts, valid_at}
 use Rattle.valid.proofs.Valid.{Valid, ok_bounds}
 use Rattle.order.specs.Ordinativo.{Ordinativo}
-use Rattle.rules.specs.declared.Ruling.{Ruling}
-use Rattle.rules.specs.declared.Ruling.TheVariants.{Accepted, Refused}
 use Rattle.rules.specs.declared.Noticed.{Noticed}
 use Rattle.rules.specs.declared.Noticed.TheVariants.{Moved, Unmoved}
 use Rattle.rules.specs.Rules.{judge_order, order_code, notice_at, judge_notice, notice_code}
 use Rattle.rules.specs.Listed.{Applies, NoticeApplies, unknown, closed, zeroth, past, already, not_yet, notice_turn}
-use Rattle.rules.proofs.Listed.{Stop, Decided, taken, stopped, decide, one_in_turn, unmoved_applies, notice_by_lem, moved_none, one_notice_in_turn}
+use Rattle.rules.proofs.Listed.{Decided, taken, stopped, decide, one_in_turn, unmoved_applies, notice_by_lem, moved_none, one_notice_in_turn}
 use Rattle.slots.proofs.Held.{search_held}
 use Rattle.service.specs.Service.{order_comes, notice_comes, notice_stored}
 use Rattle.address.specs.declared.Addressed.TheVariants.{Body}

@@ -4,7 +4,7 @@ use mathlib.Core.Path.{◌≡◌, refl, sym, ap, ◌∙◌, subst}
 use mathlib.Core.Bool.{Bool, true, false, ◌&&◌, cond}
 use mathlib.Core.Logic.{◌⊎◌, inl, inr}
 use mathlib.Core.Option.{Option, none, some}
-use mathlib.Core.List.{List, [], ◌∷◌}
+use mathlib.Core.List.{List, []}
 use native.Mathlib.Omega.{arith}
 use lib.ListN.{length}
 use lib.Dec.{eqb, leb}
@@ -45,7 +45,6 @@ use Rattle.opening.specs.Opening.{opened}
 use Rattle.opening.proofs.Valid.{opened_valid, opened_bodies, past}
 use Rattle.isolation.proofs.Runs.{good_run}
 use Rattle.isolation.proofs.History.{EachLine, balance, shown}
-use Rattle.closing.specs.Closing.{staying}
 use Rattle.year_end.specs.declared.CloseAnswer.{CloseAnswer}
 use Rattle.year_end.specs.declared.CloseAnswer.TheVariants.{InvalidTable, UnknownBody, NotAYear, AlreadyClosed, EarlierRemains, LineWaits, Closed}
 use Rattle.year_end.specs.YearEnd.{close_of, close_stored, close_by, close_table_by, close_code}

@@ -1,22 +1,22 @@
 -- Salvage, proved: its codes, and what follows from the repaired table on.
-use Prim.Native.Nat.{ℕ, ◌+◌, ◌*◌, ◌<◌}
+use Prim.Native.Nat.{ℕ, ◌<◌}
 use mathlib.Core.Path.{◌≡◌, refl, sym, ap, ◌∙◌, subst}
 use mathlib.Core.Bool.{Bool, true, false, cond}
-use mathlib.Core.List.{List, []}
+use mathlib.Core.List.{List}
 use native.Mathlib.Omega.{arith}
 use lib.ListN.{length}
 use lib.Dec.{leb}
-use Rattle.table.specs.Table.{table2, head_size, bodies, contents_ok, table_ok, entry_of}
+use Rattle.table.specs.Table.{table2, head_size, bodies, contents_ok}
 use Rattle.one_table.specs.One.{are_bytes, Matching}
 use Rattle.one_table.proofs.One.{one_table}
 use Rattle.salvage.specs.declared.Salvaged.{Salvaged}
 use Rattle.salvage.specs.declared.Salvaged.TheVariants.{Repaired, InvalidContents, ShortReport}
-use Rattle.salvage.specs.Salvage.{kept_of, repaired, blanked, report_of, salvage_of, salvage_table, salvage_report, salvage_reply}
+use Rattle.salvage.specs.Salvage.{repaired, blanked, report_of, salvage_of, salvage_table, salvage_report, salvage_reply}
 use Rattle.salvage.specs.Repaired.{Repairs, Unchanged}
 use Rattle.salvage.proofs.Laws.{report_length}
 use Rattle.salvage.proofs.All.{repairs}
 use Rattle.salvage.proofs.Same.{bytes_repaired, unchanged, once}
-use Rattle.theorems.specs.Salvage.{SalvageCodes, Salvage, AfterSalvage}
+use Rattle.theorems.specs.Salvage.{SalvageCodes, AfterSalvage}
 use Rattle.theorems.specs.History.{History}
 use Rattle.theorems.proofs.Condition3.{condition3}
 use Rattle.theorems.proofs.History.{history}

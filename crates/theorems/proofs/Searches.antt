@@ -1,6 +1,6 @@
 -- STEPS OF A SEARCH, proved: an order's code tells whether it was looked for.
 use Prim.Native.Nat.{ℕ, zero, suc, ◌-◌, ◌≤◌}
-use mathlib.Core.Path.{◌≡◌, refl, sym, ap, ◌∙◌}
+use mathlib.Core.Path.{◌≡◌, refl, ap, ◌∙◌}
 use mathlib.Core.Bool.{Bool, true, false, cond, ◌&&◌}
 use mathlib.Core.List.{List, [], ◌∷◌}
 use mathlib.Core.Logic.{◌⊎◌, inl, inr}
@@ -25,7 +25,7 @@ use Rattle.rules.specs.declared.Ruling.TheVariants.{Accepted, Refused}
 use Rattle.rules.specs.Rules.{change_of, situation_of, step_code, same_order, placed, unless, stepped, key_for, judge_order, order_code}
 use Rattle.rules.specs.Searches.{looked_at, steps_of}
 use Rattle.desk.proofs.Refusals.{code_zeros}
-use Rattle.theorems.specs.Searches.{LookedFor, Searches}
+use Rattle.theorems.specs.Searches.{Searches}
 
 -- A CODE PAST THE SEARCH: 0, or 14 and above
 abbrev Past : ℕ → Type 0

@@ -1,7 +1,7 @@
 -- A FLOW THAT IS TAKEN: it is for the body that its header names, and its orders are answered and stored as the rules say.
-use Prim.Native.Nat.{ℕ, ◌+◌, ◌*◌, ◌≤◌, ◌<◌}
+use Prim.Native.Nat.{ℕ, ◌+◌, ◌*◌, ◌≤◌}
 use mathlib.Core.Path.{◌≡◌, refl, sym, ap, ◌∙◌}
-use mathlib.Core.Bool.{Bool, true, false, cond}
+use mathlib.Core.Bool.{Bool, true, false}
 use mathlib.Core.Logic.{◌⊎◌, inl, inr}
 use mathlib.Core.List.Memᴰ
 use mathlib.Core.List.{List, [], ◌∷◌, ◌++◌, Memᴰ}
@@ -30,7 +30,7 @@ use Rattle.flow.specs.Flow.{verdict_of, header_of, flow_orders}
 use Rattle.flow.proofs.Laws.{flow_stood}
 use Rattle.flow.proofs.Values.{orders_ok, header_ok}
 use Rattle.rules.specs.Rules.{judge_order, order_code}
-use Rattle.rules.specs.Effects.{records_by, all_records}
+use Rattle.rules.specs.Effects.{all_records}
 use Rattle.rules.specs.Listed.{Applies}
 use Rattle.rules.specs.Searches.{steps_of}
 use Rattle.service.specs.Service.{order_comes, order_leaves, outcome_size, all_leave, all_steps}
@@ -39,9 +39,7 @@ use Rattle.rules.proofs.Kept.{Writables, none, more}
 use Rattle.service.proofs.Kept.{order_kept, order_records, all_kept, all_records_lem}
 use Rattle.desk.specs.declared.FlowAnswer.{FlowAnswer}
 use Rattle.desk.specs.declared.FlowAnswer.TheVariants.{InvalidTable, UnknownEdition, TooLong, BrokenMarkup, BrokenStructure, BrokenField, OtherBank, UnknownBody, ClosedYear, NoRoom}
-use Rattle.desk.specs.Desk.{Reading, refused, served, flow_reads, flow_answer, FlowPromise, flow_code, flow_reply}
-use Rattle.theorems.specs.Engine.{body_records}
-use Rattle.theorems.specs.Codes.{outcome_codes}
+use Rattle.desk.specs.Desk.{refused, served, flow_reads, flow_answer, FlowPromise, flow_code, flow_reply}
 use Rattle.theorems.specs.Condition2.{codes_in_turn, steps_in_turn, NoneListed, Taken}
 use Rattle.theorems.proofs.Accepted.{codes_on, orders_in_turn}
 use Rattle.theorems.proofs.Exactly.{order_exactly}

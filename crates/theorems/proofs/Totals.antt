@@ -18,7 +18,7 @@ use Rattle.body.specs.Body.{body_ok, cents_of}
 use Rattle.entries.specs.Entry.{entry_size, request_size, kept_place, kept, slots_of, place_of, codes_from, find_code}
 use Rattle.entries.proofs.Same.{Rows, codes_rows}
 use Rattle.entries.proofs.Same.Rows.{none, row}
-use Rattle.table.specs.Table.{table2, head_size, bodies, table_ok, codes_of, body_of, entry_of}
+use Rattle.table.specs.Table.{table2, head_size, bodies, table_ok, body_of, entry_of}
 use Rattle.table.proofs.Laws.{head, table}
 use Rattle.table.proofs.Bodies.{body_at_lem, found_body}
 use Rattle.rules.specs.Rules.{judge_notice}

@@ -21,7 +21,6 @@ use Rattle.notices.specs.declared.NoticeAnswer.TheVariants.{InvalidTable, WrongD
 use Rattle.notices.specs.declared.TotalsAnswer.{TotalsAnswer}
 use Rattle.notices.specs.Notices.{TotalsPromise}
 use Rattle.opening.specs.Opening.{OpenReplies}
-use Rattle.desk.specs.declared.FlowAnswer.{FlowAnswer}
 use Rattle.desk.specs.Desk.{flow_code}
 use Rattle.rules.specs.Worth.{Which, States, Value, Years, worth_of, worth, are_held, of_kind, of_kind_in, its_cents, with_key, on_line, brought_by, given_by, come_by, gone_by}
 use Rattle.isolation.specs.Order.{mine}
