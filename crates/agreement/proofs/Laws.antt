@@ -1,27 +1,24 @@
 -- Agreement, a way out of the code at a time.
-use mathlib.Core.Path.{◌≡◌, refl, sym, ap, ◌∙◌}
-use mathlib.Core.List.{List, [], ◌∷◌}
-use mathlib.Core.Bool.{Bool, true, false, cond, not, ◌||◌}
+use mathlib.Core.Path.{◌≡◌, sym, ap, ◌∙◌}
+use mathlib.Core.List.{List, []}
+use mathlib.Core.Bool.{Bool, true, false, not}
 use Prim.Native.Nat.{ℕ, ◌+◌, ◌≤◌, ◌<◌}
-use Prim.Native.String.{String}
 use native.Mathlib.Omega.{arith}
 use lib.ListN.{length, get_or}
 use lib.Dec.{eqb}
 use borrow.Author.Tests.{eq-eqb, ne_eqb}
 use Rattle.scan.specs.Bytes.{bytes, part, text_is}
 use Rattle.tokens.specs.Tokens.{white_at}
-use Rattle.codes.specs.declared.Esito.{Esito}
 use Rattle.codes.specs.Codes.{esito_operazione}
 use Rattle.digits.specs.Digits.{codice_errore}
 use Rattle.schema.specs.declared.Parent.{Parent}
 use Rattle.schema.specs.declared.Parent.TheVariants.{MessaggiEsito}
 use Rattle.rows.specs.declared.Kept.{Kept}
-use Rattle.rows.specs.declared.Next.{Next}
 use Rattle.rows.specs.declared.Next.TheVariants.{Named, Done}
 use Rattle.rows.specs.Kept.{kept_from, next_of}
 use Rattle.orders.specs.Orders.{in_row, text_in, value_of, inside_of}
 use Rattle.parts.specs.declared.Span.{Span}
-use Rattle.parts.specs.Parts.{no_span, span_of_next, span_in, parts_in}
+use Rattle.parts.specs.Parts.{no_span, span_in, parts_in}
 use Rattle.parts.proofs.Laws.{row_at, row_end, at_span, at_text, There, absent, present, there}
 use Rattle.tree.specs.Orders.{Words}
 use Rattle.message.specs.Message.{number_name, total_name, progressivo_name, element_name}

@@ -1,7 +1,6 @@
 -- What a message's fields say of each other, by the rows of its tables: names for the contracts of the code. By name it is `disagreeing` (crates/message).
-use Rattle.std.specs.Prelude.{ℕ, ◌+◌, List, [], ◌∷◌, Bool, true, false, cond, not}
+use Rattle.std.specs.Prelude.{ℕ, List, [], ◌∷◌, Bool, true, false, cond, not}
 use Rattle.scan.specs.Bytes.{bytes, text_is}
-use Rattle.tokens.specs.Tokens.{white_at}
 use Rattle.codes.specs.declared.Esito.{Esito}
 use Rattle.codes.specs.declared.Esito.TheVariants.{Accepted, Refused, NoEsito}
 use Rattle.codes.specs.Codes.{esito_operazione}

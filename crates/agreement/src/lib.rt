@@ -1,4 +1,6 @@
 // What an outcome message's fields say of each other: the first element of an entry that doesn't agree with the others (Req 01).
+#![tactic(auto)]
+
 ghost use Rattle.std.specs.Prelude.{◌≡◌, ◌≤◌, length};
 ghost use Rattle.scan.specs.Bytes.{bytes, text_is};
 ghost use Rattle.markup.specs.Noted.{Noted};
