@@ -1,5 +1,7 @@
 // The training room: the bank's digits and at most sixteen bodies, each with its code, its number of slots and its orders as a plain list. It is handed over by value, and
 // knows no bytes of a table.
+#![tactic(auto)]
+
 ghost use Rattle.std.specs.Prelude.{◌≡◌, ◌≤◌, ◌<◌, length};
 ghost use Rattle.scan.specs.Bytes.{text_is};
 ghost use Rattle.training.specs.Training.{places, list_of};

@@ -1,0 +1,16 @@
+use Prim.Native.Nat.{◌-◌, ◌≤◌}
+use mathlib.Core.Path.{◌≡◌, refl, sym, ◌∙◌}
+use native.Mathlib.Omega.{arith}
+use borrow.Author.Rules.{rules}
+use lib.ListN.{drop}
+use Rattle.entries.specs.Entry.{find_code}
+use Rattle.plain.specs.Plain.{numbered}
+use Rattle.room.specs.Room.{room_of}
+use Rattle.room.proofs.Laws.{codes_of, seat_here, seat_later, seat_none}
+use Rattle.room.proofs.find_seat.Given as goal
+
+abbrev pub invariant-loop-b : goal.invariant-loop-b
+invariant-loop-b l = (l.b ≤ l.n) × (numbered (room_of l.r) l.code ≡ find_code (drop l.b (codes_of (room_of l.r))) l.b l.code)
+
+abbrev pub decreases-loop-b : goal.decreases-loop-b
+decreases-loop-b l = l.n - l.b
