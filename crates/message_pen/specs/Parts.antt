@@ -1,5 +1,5 @@
 -- The parts of a message as its writer takes them up: names for the contracts of its functions. What is written is crates/message's.
-use Rattle.std.specs.Prelude.{List, [], ◌∷◌, cond, ℕ, ◌≤◌, length, eqb}
+use Rattle.std.specs.Prelude.{List, [], cond, ℕ, ◌≤◌, length, eqb}
 use Prim.Native.String.{String}
 use Rattle.scan.specs.Bytes.{bytes, part}
 use Rattle.tree.specs.Tree.{Tree, Trees, none, more}
@@ -7,8 +7,8 @@ use Rattle.tree.specs.Orders.{Words, mandato_words, reversale_words}
 use Rattle.tree.specs.Written.{leaf, node, bytes_of, bytes_all}
 use Rattle.pen.specs.Pen.{Wrote, Room}
 use Rattle.pen.specs.Decimal.{fixed, decimal, amount, dated}
-use Rattle.message.specs.Message.{Entry, Message, is_accepted, word_of, number_name, date_name}
-use Rattle.message.specs.Written.{◌and◌, errors_out, entry_out, istat_out, head_out}
+use Rattle.message.specs.Message.{Entry, is_accepted, word_of, number_name, date_name}
+use Rattle.message.specs.Written.{◌and◌, errors_out, head_out}
 use Rattle.header.specs.declared.Span.{Span}
 use Rattle.message_pen.specs.declared.Saying.{Saying}
 use Rattle.message_pen.specs.declared.Given.{Given}

@@ -1,5 +1,7 @@
 // The parts of an outcome message, written from their values: its header, and an entry. Texts are lent as slices, so that they may be a caller's, or parts
 // of a flow or of a message.
+#![tactic(auto)]
+
 ghost use Rattle.scan.specs.Bytes.{bytes};
 ghost use Rattle.tree.specs.Tree.{tree, holds, none};
 ghost use Rattle.tree.specs.Written.{node};
