@@ -75,7 +75,7 @@ breaks_stands : {v : Verdict} {p i : ℕ} {c : Cause} → v ≡ FieldBreaks p c 
 breaks_stands e d = let z : ◌≡◌ {A = ℕ} 0 1 = cc in omega arith
 
 -- "15 (INSERIMENTO: the body has no empty slot)"
-full_body : {slots year t c : ℕ} {o : Ordinativo} {rs : List Record} → Applies slots year o rs t c → c ≡ 15 → slots ≤ length rs
+full_body : {slots year : ℕ} {o : Ordinativo} {rs : List Record} {t c : ℕ} → Applies slots year o rs t c → c ≡ 15 → slots ≤ length rs
 full_body (full p l) e = l
 full_body (no_order p j l h) e = absurd (omega arith)
 full_body (line_zero p j l h) e = absurd (omega arith)
