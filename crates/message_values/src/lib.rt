@@ -1,5 +1,7 @@
 // The values of an outcome message that stands, written into a lent buffer: ten texts of its header and 48 bytes per entry (docs/FORMAT.md). Texts are
 // shown as parts of the message.
+#![tactic(auto)]
+
 ghost use Rattle.std.specs.Prelude.{◌≡◌, ℕ, ◌+◌, ◌*◌, ◌≤◌, ◌<◌, length, get_or};
 ghost use Rattle.scan.specs.Bytes.{part};
 ghost use Rattle.codes.specs.Codes.{esito_operazione};

@@ -1,0 +1,6 @@
+use borrow.Author.Rules.{rules}
+use borrow.Author.Rules.{rules}
+use Rattle.message_values.proofs.date_of.Goals as goal
+
+pub returns-in-NoDay : goal.returns-in-NoDay
+returns-in-NoDay c = rw c.in-NoDay.is

@@ -1,0 +1,7 @@
+use borrow.Author.Rules.{rules}
+use Rattle.message_values.proofs.Laws.{span_put}
+use borrow.Author.Rules.{rules}
+use Rattle.message_values.proofs.put_span.Goals as goal
+
+pub returns : goal.returns
+returns c = span_put c.args.values.now c.args.at c.args.w c.requires.0 c.wide.ensures c.wide-2.ensures c.write4.ensures c.write4-2.ensures
