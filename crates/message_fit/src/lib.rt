@@ -1,5 +1,7 @@
 // Whether a message can be written: the outcome bytes are this flow's, and the caller's values have their forms. These are held as they are judged: copied
 // one after another into bytes that the call lends, so that a writer takes them all at once.
+#![tactic(auto)]
+
 ghost use Rattle.std.specs.Prelude.{◌≡◌, true, ◌+◌, ◌≤◌, ◌<◌, length, drop};
 ghost use Rattle.order.specs.Ordinativo.{ordinativo};
 ghost use Rattle.message.specs.Message.{is_outcome};
