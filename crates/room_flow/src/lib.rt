@@ -1,5 +1,7 @@
 // A flow's call in the training room: the edition, the flow's length, markup, structure and fields, then bank, body and room for outcomes; then its orders are taken on the
 // body's list.
+#![tactic(auto)]
+
 ghost use Rattle.std.specs.Prelude.{◌≡◌, ◌≤◌, ◌<◌, length};
 ghost use Rattle.markup.specs.Noted.{Noted};
 ghost use Rattle.bounds.specs.Bounds.{max_flow};
