@@ -1,4 +1,6 @@
 // The bank's notices, and a body's totals, in the training room.
+#![tactic(auto)]
+
 ghost use Rattle.std.specs.Prelude.{◌≡◌, true, false, ◌&&◌, cond, ◌*◌, ◌≤◌, ◌<◌, length, leb};
 ghost use Rattle.bounds.specs.Bounds.{max_cents};
 ghost use Rattle.valid.specs.Valid.{executed};
