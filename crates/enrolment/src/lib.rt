@@ -1,5 +1,7 @@
 // The training room that a table says: read once, from a valid table whose bodies have at most 32 slots and have closed no year. This is the one place of the training room that
 // reads a table's bytes.
+#![tactic(auto)]
+
 ghost use Rattle.std.specs.Prelude.{◌≡◌, true, ◌+◌, ◌*◌, ◌≤◌, length, take};
 ghost use Rattle.scan.specs.Bytes.{part};
 ghost use Rattle.bounds.specs.Bounds.{max_code};

@@ -1,0 +1,14 @@
+use Prim.Native.Nat.{◌-◌, ◌≤◌}
+use mathlib.Core.Path.{◌≡◌}
+use mathlib.Core.List.{map}
+use lib.ListN.{length, take}
+use Rattle.table.specs.Table.{head_size}
+use Rattle.room.specs.Room.{listed}
+use Rattle.plain.specs.Says.{listed_from}
+use Rattle.enrolment.proofs.seated.Given as goal
+
+abbrev pub invariant-loop-b : goal.invariant-loop-b
+invariant-loop-b l = (l.b ≤ l.n) × (length l.seats ≡ 16) × (map listed (take l.b l.seats) ≡ listed_from l.t head_size l.b)
+
+abbrev pub decreases-loop-b : goal.decreases-loop-b
+decreases-loop-b l = l.n - l.b
