@@ -1,15 +1,13 @@
 -- Reading by positions is reading by the tree: what the code gives keeps the promise (specs/Promise.antt).
 use mathlib.Core.Path.{◌≡◌, refl, sym, ap, ◌∙◌}
-use mathlib.Core.Logic.{◌⊎◌, inl, inr}
 use mathlib.Core.List.{List, [], ◌∷◌, ◌++◌}
 use mathlib.Core.Bool.{Bool, true, false, cond, ◌&&◌}
-use Prim.Native.Nat.{ℕ, suc, ◌+◌, ◌*◌, ◌≤◌, ◌<◌}
+use Prim.Native.Nat.{ℕ, ◌+◌, ◌*◌, ◌≤◌, ◌<◌}
 use native.Mathlib.Omega.{arith}
 use lib.ListN.{length}
 use lib.Dec.{leb}
 use borrow.Author.Tests.{leb-true, leb-false}
 use Rattle.scan.specs.Bytes.{bytes, between, text_is}
-use Rattle.scan.proofs.Laws.{both}
 use Rattle.tokens.specs.Tokens.{white_at}
 use Rattle.markup.specs.declared.Markup.TheVariants as markup
 use Rattle.markup.specs.Markup.{markup_of}
@@ -21,9 +19,9 @@ use Rattle.fields.specs.declared.Cause.TheVariants.{Misformed}
 use Rattle.fields.specs.Causes.{cause_number}
 use Rattle.words.specs.Numbers.{put}
 use Rattle.schema.specs.declared.Parent.TheVariants.{MessaggiEsito, TestataMessaggio, EsitoReversali, EsitoMandati}
-use Rattle.schema.specs.declared.Holds.TheVariants.{Text, Rows}
+use Rattle.schema.specs.declared.Holds.TheVariants.{Rows}
 use Rattle.rows.specs.declared.Kept.{Kept}
-use Rattle.schema.specs.Table.{table, name_is}
+use Rattle.schema.specs.Table.{name_is}
 use Rattle.rows.specs.Kept.{kept_from, next_of}
 use Rattle.structure.specs.Structure.{fits_at}
 use Rattle.standing.specs.Readings.{Bad, Place, Nowhere, fields_at, first_bad}
@@ -45,23 +43,23 @@ use Rattle.tree.proofs.Stand.{Right, bad_none}
 use Rattle.tree.proofs.Values.{row_length}
 use Rattle.tree.proofs.Read.{reads_some}
 use Rattle.tree.proofs.Theorem.{Root, root_of_lem, right_root}
-use Rattle.parts.specs.Parts.{span_of_next, span_in, spans_from, parts_in}
+use Rattle.parts.specs.Parts.{span_of_next, spans_from, parts_in}
 use Rattle.message.specs.Message.{Message, count_ok, entry_count}
-use Rattle.message.specs.Read.{first_kids, kids_named, entry_in, message_in, disagreeing, earlier, entries_off, MessageReading, read, refused, by_place, entries_in, reading_on, max_message, MessageOf, too_long, no_tree, on_tree}
+use Rattle.message.specs.Read.{first_kids, entry_in, message_in, disagreeing, earlier, entries_off, MessageReading, read, refused, by_place, entries_in, reading_on, max_message, too_long, no_tree, on_tree}
 use Rattle.message.proofs.Blind.{each_length}
 use Rattle.agreement.specs.declared.EntryKind.TheVariants.{Reversale, Mandato}
 use Rattle.agreement.specs.declared.Off.{Off}
 use Rattle.agreement.specs.declared.Off.TheVariants as off
 use Rattle.agreement.specs.Agreement.{entries_off_at, entries_of, off_from}
-use Rattle.message_values.specs.Values.{span_bytes, spans_bytes, head_at, values_from, entries_at}
+use Rattle.message_values.specs.Values.{spans_bytes, values_from}
 use Rattle.message_read.specs.declared.MessageStanding.{MessageStanding}
 use Rattle.message_read.specs.declared.MessageStanding.TheVariants.{Structure, Field, Stands}
 use Rattle.message_read.specs.declared.Reply.{Reply}
-use Rattle.message_read.specs.Steps.{count_from, by_standing, judged_by, judged_at, judged_of, refusal, reply_by, left_by, ReadGives}
-use Rattle.message_read.specs.Values.{shown_named, testata_bytes, entries_shown, values_in, values_size}
-use Rattle.message_read.specs.Promise.{ReadFrom, ReadIn, refuses, no_room, reads}
+use Rattle.message_read.specs.Steps.{count_from, by_standing, judged_by, judged_of, refusal, ReadGives}
+use Rattle.message_read.specs.Values.{testata_bytes, values_in}
+use Rattle.message_read.specs.Promise.{ReadIn, refuses, no_room, reads}
 use Rattle.message_read.proofs.Match.{Pairs, pairs_none, pairs_next, pairs_length, row_pairs, shown_is}
-use Rattle.message_read.proofs.Entry.{to_bad, or_bad, or_same, entries_or, off_same, entries_same}
+use Rattle.message_read.proofs.Entry.{to_bad, or_same, entries_or, off_same, entries_same}
 
 -- OF THE ROOT'S CHILDREN, from i on, that have the structure
 module _ (s : List ℕ) (i : ℕ) (f : fits_tree 3 MessaggiEsito (trees_from 11 s i) ≡ true) where

@@ -2,12 +2,9 @@
 use mathlib.Core.Path.{◌≡◌, refl, sym, ap, ◌∙◌, subst}
 use mathlib.Core.List.{List, [], ◌∷◌, ◌++◌}
 use mathlib.Core.Bool.{Bool, true, false, cond}
-use Prim.Native.Nat.{ℕ, suc, ◌+◌, ◌≤◌, ◌<◌}
-use Prim.Native.String.{String}
+use Prim.Native.Nat.{ℕ, suc, ◌+◌, ◌<◌}
 use native.Mathlib.Omega.{arith}
-use lib.ListN.{length, get_or}
-use lib.Dec.{eqb}
-use borrow.Author.Tests.{eq-eqb, ne_eqb}
+use borrow.Author.Tests.{ne_eqb}
 use Rattle.scan.specs.Bytes.{bytes, text_is}
 use Rattle.tokens.specs.Tokens.{white_at}
 use Rattle.codes.specs.declared.Esito.{Esito}
@@ -32,8 +29,7 @@ use Rattle.tree.proofs.Levels.{kept_trees, all_trees, fits_held, kept_fits, fits
 use Rattle.tree.proofs.ByName.{Fixed}
 use Rattle.tree.specs.Structure.{replaces_in}
 use Rattle.tree.proofs.Orders.{fit_all, kids_of}
-use Rattle.parts.specs.declared.Span.{Span}
-use Rattle.parts.specs.Parts.{no_span, span_of_next, span_in, spans_from, parts_in, text_by}
+use Rattle.parts.specs.Parts.{span_of_next, span_in, parts_in, text_by}
 use Rattle.parts.proofs.Laws.{at_span, at_text, There, absent, present, there}
 use Rattle.message.specs.Message.{number_name, date_name, element_name}
 use Rattle.message.specs.Read.{place_named, operation_in, code_in, entry_in, Agreeing, word_agrees, error_agrees, errors_agree, entry_agrees, first_off, entries_off}
@@ -43,9 +39,8 @@ use Rattle.agreement.specs.declared.EntryKind.TheVariants.{Reversale, Mandato}
 use Rattle.agreement.specs.declared.Off.{Off}
 use Rattle.agreement.specs.declared.Off.TheVariants as off
 use Rattle.agreement.specs.Agreement.{words_of, entry_parent, errors_parent, errors_off_at, list_off, is_there, word_stands, entry_off_at, or_off, entries_off_at}
-use Rattle.message_values.specs.Values.{kind_number, span_bytes, facts_bytes, error_code_at, facts_at, parts_bytes, entry_by, entry_at, entries_at}
-use Rattle.message_values.specs.declared.Facts.{Facts}
-use Rattle.message_read.specs.Values.{shown_named, facts_of, entry_shown, entries_shown}
+use Rattle.message_values.specs.Values.{kind_number, span_bytes, facts_bytes, error_code_at, facts_at, entry_at, entries_at}
+use Rattle.message_read.specs.Values.{facts_of, entry_shown, entries_shown}
 use Rattle.message_read.proofs.Match.{Pairs, pairs_none, pairs_next, row_pairs, place_is, text_is_lem, shown_is}
 
 -- A PLACE that is off, as the book has it

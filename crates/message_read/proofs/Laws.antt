@@ -31,7 +31,7 @@ use Rattle.agreement.specs.declared.Off.{Off}
 use Rattle.agreement.specs.declared.Off.TheVariants as off
 use Rattle.agreement.specs.Agreement.{entry_parent, entry_row, entries_of, off_from}
 use Rattle.message.specs.Message.{count_ok}
-use Rattle.message_values.specs.Values.{span_bytes, spans_bytes, entry_at, entries_at, head_at, values_from}
+use Rattle.message_values.specs.Values.{span_bytes, spans_bytes, entry_at, entries_at, head_at}
 use Rattle.message_values.proofs.Laws.{entry_length, spans_length}
 use Rattle.schema.specs.declared.Holds.TheVariants.{Rows}
 use Rattle.message_read.specs.declared.MessageStanding.{MessageStanding}

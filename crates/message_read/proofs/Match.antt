@@ -1,8 +1,8 @@
 -- The children of a row are the trees of a name: what positions say of them, the tree says.
 use mathlib.Core.Path.{◌≡◌, refl, sym, ap, ◌∙◌}
-use mathlib.Core.List.{List, [], ◌∷◌, ◌++◌}
-use mathlib.Core.Bool.{Bool, true, false}
-use Prim.Native.Nat.{ℕ, suc, ◌+◌, ◌-◌, ◌≤◌}
+use mathlib.Core.List.{List, [], ◌∷◌}
+use mathlib.Core.Bool.{Bool, true}
+use Prim.Native.Nat.{ℕ, suc, ◌+◌, ◌-◌}
 use Prim.Native.String.{String}
 use native.Mathlib.Omega.{arith}
 use lib.ListN.{length, length-append}
@@ -11,28 +11,25 @@ use Rattle.tokens.specs.Tokens.{white_at}
 use Rattle.grammar.specs.Grammar.{start_tag}
 use Rattle.grammar.proofs.Parts.{part_length}
 use Rattle.fields.specs.declared.Form.{Form}
-use Rattle.words.specs.Numbers.{bytes4}
 use Rattle.children.specs.declared.Child.{Child}
 use Rattle.children.specs.Child.{children_from}
 use Rattle.children.proofs.Laws.{Lies}
 use Rattle.schema.specs.declared.Parent.{Parent}
 use Rattle.schema.specs.declared.Holds.{Holds}
-use Rattle.schema.specs.declared.Holds.TheVariants.{Text, Rows}
+use Rattle.schema.specs.declared.Holds.TheVariants.{Text}
 use Rattle.rows.specs.declared.Kept.{Kept}
-use Rattle.rows.specs.declared.Next.{Next}
-use Rattle.rows.specs.declared.Next.TheVariants.{Named, Done}
+use Rattle.rows.specs.declared.Next.TheVariants.{Named}
 use Rattle.schema.specs.Table.{◌is◌, many}
 use Rattle.rows.specs.Kept.{kept_from, next_of}
 use Rattle.structure.specs.Structure.{text_only}
 use Rattle.orders.specs.Orders.{in_row, text_in}
-use Rattle.tree.specs.Tree.{Tree, tree, Held, says, holds, Trees, lt_of, name_of, held_of, kids_in}
+use Rattle.tree.specs.Tree.{Tree, Trees, lt_of, name_of, held_of}
 use Rattle.tree.specs.Orders.{children_named, held_text, text_named}
 use Rattle.tree.proofs.Positions.{tree_at, trees_from}
-use Rattle.tree.proofs.Levels.{KeptTree, kept_trees, all_trees, is_text, fits_held, kept_fits}
+use Rattle.tree.proofs.Levels.{kept_trees, all_trees, is_text, fits_held, kept_fits}
 use Rattle.tree.proofs.Names.{HasRow, has_names, as_kept}
 use Rattle.tree.proofs.Book.{as_tree, as_trees, text_held, text_only_held}
-use Rattle.tree.proofs.Orders.{row_name, row_fits, same_one, never, cons_one, all_one, text_at, kids_of}
-use Rattle.parts.specs.declared.Span.{Span}
+use Rattle.tree.proofs.Orders.{row_name, row_fits, same_one, never, cons_one, all_one, text_at}
 use Rattle.parts.proofs.Laws.{row_at}
 use Rattle.parts.specs.Parts.{span_of_next, span_in}
 use Rattle.message.specs.Read.{first_place, place_named}

@@ -1,9 +1,8 @@
 -- No second answer keeps the promise of reading, and 3,152 bytes always suffice for the values.
 use mathlib.Core.Path.{◌≡◌, refl, sym, ap, subst, ◌∙◌}
 use mathlib.Core.List.{List}
-use Prim.Native.Nat.{ℕ, ◌+◌, ◌*◌, ◌≤◌, ◌<◌}
+use Prim.Native.Nat.{ℕ, ◌≤◌}
 use native.Mathlib.Omega.{arith}
-use lib.ListN.{length}
 use Rattle.scan.proofs.Laws.{in_range}
 use Rattle.words.specs.Numbers.{put}
 use Rattle.editions.specs.declared.Edition.{Edition}
@@ -11,7 +10,7 @@ use Rattle.editions.specs.declared.Edited.TheVariants.{By, NoEdition}
 use Rattle.tree.specs.Tree.{Tree, held_of, kids_in}
 use Rattle.tree.proofs.Read.{reads_one}
 use Rattle.message.specs.Message.{Message, entry_count}
-use Rattle.message.specs.Read.{read, refused, reading_on, MessageOf, on_tree}
+use Rattle.message.specs.Read.{read, refused, MessageOf, on_tree}
 use Rattle.message.proofs.Theorem.{reading_one, read_ok}
 use Rattle.message_read.specs.declared.Reply.{Reply}
 use Rattle.message_read.specs.Values.{values_in, values_size}

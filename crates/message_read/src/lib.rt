@@ -1,5 +1,7 @@
 // Reads an outcome message of any bytes at all (Req 01): its length, markup, structure and fields, then whether its entries agree; then its values are
 // written into the caller's buffer.
+#![tactic(auto)]
+
 ghost use Rattle.std.specs.Prelude.{◌≡◌, ◌+◌, ◌≤◌, length};
 ghost use Rattle.tokens.specs.Tokens.{white_at};
 ghost use Rattle.markup.specs.Noted.{Noted};
