@@ -1,5 +1,7 @@
 // The call that writes an outcome message, on any bytes at all: the caller's nine texts are judged and held together, so that no function below the call
 // names them; the flow is read, the outcome bytes are judged, the message's length is counted by a run that writes nothing, and only then is it written.
+#![tactic(auto)]
+
 ghost use Rattle.std.specs.Prelude.{◌≡◌, true, ◌+◌, ◌≤◌, length};
 ghost use Rattle.bounds.specs.Bounds.{max_flow};
 ghost use Rattle.scan.specs.Bytes.{byte_at, part};
