@@ -1,6 +1,6 @@
 -- A TABLE THAT LESSONS START FROM: valid, and no year is closed. (That no body has more than 32 slots only the room's arrays ask.)
 use Prim.Native.Nat.{ℕ}
-use mathlib.Core.Path.{◌≡◌, refl, sym, ap, ◌∙◌}
+use mathlib.Core.Path.{◌≡◌, refl, ap}
 use mathlib.Core.Bool.{Bool, true, false, cond}
 use mathlib.Core.List.{List}
 use native.Mathlib.Omega.{arith}

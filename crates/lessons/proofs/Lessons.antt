@@ -16,7 +16,7 @@ use Rattle.plain.specs.Flows.{flow_teaches, taught_answer, taught_room, taught_o
 use Rattle.plain.specs.Notices.{notice_for, room_for, day_answer, day_room, totals_for}
 use Rattle.plain.specs.Says.{plain_of, small}
 use Rattle.enrolment.specs.declared.Enrolled.TheVariants.{Ready}
-use Rattle.enrolment.specs.Enrolment.{enrols, room_by, EnrolPromise}
+use Rattle.enrolment.specs.Enrolment.{room_by, EnrolPromise}
 use Rattle.lessons.specs.Lessons.{Lesson, flow, execute, reverse, totals, at_desk, Teach, Learns, nothing, lesson, on_table, taken, Lessons}
 use Rattle.lessons.proofs.Fit.{Fit, ready_fit, fit_ready}
 use Rattle.lessons.proofs.Listed.{within_slots}
