@@ -1,0 +1,10 @@
+use Prim.Native.Nat.{◌-◌}
+use native.Mathlib.Omega.{arith}
+use Rattle.message_rewrite.proofs.Laws.{Going, going_start, going_end, going_here, going_step}
+use Rattle.message_rewrite.proofs.entries_again.Given as goal
+
+abbrev pub invariant-loop-left : goal.invariant-loop-left
+invariant-loop-left l = Going l.s l.v l.n l.to l.initial.m l.m l.left l.at l.a
+
+abbrev pub decreases-loop-left : goal.decreases-loop-left
+decreases-loop-left l = l.left
