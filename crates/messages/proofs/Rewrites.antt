@@ -1,9 +1,9 @@
 -- What the promise of the call that reads and writes again comes to.
 use mathlib.Core.Path.{◌≡◌, refl, sym, ap, subst, ◌∙◌}
 use mathlib.Core.List.{List}
-use Prim.Native.Nat.{ℕ, ◌≤◌, ◌<◌}
+use Prim.Native.Nat.{ℕ, ◌≤◌}
 use native.Mathlib.Omega.{arith}
-use lib.ListN.{length, take, drop}
+use lib.ListN.{length, take}
 use Rattle.words.specs.Numbers.{put}
 use Rattle.grammar.specs.XML.{WellFormedXML}
 use Rattle.editions.specs.declared.Edition.{Edition}
@@ -11,10 +11,10 @@ use Rattle.editions.specs.declared.Edited.TheVariants.{By, NoEdition}
 use Rattle.editions.specs.Editions.{edition_of}
 use Rattle.message.specs.Message.{Message}
 use Rattle.message.specs.Written.{message_bytes}
-use Rattle.message.specs.Read.{MessageReading, read, refused, MessageOf}
+use Rattle.message.specs.Read.{read, refused, MessageOf}
 use Rattle.message.proofs.Theorem.{reading_one, same_meaning}
 use Rattle.message_rewrite.specs.declared.RewriteReply.{RewriteReply}
-use Rattle.message_rewrite.specs.Promise.{RewriteIn, not_read, too_small, rewritten, RewritePromise, no_edition, by_edition_lem}
+use Rattle.message_rewrite.specs.Promise.{RewriteIn, not_read, too_small, rewritten, no_edition, by_edition_lem}
 use Rattle.message_rewrite.proofs.Call.{no_code}
 use Rattle.messages.specs.Rewrites.{WrittenAgain, AgainSaid, SameAgain, RewrittenSame, AgainSame, AgainKept, NoSecondAgain}
 use Rattle.messages.proofs.Writes.{read_xml, front, behind, written}

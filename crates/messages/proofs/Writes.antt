@@ -23,7 +23,7 @@ use Rattle.flow.specs.declared.Verdict.TheVariants.{MarkupBreaks, StructureBreak
 use Rattle.flow.specs.Flow.{verdict_of, flow_orders}
 use Rattle.message.specs.Message.{Message}
 use Rattle.message.specs.Written.{message_bytes}
-use Rattle.message.specs.Read.{MessageReading, read, refused, MessageOf, too_long, no_tree, on_tree}
+use Rattle.message.specs.Read.{MessageReading, read, MessageOf, too_long, no_tree, on_tree}
 use Rattle.message.specs.From.{Caller, CallerOk, outcomes_fit, flow_message}
 use Rattle.message.proofs.From.{written_ok, from_read}
 use Rattle.message.proofs.Short.{message_short}

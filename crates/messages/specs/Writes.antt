@@ -7,7 +7,6 @@ use Rattle.editions.specs.declared.Edited.TheVariants.{By}
 use Rattle.editions.specs.Editions.{edition_of}
 use Rattle.flow.specs.declared.Verdict.TheVariants.{Stands}
 use Rattle.flow.specs.Flow.{verdict_of, flow_orders}
-use Rattle.message.specs.Message.{Message}
 use Rattle.message.specs.Written.{message_bytes}
 use Rattle.message.specs.Read.{MessageReading, MessageOf, max_message}
 use Rattle.message.specs.From.{Caller, CallerOk, outcomes_fit, flow_message}
