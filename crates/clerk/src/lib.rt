@@ -1,9 +1,15 @@
 // One command of a clerk in the training room: what it says is read, the room's call is made, and the answer told. Everything that decides is in the crates below.
+#![tactic(auto)]
+
 use clerk_line::{date_of, kind_of, value_of, word};
 use printing::say;
 use ranges::Found;
 use record::Key;
 use room::Room;
+use std::fs::File;
+use std::io::{Read, Write};
+use std::rt::Files;
+use std::{io, str};
 
 // The order that execute and reverse name: BODY KIND ESERCIZIO NUMBER LINE DATE are their words 1 to 6.
 fn key_in(s: &[u8]) -> Key {
@@ -14,10 +20,10 @@ fn key_in(s: &[u8]) -> Key {
     }
 }
 
-fn run_execute(r: Room, s: &[u8]) -> Room {
+fn run_execute<W: Write>(to: &mut W, r: Room, s: &[u8]) -> io::Result<Room> {
     if word(s, 6).len() == 0 {
-        say_help();
-        return r;
+        say_help(to)?;
+        return Ok(r);
     }
     let told = room_notices::execute(
         r,
@@ -28,15 +34,15 @@ fn run_execute(r: Room, s: &[u8]) -> Room {
     );
     let answer = told.answer;
     let n = notices::reply_of(answer);
-    clerk_words::say_notice(n.code, n.cents, true);
+    clerk_words::say_notice(to, n.code, n.cents, true)?;
     let room = told.room;
-    room
+    Ok(room)
 }
 
-fn run_reverse(r: Room, s: &[u8]) -> Room {
+fn run_reverse<W: Write>(to: &mut W, r: Room, s: &[u8]) -> io::Result<Room> {
     if word(s, 6).len() == 0 {
-        say_help();
-        return r;
+        say_help(to)?;
+        return Ok(r);
     }
     let told = room_notices::reverse(
         r,
@@ -47,52 +53,66 @@ fn run_reverse(r: Room, s: &[u8]) -> Room {
     );
     let answer = told.answer;
     let n = notices::reply_of(answer);
-    clerk_words::say_notice(n.code, n.cents, false);
+    clerk_words::say_notice(to, n.code, n.cents, false)?;
     let room = told.room;
-    room
+    Ok(room)
 }
 
 // Why a flow of an edition is refused: a sentence of the school's where it is document 01's edition.
-fn say_refused(f: &[u8], edition: u64, code: u64, place: u64, cause: u64) -> bool {
+fn say_refused<W: Write>(
+    to: &mut W,
+    f: &[u8],
+    edition: u64,
+    code: u64,
+    place: u64,
+    cause: u64,
+) -> io::Result<()> {
     if code == 23 {
-        return say(b"  23, there is no such edition: 1 or 2\n");
+        return say(to, b"  23, there is no such edition: 1 or 2\n");
     }
     if edition == 1 {
-        return reasons::of_flow(f, code, place, cause);
+        return reasons::of_flow(to, f, code, place, cause);
     }
     match code {
-        3 => say(b"  3, the markup breaks\n"),
-        4 => say(b"  4, the structure breaks\n"),
-        5 => say(b"  5, a field breaks, at byte ")
-            && clerk_words::say_plain(place)
-            && say(b", cause ")
-            && clerk_words::say_plain(cause)
-            && say(b"\n"),
-        _ => reasons::of_flow(f, code, place, cause),
+        3 => say(to, b"  3, the markup breaks\n"),
+        4 => say(to, b"  4, the structure breaks\n"),
+        5 => {
+            say(to, b"  5, a field breaks, at byte ")?;
+            clerk_words::say_plain(to, place)?;
+            say(to, b", cause ")?;
+            clerk_words::say_plain(to, cause)?;
+            say(to, b"\n")
+        }
+        _ => reasons::of_flow(to, f, code, place, cause),
     }
 }
 
-fn tell_flow(r: Room, f: &[u8], edition: u64) -> Room {
+fn tell_flow<W: Write>(to: &mut W, r: Room, f: &[u8], edition: u64) -> io::Result<Room> {
     let mut out = [0u8; 1024];
     let told = room_flow::take_flow(r, edition, f, &mut out);
     let answer = told.answer;
     let n = desk::reply_of(answer);
     if n.code == 0 {
-        clerk_words::say_taken(n.orders, n.accepted, n.steps);
-        clerk_words::say_outcomes(&out, n.orders);
+        clerk_words::say_taken(to, n.orders, n.accepted, n.steps)?;
+        clerk_words::say_outcomes(to, &out, n.orders)?;
     } else {
-        say_refused(f, edition, n.code, n.place, n.cause);
+        say_refused(to, f, edition, n.code, n.place, n.cause)?;
     }
     let room = told.room;
-    room
+    Ok(room)
 }
 
 // A flow's file, of which one byte more than the longest flow is read, so that a longer one shows.
-fn run_file(r: Room, fd: i32, edition: u64) -> Room {
+fn run_file<F: Read, W: Write>(
+    to: &mut W,
+    r: Room,
+    file: &mut F,
+    edition: u64,
+) -> io::Result<Room> {
     let mut input = [0u8; 32769];
-    let n = io::read_full(fd, &mut input);
-    libc::close(fd);
-    tell_flow(r, &input[..n], edition)
+    let got = printing::read_input(file, &mut input);
+    let n = got.read;
+    tell_flow(to, r, &input[..n], edition)
 }
 
 fn edition_of(w: &[u8]) -> u64 {
@@ -102,61 +122,68 @@ fn edition_of(w: &[u8]) -> u64 {
     value_of(w)
 }
 
+fn say_unopened<W: Write>(to: &mut W) -> io::Result<()> {
+    say(to, b"  the file cannot be opened\n")
+}
+
 // flow FILE [EDITION]
-fn run_flow(r: Room, s: &[u8]) -> Room {
-    let fd = os::open_read(word(s, 1));
-    if fd < 0 {
-        say(b"  the file cannot be opened\n");
-        return r;
-    }
-    run_file(r, fd, edition_of(word(s, 2)))
+fn run_flow<H: Files, W: Write>(rt: &H, to: &mut W, r: Room, s: &[u8]) -> io::Result<Room> {
+    let Ok(path) = str::from_utf8(word(s, 1)) else {
+        say_unopened(to)?;
+        return Ok(r);
+    };
+    let Ok(mut file) = File::open(rt, path) else {
+        say_unopened(to)?;
+        return Ok(r);
+    };
+    run_file(to, r, &mut file, edition_of(word(s, 2)))
 }
 
 // list BODY
-fn run_list(r: Room, body: &[u8]) {
+fn run_list<W: Write>(to: &mut W, r: Room, body: &[u8]) -> io::Result<()> {
     match room::find_seat(r, body) {
         Found::At(b) => {
             let p = room::seat_at(r, b);
             let book = p.book;
-            clerk_words::say_orders(book);
+            clerk_words::say_orders(to, book)
         }
-        Found::Nothing => {
-            clerk_words::say_unknown();
-        }
+        Found::Nothing => { clerk_words::say_unknown(to) }
     }
 }
 
-fn say_help() {
+fn say_help<W: Write>(to: &mut W) -> io::Result<()> {
     say(
+        to,
         b"  flow FILE [EDITION]\n  execute BODY KIND ESERCIZIO NUMBER LINE YYYY-MM-DD\n  reverse BODY KIND ESERCIZIO NUMBER LINE YYYY-MM-DD\n",
-    );
+    )?;
     say(
+        to,
         b"  totals BODY\n  list BODY\n  quit\n  KIND is mandato or reversale; a line that begins with # is a remark\n",
-    );
+    )
 }
 
 // Takes one command line: the room afterwards.
-pub fn take(r: Room, s: &[u8]) -> Room {
+pub fn take<H: Files, W: Write>(rt: &H, to: &mut W, r: Room, s: &[u8]) -> io::Result<Room> {
     let command = word(s, 0);
     if scan::same(command, b"flow") {
-        return run_flow(r, s);
+        return run_flow(rt, to, r, s);
     }
     if scan::same(command, b"execute") {
-        return run_execute(r, s);
+        return run_execute(to, r, s);
     }
     if scan::same(command, b"reverse") {
-        return run_reverse(r, s);
+        return run_reverse(to, r, s);
     }
     if scan::same(command, b"totals") {
-        clerk_words::say_totals(room_notices::totals(r, word(s, 1)));
-        return r;
+        clerk_words::say_totals(to, room_notices::totals(r, word(s, 1)))?;
+        return Ok(r);
     }
     if scan::same(command, b"list") {
-        run_list(r, word(s, 1));
-        return r;
+        run_list(to, r, word(s, 1))?;
+        return Ok(r);
     }
     if command.len() != 0 {
-        say_help();
+        say_help(to)?;
     }
-    r
+    Ok(r)
 }
