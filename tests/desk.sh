@@ -52,6 +52,10 @@ echo flow > "$work/flow.xml"
 : > "$work/calls"
 cat > "$work/kit/bin/rt" << END
 #!/bin/sh
+if [ "\$1" = doc ]; then
+  echo "$work/kit/START-HERE.md"
+  exit
+fi
 echo "\$*" >> "$work/calls"
 if grep -rq BROKEN ../*/src; then
   echo "fn order_desk::main: not proved" >&2
@@ -67,8 +71,14 @@ esac
 echo "crate \$name: modules loaded=0 checked=1" >&2
 echo "logic=proved functions=1" >&2
 END
+cat > "$work/kit/bin/rattle" << END
+#!/bin/sh
+for to; do :; done
+echo "logic=proved functions=1"
+echo "over what rt ci proved" > "\$to"
+END
 printf '#!/bin/sh\nshift 3\nexec "$@"\n' > "$work/kit/on/$(uname -m)/toolchain/bin/qemu-x86_64"
-chmod +x "$work/kit/bin/rt" "$work/kit/on/$(uname -m)/toolchain/bin/qemu-x86_64"
+chmod +x "$work/kit/bin/rt" "$work/kit/bin/rattle" "$work/kit/on/$(uname -m)/toolchain/bin/qemu-x86_64"
 export RATTLE_HOME=$work/kit
 export PATH=$work/kit/bin:$PATH
 
@@ -110,6 +120,21 @@ is 0 "library, the edit undone" ./library
 holds "the library is back" grep -q two "$at/target/staticlib/libhondivole.a"
 holds "the library is not proved again" calls "$before"
 is 2 "library with an argument" ./library now
+
+# What rt ci built and proved is taken for the content that it ran over, and for no other.
+echo three > "$source"
+printf '#!/bin/sh\ncat > /dev/null\necho three\n' > "$at/crates/order_desk/out/order_desk"
+hash=$(cd "$at" && tools/proved hash)
+is 1 "what rt ci built of other content" tools/proved ran 0
+holds "other content is said" err_has "the crates were changed while rt ci ran"
+is 0 "what rt ci built" tools/proved ran "$hash"
+before=$(wc -l < "$work/calls")
+is 0 "the program that rt ci built" ./desk ../flow.xml
+holds "the program that rt ci built answers" out_is three
+is 0 "the library over what rt ci proved" ./library
+holds "the library over what rt ci proved is there" grep -q "over what rt ci proved" "$at/target/staticlib/libhondivole.a"
+holds "what rt ci proved is not proved again" calls "$before"
+echo two > "$source"
 
 is 0 "help" ./desk --help
 holds "help says how" grep -q '^usage: ./desk' "$work/out"
