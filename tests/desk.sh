@@ -124,6 +124,7 @@ is 2 "library with an argument" ./library now
 # What rt ci built and proved is taken for the content that it ran over, and for no other.
 echo three > "$source"
 printf '#!/bin/sh\ncat > /dev/null\necho three\n' > "$at/crates/order_desk/out/order_desk"
+chmod +x "$at/crates/order_desk/out/order_desk"
 hash=$(cd "$at" && tools/proved hash)
 is 1 "what rt ci built of other content" tools/proved ran 0
 holds "other content is said" err_has "the crates were changed while rt ci ran"
