@@ -1,7 +1,14 @@
 // The training room: a table is read from a file, or document 01's is opened, and a clerk's commands are taken from standard input, line by line.
+#![tactic(auto)]
+
 use enrolment::Enrolled;
 use printing::say;
 use room::Room;
+use std::env::{Env, FillError};
+use std::fs::File;
+use std::io::{IsTerminal, Read, Write};
+use std::rt::Files;
+use std::{io, str};
 
 // A room, and whether the lesson goes on.
 #[derive(Clone, Copy)]
@@ -18,25 +25,31 @@ fn is_remark(line: &[u8]) -> bool {
 }
 
 // At a terminal the clerk sees what is typed; elsewhere the line is said again, so that the answers can be read with it.
-fn say_again(line: &[u8]) {
+fn say_again<W: Write>(to: &mut W, line: &[u8]) -> io::Result<()> {
     if !is_remark(line) {
-        say(b"> ");
+        say(to, b"> ")?;
     }
-    say(line);
-    say(b"\n");
+    say(to, line)?;
+    say(to, b"\n")
 }
 
-fn take_line(r: Room, line: &[u8], typed: bool) -> Room {
+fn take_line<H: Files, W: Write>(
+    rt: &H,
+    to: &mut W,
+    r: Room,
+    line: &[u8],
+    typed: bool,
+) -> io::Result<Room> {
     if line.len() == 0 {
-        return r;
+        return Ok(r);
     }
     if !typed {
-        say_again(line);
+        say_again(to, line)?;
     }
     if is_remark(line) {
-        return r;
+        return Ok(r);
     }
-    clerk::take(r, line)
+    clerk::take(rt, to, r, line)
 }
 
 fn is_quit(line: &[u8]) -> bool {
@@ -44,85 +57,126 @@ fn is_quit(line: &[u8]) -> bool {
 }
 
 // Reads one line and takes it. The longest path and some words fit into it.
-fn take_next(r: Room, typed: bool) -> Lesson {
+fn take_next<H: Files, S: Read, W: Write>(
+    rt: &H,
+    from: &mut S,
+    to: &mut W,
+    r: Room,
+    typed: bool,
+) -> io::Result<Lesson> {
     if typed {
-        say(b"> ");
+        say(to, b"> ")?;
     }
     let mut line = [0u8; 4200];
-    let got = clerk_line::read_line(&mut line);
+    let got = clerk_line::read_line(from, &mut line)?;
     let n = got.size;
     if is_quit(&line[..n]) {
-        return Lesson {
+        return Ok(Lesson {
             room: r,
             more: false,
-        };
+        });
     }
-    let room = take_line(r, &line[..n], typed);
-    Lesson {
+    let room = take_line(rt, to, r, &line[..n], typed)?;
+    Ok(Lesson {
         room,
         more: got.more,
-    }
+    })
 }
 
 // Takes lines to the end of the input, at most so many.
-fn take_lines(r: Room, most: u64) {
-    let typed = libc::isatty(libc::STDIN_FILENO) == 1;
+fn take_lines<H: Files, S: Read + IsTerminal, W: Write>(
+    rt: &H,
+    from: &mut S,
+    to: &mut W,
+    r: Room,
+    most: u64,
+) -> io::Result<()> {
+    let typed = from.is_terminal();
     let mut room = r;
     let mut left = most;
     while 0 < left {
-        let next = take_next(room, typed);
+        let next = take_next(rt, from, to, room, typed)?;
         if !next.more {
-            return;
+            return Ok(());
         }
         room = next.room;
         left -= 1;
     }
+    Ok(())
 }
 
 // The lessons on a table, where the training room takes it.
-fn teach(t: &[u8]) {
+fn teach<H: Files, S: Read + IsTerminal, W: Write, E: Write>(
+    rt: &H,
+    from: &mut S,
+    to: &mut W,
+    errors: &mut E,
+    t: &[u8],
+) -> io::Result<()> {
     let e = enrolment::room_of(t);
     let told = e.told;
     let room = e.room;
     match told {
-        Enrolled::Ready => take_lines(room, 1000000000000),
-        Enrolled::InvalidTable => printing::complain(b"the table is not valid\n"),
+        Enrolled::Ready => take_lines(rt, from, to, room, 1000000000000),
+        Enrolled::InvalidTable => printing::complain(errors, b"the table is not valid\n"),
         Enrolled::TooLarge => printing::complain(
+            errors,
             b"a body of the table has more than 32 slots: the training room takes tables whose bodies have at most 32\n",
         ),
         Enrolled::YearClosed => printing::complain(
+            errors,
             b"a body of the table has closed a year: the training room closes none, and takes no such table\n",
         ),
     }
 }
 
 // Document 01's table: ABI 01234 with 000471 and 471, four slots each.
-fn teach_anew() {
+fn teach_anew<H: Files, S: Read + IsTerminal, W: Write, E: Write>(
+    rt: &H,
+    from: &mut S,
+    to: &mut W,
+    errors: &mut E,
+) -> io::Result<()> {
     let mut table = [0u8; 880];
     opening::open_table(
         b"01234\x06000471\0\0\0\0\0\0\0\0\0\0\0\0\x04\x03471\0\0\0\0\0\0\0\0\0\0\0\0\0\0\0\x04",
         &mut table,
     );
-    teach(&table)
+    teach(rt, from, to, errors, &table)
+}
+
+fn say_unopened<E: Write>(errors: &mut E) -> io::Result<()> {
+    printing::complain(errors, b"the table's file cannot be opened\n")
 }
 
 // A table's file, of which one byte more than the longest table is read, so that a longer one shows.
-fn teach_file(path: &[u8]) {
-    let fd = os::open_read(path);
-    if fd < 0 {
-        return printing::complain(b"the table's file cannot be opened\n");
-    }
+fn teach_file<H: Files, S: Read + IsTerminal, W: Write, E: Write>(
+    rt: &H,
+    from: &mut S,
+    to: &mut W,
+    errors: &mut E,
+    path: &[u8],
+) -> io::Result<()> {
+    let Ok(name) = str::from_utf8(path) else {
+        return say_unopened(errors);
+    };
+    let Ok(mut file) = File::open(rt, name) else {
+        return say_unopened(errors);
+    };
     let mut table = [0u8; 65793];
-    let n = io::read_full(fd, &mut table);
-    libc::close(fd);
-    teach(&table[..n])
+    let got = printing::read_input(&mut file, &mut table);
+    let n = got.read;
+    teach(rt, from, to, errors, &table[..n])
 }
 
-fn main() {
-    if os::arg_count() < 2 {
-        return teach_anew();
-    }
+fn main(rt: HostRuntime) -> io::Result<()> {
+    let mut from = rt.stdin();
+    let mut to = rt.stdout();
+    let mut errors = rt.stderr();
     let mut path = [0u8; 4096];
-    let n = os::arg(1, &mut path);
-    teach_file(&path[..n])
+    match rt.arg(1, &mut path) {
+        Ok(n) => teach_file(&rt, &mut from, &mut to, &mut errors, &path[..n]),
+        Err(FillError::NotPresent) => teach_anew(&rt, &mut from, &mut to, &mut errors),
+        Err(FillError::TooLong) => say_unopened(&mut errors),
+    }
 }
