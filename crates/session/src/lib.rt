@@ -1,55 +1,62 @@
 // A run of document 01's program: a table for ABI 01234 with 000471 and 471, four slots each; one flow from standard input; its answer, its
 // orders and the bodies' totals on standard output, with a sentence for each refusal where asked. Everything that decides is in the library.
+#![tactic(auto)]
+
 ghost use Rattle.std.specs.Prelude.{◌+◌, ◌≤◌, length};
 
 use printing::{say_body, say_flow, say_order};
+use std::io;
+use std::io::{Read, Write};
 
 // The line of an order, and why it is refused.
-fn tell_order(out: &[u8], at: usize, explaining: bool) -> bool
+fn tell_order<W: Write>(to: &mut W, out: &[u8], at: usize, explaining: bool) -> io::Result<()>
     requires { at + 16 ≤ length out.now }
 {
-    if !say_order(out, at) {
-        return false;
-    }
+    say_order(to, out, at)?;
     if explaining {
-        reasons::of_order(out[at + 2])
+        reasons::of_order(to, out[at + 2])
     } else {
-        true
+        Ok(())
     }
 }
 
-fn tell_orders(out: &[u8], orders: u64, explaining: bool) -> bool {
+fn tell_orders<W: Write>(to: &mut W, out: &[u8], orders: u64, explaining: bool) -> io::Result<()> {
     let mut at: usize = 0;
     let mut left = orders;
     while 0 < left {
         if out.len() - at < 16 {
-            return true;
+            return Ok(());
         }
-        if !tell_order(out, at, explaining) {
-            return false;
-        }
+        tell_order(to, out, at, explaining)?;
         at += 16;
         left -= 1;
     }
-    true
+    Ok(())
 }
 
-fn tell_body(table: &[u8], code: &[u8]) -> bool {
+fn tell_body<W: Write>(to: &mut W, table: &[u8], code: &[u8]) -> io::Result<()> {
     let t = notices::totals(table, code);
     let balance = t.balance;
-    say_body(code, t.used, balance)
+    say_body(to, code, t.used, balance)
 }
 
-fn tell_reason(flow: &[u8], code: u64, place: u64, cause: u64, explaining: bool) -> bool {
+fn tell_reason<W: Write>(
+    to: &mut W,
+    flow: &[u8],
+    code: u64,
+    place: u64,
+    cause: u64,
+    explaining: bool,
+) -> io::Result<()> {
     if explaining {
-        reasons::of_flow(flow, code, place, cause)
+        reasons::of_flow(to, flow, code, place, cause)
     } else {
-        true
+        Ok(())
     }
 }
 
 // Opens the table, takes the flow and prints: whether all was written.
-fn run(flow: &[u8], explaining: bool) -> bool {
+fn run<W: Write>(to: &mut W, flow: &[u8], explaining: bool) -> io::Result<()> {
     let mut table = [0u8; 880];
     let mut outcomes = [0u8; 1024];
     let mut place: u64 = 0;
@@ -72,22 +79,28 @@ fn run(flow: &[u8], explaining: bool) -> bool {
         &mut cause,
         &mut steps,
     );
-    say_flow(code, place, orders, accepted)
-        && tell_reason(flow, code, place, cause, explaining)
-        && tell_orders(&outcomes, orders, explaining)
-        && tell_body(&table, b"000471")
-        && tell_body(&table, b"471")
+    say_flow(to, code, place, orders, accepted)?;
+    tell_reason(to, flow, code, place, cause, explaining)?;
+    tell_orders(to, &outcomes, orders, explaining)?;
+    tell_body(to, &table, b"000471")?;
+    tell_body(to, &table, b"471")
 }
 
 // The whole program. One byte more than the longest flow is read, so that a longer one shows; input that cannot be read is no flow.
-pub fn serve(explaining: bool) {
+pub fn serve<S: Read, W: Write, E: Write>(
+    from: &mut S,
+    to: &mut W,
+    errors: &mut E,
+    explaining: bool,
+) -> io::Result<()> {
     let mut input = [0u8; 32769];
-    let got = printing::read_input(&mut input);
+    let got = printing::read_input(from, &mut input);
     if got.failed {
-        return printing::complain(b"the input cannot be read\n");
+        return printing::complain(errors, b"the input cannot be read\n");
     }
     let n = got.read;
-    if !run(&input[..n], explaining) {
-        printing::complain(b"the output cannot be written\n");
+    if run(to, &input[..n], explaining).is_err() {
+        return printing::complain(errors, b"the output cannot be written\n");
     }
+    Ok(())
 }
