@@ -1,4 +1,8 @@
 // The program of document 01.
-fn main() {
-    session::serve(false);
+#![tactic(auto)]
+
+use std::io;
+
+fn main(rt: HostRuntime) -> io::Result<()> {
+    session::serve(&mut rt.stdin(), &mut rt.stdout(), &mut rt.stderr(), false)
 }
