@@ -3,11 +3,15 @@
 // above it. Where the flow goes on otherwise, there follow a part, how often it is put behind, and an end; and of what is said by hand, which part stands
 // as often, and the end. After a message stand the code of its reading, its entries, the code and length of writing it again, whether that gave the same bytes, and the
 // codes of reading it in edition 2 and by numbers of no edition.
+#![tactic(auto)]
+
 ghost use Rattle.std.specs.Prelude.{◌≤◌, length};
-ghost use Rattle.io.specs.Counts.{IsPrefixLen};
+ghost use Rattle.std.specs.Counts.{IsPrefixLen};
 
 use casebook::{say, say_next, say_number};
 use message_write::WriteAnswer;
+use std::io;
+use std::io::Write;
 
 // The first v bytes, or all of them.
 fn first(s: &[u8], v: u64) -> &[u8] {
@@ -35,36 +39,48 @@ fn text(s: &[u8], a: usize, e: usize, k: usize) -> &[u8]
 }
 
 // What was written, read back and written again.
-fn say_again(m: &[u8]) {
+fn say_again<W: Write>(to: &mut W, m: &[u8]) -> io::Result<()> {
     let mut values = [0u8; 3152];
     let r = message_read::read_message(1, m, &mut values);
-    say_next(r.code);
-    say_next(r.entries);
+    say_next(to, r.code)?;
+    say_next(to, r.entries)?;
     let mut again = [0u8; 65536];
     let w = message_rewrite::rewrite_message(1, m, &mut again);
-    say_next(w.code);
-    say_next(w.length);
+    say_next(to, w.code)?;
+    say_next(to, w.length)?;
     if scan::same(m, first(&again, w.length)) {
-        say(b" the same");
+        say(to, b" the same")?;
     }
-    say_next(message_read::read_message(2, m, &mut values).code);
-    say_next(message_read::read_message(0, m, &mut values).code);
-    say_next(message_rewrite::rewrite_message(257, m, &mut again).code);
+    say_next(to, message_read::read_message(2, m, &mut values).code)?;
+    say_next(to, message_read::read_message(0, m, &mut values).code)?;
+    say_next(
+        to,
+        message_rewrite::rewrite_message(257, m, &mut again).code,
+    )
 }
 
-fn say_answer(a: WriteAnswer, m: &[u8]) {
+fn say_answer<W: Write>(to: &mut W, a: WriteAnswer, m: &[u8]) -> io::Result<()> {
     let r = message_write::reply_of(a);
-    say_number(r.code);
-    say_next(r.length);
-    say(b" ");
-    say(first(m, r.length));
+    say_number(to, r.code)?;
+    say_next(to, r.length)?;
+    say(to, b" ")?;
+    say(to, first(m, r.length))?;
     if r.code == 0 {
-        say_again(first(m, r.length));
+        say_again(to, first(m, r.length))?;
     }
+    Ok(())
 }
 
 // What is seen of a case: the line from a up to e.
-fn say_case(flow: &[u8], edition: u64, s: &[u8], a: usize, e: usize, m: &mut [u8])
+fn say_case<W: Write>(
+    to: &mut W,
+    flow: &[u8],
+    edition: u64,
+    s: &[u8],
+    a: usize,
+    e: usize,
+    m: &mut [u8],
+) -> io::Result<()>
     requires { (a ≤ e) × (e ≤ length s.now) × (length s.now ≤ 131072) }
 {
     let mut out = [0u8; 2048];
@@ -84,24 +100,25 @@ fn say_case(flow: &[u8], edition: u64, s: &[u8], a: usize, e: usize, m: &mut [u8
         text(s, a, e, 11),
         m,
     );
-    say_answer(answer, m);
+    say_answer(to, answer, m)
 }
 
-fn say_times(t: &[u8], times: u64) {
+fn say_times<W: Write>(to: &mut W, t: &[u8], times: u64) -> io::Result<()> {
     let mut left = times;
     while 0 < left {
-        say(t);
+        say(to, t)?;
         left -= 1;
     }
+    Ok(())
 }
 
 // What document 02 says of a case.
-fn say_due(s: &[u8], a: usize, e: usize)
+fn say_due<W: Write>(to: &mut W, s: &[u8], a: usize, e: usize) -> io::Result<()>
     requires { (a ≤ e) × (e ≤ length s.now) }
 {
-    casebook::say_column(s, a, e, 13);
-    say_times(text(s, a, e, 18), casebook::number(s, a, e, 16));
-    casebook::say_column(s, a, e, 19);
+    casebook::say_column(to, s, a, e, 13)?;
+    say_times(to, text(s, a, e, 18), casebook::number(s, a, e, 16))?;
+    casebook::say_column(to, s, a, e, 19)
 }
 
 // The flow of a case: how many bytes it has.
@@ -119,7 +136,7 @@ fn build(base: &[u8], s: &[u8], a: usize, e: usize, out: &mut [u8]) -> usize
     )
 }
 
-fn run_case(base: &[u8], s: &[u8], a: usize, e: usize)
+fn run_case<W: Write>(to: &mut W, base: &[u8], s: &[u8], a: usize, e: usize) -> io::Result<()>
     requires { (a ≤ e) × (e ≤ length s.now) × (length s.now ≤ 131072) }
 {
     let mut m = [0u8; 65536];
@@ -127,38 +144,43 @@ fn run_case(base: &[u8], s: &[u8], a: usize, e: usize)
     let n = build(base, s, a, e, &mut flow);
     let from = last(casebook::number(s, a, e, 12));
     let edition = casebook::number(s, a, e, 14);
-    casebook::say_column(s, a, e, 0);
-    say(b"\n");
-    say_case(&flow[..n], edition, s, a, e, &mut m[from..]);
-    say(b"\n");
-    say_due(s, a, e);
-    say(b"\n");
+    casebook::say_column(to, s, a, e, 0)?;
+    say(to, b"\n")?;
+    say_case(to, &flow[..n], edition, s, a, e, &mut m[from..])?;
+    say(to, b"\n")?;
+    say_due(to, s, a, e)?;
+    say(to, b"\n")
 }
 
-fn run_cases(s: &[u8])
+fn run_cases<W: Write>(to: &mut W, s: &[u8]) -> io::Result<()>
     requires { length s.now ≤ 131072 }
 {
     let first = casebook::line_end(s, 0);
     let mut at = casebook::after(first, s.len());
     while at < s.len() {
-        run_case(&s[0..first], s, at, casebook::line_end(s, at));
+        run_case(to, &s[0..first], s, at, casebook::line_end(s, at))?;
         at = casebook::next_line(s, at);
     }
+    Ok(())
 }
 
 // A message without children whose root has an Id: its markup breaks in edition 1, its structure alone in edition 2.
-fn say_id() {
+fn say_id<W: Write>(to: &mut W) -> io::Result<()> {
     let m = b"<messaggi_esito_applicativo Id=\"m1\"></messaggi_esito_applicativo>";
     let mut values = [0u8; 80];
-    say(b"an Id on the root, read in edition 1 and in edition 2\n");
-    say_number(message_read::read_message(1, m, &mut values).code);
-    say_next(message_read::read_message(2, m, &mut values).code);
-    say(b"\n3 4\n");
+    say(
+        to,
+        b"an Id on the root, read in edition 1 and in edition 2\n",
+    )?;
+    say_number(to, message_read::read_message(1, m, &mut values).code)?;
+    say_next(to, message_read::read_message(2, m, &mut values).code)?;
+    say(to, b"\n3 4\n")
 }
 
-fn main() {
+fn main(rt: HostRuntime) -> io::Result<()> {
     let mut input = [0u8; 131072];
-    let n = io::read_full(libc::STDIN_FILENO, &mut input);
-    run_cases(&input[..n]);
-    say_id();
+    let n = casebook::read_full(&mut rt.stdin(), &mut input)?;
+    let mut to = rt.stdout();
+    run_cases(&mut to, &input[..n])?;
+    say_id(&mut to)
 }
