@@ -1,13 +1,13 @@
 -- The same bytes hold the same body. With `agree-before` and `Agree-after` of record: a put elsewhere leaves a body's records and its validity.
-use Prim.Native.Nat.{ℕ, zero, suc, ◌+◌, ◌-◌, ◌*◌, ◌≤◌, ◌<◌}
+use Prim.Native.Nat.{ℕ, zero, suc, ◌+◌, ◌-◌, ◌*◌, ◌≤◌}
 use mathlib.Core.Bool.{Bool, true, false, ◌&&◌, cond}
-use mathlib.Core.List.{List, [], ◌∷◌}
+use mathlib.Core.List.{List, ◌∷◌}
 use mathlib.Core.Path.{◌≡◌, refl, sym, ap, ◌∙◌}
 use native.Mathlib.Omega.{arith}
-use lib.ListN.{length, get_or}
+use lib.ListN.{get_or}
 use lib.Dec.{eqb}
 use Rattle.words.proofs.Laws.{Agree, on, at_it}
-use Rattle.record.specs.Slot.{slot_size, record_at, rest_zero}
+use Rattle.record.specs.Slot.{slot_size}
 use Rattle.record.proofs.Back.{same_record, same_rest}
 use Rattle.ranges.specs.Ranges.{zeros}
 use Rattle.valid.specs.Valid.{record_ok}

@@ -1,5 +1,5 @@
 -- Real dates (document 01, "The fields", data: a real Gregorian date, years 2000 to 2099).
-use Rattle.std.specs.Prelude.{ℕ, ◌%◌, Bool, cond, not, ◌&&◌, ◌||◌, leb, eqb}
+use Rattle.std.specs.Prelude.{ℕ, ◌%◌, Bool, cond, not, ◌&&◌, ◌||◌, eqb}
 use Rattle.scan.specs.Bytes.{between}
 use Rattle.bounds.specs.Bounds.{is_year}
 use Rattle.calendar.specs.declared.Date.{Date}

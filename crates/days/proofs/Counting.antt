@@ -2,15 +2,14 @@
 use mathlib.Core.Path.{◌≡◌, refl, sym, ap, subst, ◌∙◌}
 use mathlib.Core.Bool.{Bool, true, false, cond}
 use mathlib.Core.Logic.{◌⊎◌, inl, inr}
-use Prim.Native.Nat.{ℕ, zero, suc, ◌+◌, ◌-◌, ◌≤◌, ◌<◌}
+use Prim.Native.Nat.{ℕ, zero, suc, ◌+◌, ◌-◌, ◌≤◌}
 use native.Mathlib.Omega.{arith}
 use borrow.Author.Tests.{leb-true, leb-false, ltb-true, ltb-false}
 use lib.Dec.{leb, ltb}
-use lib.IntN.{ℤ, pos, negsuc, sub_ℕ, ◌-ℤ◌}
+use lib.IntN.{ℤ, pos, negsuc, ◌-ℤ◌}
 use Rattle.calendar.specs.declared.Date.{Date}
 use Rattle.calendar.specs.Calendar.{is_date}
 use Rattle.calendar.proofs.Laws.{date_ranges}
-use Rattle.days.specs.declared.Between.{Between}
 use Rattle.days.specs.Days.{month_of, day_number, date_by, next_day, served, days_between}
 use Rattle.days.specs.Counting.{days_on, Takes, on, back, Counting, CountedDays}
 use Rattle.days.proofs.Laws.{start_mono, start_1200, number_least, number_most, one_date, next_number, next_real, served_date, both_served}

@@ -1,7 +1,7 @@
 -- Laws of numbers in digits: one for each way out of the code, and the ranges that the crates above rely on.
 use mathlib.Core.Path.{◌≡◌, refl, sym, ap, ◌∙◌}
 use mathlib.Core.List.{List, [], ◌∷◌}
-use mathlib.Core.Bool.{Bool, true, false, cond, not, ◌&&◌, ◌||◌}
+use mathlib.Core.Bool.{Bool, true, false, cond, not, ◌&&◌}
 use Prim.Native.Nat.{ℕ, zero, suc, ◌+◌, ◌*◌, ◌-◌, ◌≤◌, ◌<◌}
 use native.Mathlib.Nat.{add-zero}
 use native.Mathlib.Numerals.{add-one}
@@ -14,7 +14,7 @@ use Rattle.scan.specs.Bytes.{byte_at, part, between, is_digit, run}
 use Rattle.scan.proofs.Laws.{both, in_range}
 use Rattle.digits.specs.declared.Number.{Number}
 use Rattle.digits.specs.declared.Number.TheVariants.{Value, NoNumber}
-use Rattle.digits.specs.Digits.{is_value, within, digits_after, digits, esercizio, numero, in_cents, zero_in_front, amount_of, importo, progressivo, is_refusal}
+use Rattle.digits.specs.Digits.{is_value, within, digits_after, digits, esercizio, numero, in_cents, zero_in_front, importo, progressivo, is_refusal}
 use Rattle.digits.specs.Inner.{zero_first, importo_back}
 
 -- INVERSIONS: what a number says of the tests that led to it

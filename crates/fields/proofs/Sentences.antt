@@ -1,11 +1,10 @@
 -- Document 02's sentences on causes, proved.
-use Prim.Native.Nat.{ℕ, zero, suc, ◌≤◌, ◌<◌}
+use Prim.Native.Nat.{ℕ, ◌≤◌, ◌<◌}
 use mathlib.Core.Path.{◌≡◌, refl, ap, ◌∙◌}
-use mathlib.Core.List.{List, [], ◌∷◌, ◌++◌}
-use mathlib.Core.Bool.{Bool, true, false, not, ◌&&◌}
+use mathlib.Core.List.{List}
+use mathlib.Core.Bool.{true, false, not}
 use native.Mathlib.Omega.{arith}
 use lib.ListN.{length, replicate}
-use lib.Dec.{eqb, ltb}
 use borrow.Author.Tests.{ne_eqb, le-ltb}
 use Rattle.scan.specs.Bytes.{bytes, is_digit, is_letter, is_alnum, all, run, starts_with, has_at, text_is}
 use Rattle.scan.specs.Characters.{is_char, sized, is_tail, char_size}
@@ -28,7 +27,6 @@ use Rattle.fields.specs.declared.Cause.{Cause}
 use Rattle.fields.specs.declared.Cause.TheVariants.{Empty, Long, Misformed, OutOfRange}
 use Rattle.fields.specs.Causes.{cause_number, formed, in_range, applies}
 use Rattle.fields.specs.Fields.{reading_of, field_stands}
-use Rattle.fields.specs.Told.{First}
 use Rattle.fields.specs.Sentences.{Reached, Sentences}
 use Rattle.fields.proofs.Told.{formed_sized, tells}
 

@@ -10,12 +10,11 @@ use Rattle.calendar.specs.Calendar.{leap, month_length, is_date}
 use Rattle.days.specs.Days.{length_at, month_start, month_of, day_number, weekday, date_by, next_day, served}
 use Rattle.days.proofs.Table.{TBoth}
 use Rattle.days.proofs.Laws.{one_date, next_number, number_first, number_most}
-use Rattle.target_days.specs.Easter.{easter}
 use Rattle.target_days.specs.Published.{butcher, butcher_mid, butcher_end}
 use Rattle.target_days.specs.Target.{weekend, fixed_closing, march_day, closes_on, closing, target_code, first_from, first_target_day}
-use Rattle.first_target.specs.First.{FirstOpen, FirstTold, FirstDays}
+use Rattle.first_target.specs.First.{FirstOpen, FirstDays}
 use Rattle.target_days.proofs.Easter.{by_butcher}
-use Rattle.target_days.proofs.Laws.{Served, served_real, code_28, code_0, first_stop}
+use Rattle.target_days.proofs.Laws.{served_real, code_28, code_0, first_stop}
 
 -- THE TEST: from the date d of day number n, at most f days on, a day that is no closing day, and only served dates on the way
 soon : ℕ → Date → ℕ → Bool

@@ -1,5 +1,5 @@
 -- "the first TARGET day on or after a date", and "a first TARGET day never falls outside the served years" (document 02, Req 08): what the call's answer is.
-use Rattle.std.specs.Prelude.{ℕ, ◌+◌, ◌≤◌, ◌<◌, ◌≡◌, true}
+use Rattle.std.specs.Prelude.{◌+◌, ◌≤◌, ◌<◌, ◌≡◌, true}
 use Rattle.calendar.specs.declared.Date.{Date}
 use Rattle.calendar.specs.Calendar.{is_date}
 use Rattle.days.specs.Days.{day_number, served}

@@ -13,7 +13,6 @@ use Rattle.scan.specs.Bytes.{is_white}
 use Rattle.scan.proofs.Laws.{run_within}
 use Rattle.tokens.specs.Tokens.{white_at}
 use Rattle.calendar.specs.Calendar.{is_date}
-use Rattle.fields.specs.declared.Cause.{Cause}
 use Rattle.fields.specs.declared.Form.{Form}
 use Rattle.fields.specs.declared.Form.TheVariants.{CodiceAbi, Identificativo, DataOra, CodiceEnte, Esercizio, TipoOperazione, Numero, Data, Importo, Progressivo, DataOraZona}
 use Rattle.fields.specs.declared.Judged.TheVariants.{Stands}
@@ -39,7 +38,7 @@ use Rattle.rows.specs.declared.Next.{Next}
 use Rattle.rows.specs.declared.Next.TheVariants.{Named, Done}
 use Rattle.schema.specs.Table.{table}
 use Rattle.rows.specs.Kept.{kept_from, next_of}
-use Rattle.rows.specs.Replaces.{replaces, rows_for}
+use Rattle.rows.specs.Replaces.{rows_for}
 use Rattle.children.proofs.Laws.{Lies}
 use Rattle.rows.proofs.Laws.{next_at, next_done}
 use Rattle.structure.specs.Structure.{Range, ranges, all_kept, kept_holds, fits_at}
@@ -52,7 +51,7 @@ use Rattle.orders.specs.Shape.{order_rows, line_rows, Shaped, Filled}
 use Rattle.orders.specs.Orders.{those, of_row, in_row, text_in, value_of, date_of, line_of, lines_of, eight, lines_in, kind_of, order_by, order_of, orders_of, holds_order, is_order, orders_in}
 use Rattle.editions.specs.declared.Edition.{Edition}
 use Rattle.editions.specs.declared.Edition.TheVariants.{Oil, Opi}
-use Rattle.header.specs.Header.{Header, root_of, testata_of, header_in}
+use Rattle.header.specs.Header.{Header, root_of, testata_of}
 use Rattle.header.specs.Heading.{four_then, root_rows}
 use Rattle.header.proofs.Laws.{nested}
 use Rattle.orders.proofs.Laws.{one, held_at, those_at, those_done, those_other, those_one, those_all, found, found_some, mandato_rows, reversale_rows, rows_other, shaped_inside, shaped_other, line_other, Standing, order_held, order_at, orders_end, standing, lines_length}

@@ -1,12 +1,12 @@
 -- Laws of the code, one way through it at a time: flags, blanked slots, moved records.
-use Prim.Native.Nat.{ℕ, zero, suc, ◌+◌, ◌-◌, ◌*◌, ◌≤◌, ◌<◌}
+use Prim.Native.Nat.{ℕ, suc, ◌+◌, ◌-◌, ◌*◌, ◌≤◌, ◌<◌}
 use mathlib.Core.Bool.{Bool, true, false, ◌&&◌, not, cond}
 use mathlib.Core.List.{List, [], ◌∷◌, ◌++◌, append_assoc, append-nil}
 use mathlib.Core.Path.{◌≡◌, refl, sym, ap, subst⁻¹, ◌∙◌}
 use native.Mathlib.Omega.{arith}
 use native.Mathlib.Numerals.{add-one}
-use lib.ListN.{length, get_or, take, drop, set, replicate, length-replicate, drop_of_length-le}
-use lib.Seq.{length-take-le, drop-cons, get_or-take, take-suc, take-suc-set, take_all}
+use lib.ListN.{length, get_or, take, drop, set, drop_of_length-le}
+use lib.Seq.{length-take-le, drop-cons, get_or-take, take-suc-set, take_all}
 use lib.Dec.{eqb, ltb}
 use borrow.Author.Tests.{eq-eqb, ne_eqb, lt-ltb, le-ltb}
 use Rattle.words.specs.Numbers.{put}
@@ -15,7 +15,6 @@ use Rattle.record.specs.declared.Record.{Record}
 use Rattle.record.specs.declared.Key.{Key}
 use Rattle.record.specs.Slot.{slot_size, record_at, key_is, key_of}
 use Rattle.ranges.specs.Ranges.{zeros, is_nothing}
-use Rattle.ranges.specs.declared.Found.TheVariants.{At, Nothing}
 use Rattle.valid.specs.Inner.{judged_by}
 use Rattle.valid.specs.declared.Judged.TheVariants.{Right, Broken}
 use Rattle.slots.specs.Slots.{slots_at, find_in}

@@ -27,8 +27,8 @@ use Rattle.body.proofs.Slots.{parts}
 use Rattle.body.proofs.Later.{later_nil, later_add}
 use Rattle.body.proofs.Same.{fewer, slot_ok_agree, slots_agree}
 use Rattle.record.proofs.Back.{same_record}
-use Rattle.packing.specs.Packing.{chosen_count, chosen, packed, flag}
-use Rattle.packing.proofs.Packed.{clash, none_cons, packed_records, packed_ok, packed_same, first_kept}
+use Rattle.packing.specs.Packing.{chosen, packed, flag}
+use Rattle.packing.proofs.Packed.{none_cons, packed_records, packed_ok, packed_same, first_kept}
 use Rattle.keeping.specs.Keeping.{keeps, keeps_from, keeps_at, kept_at, blanks, blanked_from, moved_from, moved}
 use Rattle.keeping.proofs.Laws.{keeps_more}
 

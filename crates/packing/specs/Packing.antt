@@ -1,6 +1,6 @@
 -- A body's slots packed by flags, one flag for each slot: 1 keeps it (document 02, Req 13: "moves the kept ones up in order"; Req 14: "the
 -- rest move up").
-use Rattle.std.specs.Prelude.{ℕ, zero, suc, ◌+◌, ◌-◌, ◌*◌, Bool, true, false, cond, List, [], ◌∷◌, ◌++◌, length, take, drop, replicate, eqb}
+use Rattle.std.specs.Prelude.{ℕ, suc, ◌+◌, ◌-◌, ◌*◌, Bool, cond, List, [], ◌∷◌, ◌++◌, length, take, drop, replicate, eqb}
 use Rattle.words.specs.Numbers.{put}
 use Rattle.record.specs.Slot.{slot_size}
 

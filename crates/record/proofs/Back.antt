@@ -1,16 +1,14 @@
 -- A record that is put at a place is read back there, and places that the put does not touch read as before.
-use Prim.Native.Nat.{ℕ, zero, suc, ◌+◌, ◌-◌, ◌*◌, ◌/◌, ◌%◌, ◌≤◌, ◌<◌}
-use mathlib.Core.Bool.{Bool, true, false, ◌&&◌}
+use Prim.Native.Nat.{ℕ, zero, suc, ◌+◌, ◌-◌, ◌*◌, ◌%◌, ◌≤◌, ◌<◌}
+use mathlib.Core.Bool.{true}
 use mathlib.Core.List.{List, [], ◌∷◌, ◌++◌}
 use mathlib.Core.Path.{◌≡◌, refl, sym, ap, ◌∙◌}
 use native.Mathlib.Omega.{arith}
 use native.Mathlib.Nat.{add-zero, zero-add, not-suc-le-zero, mod-eq_of_lt}
-use lib.ListN.{length, take, drop, get_or, length-append, get_or-append}
+use lib.ListN.{length, get_or, length-append, get_or-append}
 use lib.Seq.{ext_get_or, get_or-append-add}
-use lib.Dec.{eqb}
-use Rattle.words.specs.Numbers.{put, be2, be4, be8, bytes2, bytes4, bytes8}
+use Rattle.words.specs.Numbers.{put, be2, be4, be8, bytes8}
 use Rattle.words.proofs.Laws.{Agree, on, at_it, same2, same4, same8, be2_bytes, be4_bytes, be8_bytes, get_before, get_in, get_after}
-use Rattle.calendar.specs.declared.Date.{Date}
 use Rattle.record.specs.Slot.{slot_size, record_at, record_bytes, rest_zero, slot_head, flat8, eight_at, be8s, date_at}
 use Rattle.record.specs.declared.Record.{Record}
 use Rattle.record.proofs.Laws.{length_flat8, length_head}

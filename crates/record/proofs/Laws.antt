@@ -1,15 +1,15 @@
 -- Laws of a slot's bytes and of a key, which the proofs of this crate and of the crates above cite.
-use Prim.Native.Nat.{ℕ, zero, suc, ◌+◌, ◌-◌, ◌*◌, ◌≤◌, ◌<◌}
-use mathlib.Core.Bool.{Bool, true, false, ◌&&◌, and-false, and-true}
+use Prim.Native.Nat.{ℕ, ◌+◌, ◌-◌, ◌*◌, ◌≤◌, ◌<◌}
+use mathlib.Core.Bool.{false, ◌&&◌, and-false, and-true}
 use mathlib.Core.List.{List, [], ◌∷◌, ◌++◌, append_assoc, append-nil}
 use mathlib.Core.Path.{◌≡◌, refl, sym, ap, ◌∙◌}
 use native.Mathlib.Omega.{arith}
 use native.Mathlib.Numerals.{add-one}
-use lib.ListN.{length, take, drop, get_or, length-append}
+use lib.ListN.{length, take, get_or, length-append}
 use lib.Seq.{take-suc, take-length, length-take-le}
 use lib.Dec.{eqb}
 use borrow.Author.Tests.{eq-eqb, ne_eqb}
-use Rattle.words.specs.Numbers.{put, bytes2, bytes4, bytes8}
+use Rattle.words.specs.Numbers.{put, bytes8}
 use Rattle.words.proofs.Laws.{put_put}
 use Rattle.record.specs.Slot.{slot_size, key_is, flat8, slot_head, record_bytes}
 use Rattle.record.specs.declared.Record.{Record}

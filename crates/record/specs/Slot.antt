@@ -1,5 +1,5 @@
 -- A slot (document 01, "The table"): the record that its 96 bytes hold, and the bytes of a record.
-use Rattle.std.specs.Prelude.{ℕ, zero, suc, ◌+◌, ◌%◌, Bool, true, false, ◌&&◌, List, [], ◌∷◌, ◌++◌, length, get_or, set, eqb}
+use Rattle.std.specs.Prelude.{ℕ, ◌+◌, ◌%◌, Bool, ◌&&◌, List, [], ◌∷◌, ◌++◌, get_or, set, eqb}
 use Rattle.words.specs.Numbers.{be2, be4, be8, bytes2, bytes4, bytes8}
 use Rattle.calendar.specs.declared.Date.{Date}
 use Rattle.record.specs.declared.Record.{Record}

@@ -1,7 +1,7 @@
 -- WHAT A REPLACEMENT ORDER BRINGS IN AND GIVES UP, by the order alone: of a kind the same cents; of a kind in some years, what comes from other years and
 -- goes to them; of one line at most one.
-use Prim.Native.Nat.{ℕ, zero, suc, ◌+◌, ◌≤◌, ◌<◌}
-use mathlib.Core.Path.{◌≡◌, refl, sym, ap, ◌∙◌}
+use Prim.Native.Nat.{ℕ, suc, ◌+◌, ◌≤◌, ◌<◌}
+use mathlib.Core.Path.{◌≡◌, refl, ap}
 use mathlib.Core.Bool.{Bool, true, false, cond, not, ◌&&◌}
 use mathlib.Core.List.{List, [], ◌∷◌}
 use native.Mathlib.Omega.{arith}
@@ -14,7 +14,7 @@ use Rattle.codes.specs.declared.Operation.{Operation}
 use Rattle.codes.specs.declared.Operation.TheVariants.{Inserimento, Variazione, Annullo, Sostituzione}
 use Rattle.replacing.specs.Replacing.{namings, namings_of}
 use Rattle.rules.specs.Rules.{key_for}
-use Rattle.rules.specs.Worth.{Which, Value, Years, of_kind, of_kind_in, its_cents, with_key, on_line, is_replacement, lines_worth, brought_by, named_worth, given_by, naming_years, come_by, gone_by}
+use Rattle.rules.specs.Worth.{Years, of_kind, of_kind_in, its_cents, with_key, on_line, is_replacement, lines_worth, brought_by, named_worth, given_by, naming_years, come_by, gone_by}
 
 -- a law of replacements is one of all orders: the others bring in and give up nothing
 when : (u : Bool) (a b c d : ℕ) → a + b ≡ c + d → cond u a 0 + cond u b 0 ≡ cond u c 0 + cond u d 0

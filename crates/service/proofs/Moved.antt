@@ -7,14 +7,14 @@ use mathlib.Core.Path.{◌≡◌, refl, sym, ap, ◌∙◌}
 use native.Mathlib.Omega.{arith}
 use lib.ListN.{length}
 use Rattle.words.specs.Numbers.{put}
-use Rattle.words.proofs.Laws.{Agree, on, length_put}
+use Rattle.words.proofs.Laws.{Agree, length_put}
 use Rattle.record.specs.declared.Record.{Record}
 use Rattle.record.specs.declared.Key.{Key}
 use Rattle.record.specs.Slot.{slot_size, record_at, with_state}
 use Rattle.record.proofs.Back.{agree_before, agree_after}
 use Rattle.slots.specs.Slots.{records_at, find_in, nth, state_place}
 use Rattle.slots.proofs.Held.{Held, search_held}
-use Rattle.entries.specs.Entry.{entry_size, entry_fixed, closed_place, kept, kept_bytes}
+use Rattle.entries.specs.Entry.{entry_size, entry_fixed, kept, kept_bytes}
 use Rattle.ranges.specs.declared.Found.TheVariants.{At}
 use Rattle.body.specs.Body.{body_ok, cents_of}
 use Rattle.body.proofs.Laws.{cents_most}

@@ -1,10 +1,10 @@
 -- HOW MANY RECORDS HAVE A KEY: at most one, and none goes; so of one line at most one is held. An order with a new key adds one; another order and a notice leave the keys as they are.
-use Prim.Native.Nat.{ℕ, zero, suc, ◌+◌, ◌-◌, ◌≤◌, ◌<◌}
+use Prim.Native.Nat.{ℕ, zero, suc, ◌+◌, ◌-◌, ◌≤◌}
 use mathlib.Core.Path.{◌≡◌, refl, sym, ap, ◌∙◌}
 use mathlib.Core.Bool.{Bool, true, false, cond}
 use mathlib.Core.List.{List, [], ◌∷◌, ◌++◌}
 use native.Mathlib.Omega.{arith}
-use lib.ListN.{length, set}
+use lib.ListN.{set}
 use lib.Dec.{eqb}
 use borrow.Author.Tests.{eqb-true}
 use Rattle.scan.proofs.Laws.{both}
@@ -29,7 +29,7 @@ use Rattle.rules.specs.declared.Ruling.TheVariants.{Accepted, Refused}
 use Rattle.rules.specs.declared.Noticed.{Noticed}
 use Rattle.rules.specs.declared.Noticed.TheVariants.{Moved, Unmoved}
 use Rattle.rules.specs.Rules.{change_of, key_for, judge_order, written, moved_to}
-use Rattle.rules.specs.Effects.{stored_at, records_by, records_moved}
+use Rattle.rules.specs.Effects.{records_by, records_moved}
 use Rattle.rules.proofs.Judging.{Stands, inserting, replacing, varying, annulling, accepted, accepted_change}
 use Rattle.rules.specs.Worth.{States, worth_in, worth_of, with_key, on_line}
 use Rattle.service.proofs.Brought.{opens, new_with}

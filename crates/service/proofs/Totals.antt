@@ -1,10 +1,10 @@
 -- The totals that a body's entry keeps: what settles them, and what a call on the body leaves of its table.
-use Prim.Native.Nat.{ℕ, ◌+◌, ◌-◌, ◌*◌, ◌≤◌, ◌<◌}
-use mathlib.Core.Bool.{Bool, true, false, ◌&&◌, cond}
-use mathlib.Core.List.{List, ◌++◌}
-use mathlib.Core.Path.{◌≡◌, refl, sym, ap, ◌∙◌}
+use Prim.Native.Nat.{ℕ, ◌+◌, ◌-◌, ◌*◌, ◌≤◌}
+use mathlib.Core.Bool.{Bool, true, false, ◌&&◌}
+use mathlib.Core.List.{List}
+use mathlib.Core.Path.{◌≡◌, sym, ap, ◌∙◌}
 use native.Mathlib.Omega.{arith}
-use lib.ListN.{length, length-append}
+use lib.ListN.{length}
 use lib.Dec.{eqb}
 use borrow.Author.Tests.{eqb-true, eq-eqb}
 use Rattle.scan.proofs.Laws.{both}
@@ -13,7 +13,7 @@ use Rattle.words.proofs.Laws.{Agree, on, same8, round8, put_put, length_put}
 use Rattle.record.specs.declared.Key.{Key}
 use Rattle.record.specs.declared.Record.{Record}
 use Rattle.record.specs.Slot.{slot_size}
-use Rattle.record.proofs.Back.{agree_before, agree_after}
+use Rattle.record.proofs.Back.{agree_before}
 use Rattle.slots.specs.Slots.{records_at, nth}
 use Rattle.body.specs.Body.{body_ok, cents_of}
 use Rattle.entries.specs.Entry.{entry_size, entry_fixed, closed_place, kept, kept_bytes}
@@ -22,7 +22,6 @@ use Rattle.valid.proofs.Valid.{Valid}
 use Rattle.rules.specs.declared.Noticed.TheVariants.{Moved}
 use Rattle.rules.specs.Rules.{judge_notice}
 use Rattle.rules.specs.Effects.{records_moved}
-use Rattle.service.specs.Service.{settled}
 use Rattle.service.specs.Inner.{sum_moved, Movable, its, kept_moved}
 use Rattle.service.proofs.Worth.{execute_cash, reverse_cash}
 use Rattle.service.proofs.Kept.{Kept}

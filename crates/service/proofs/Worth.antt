@@ -31,7 +31,7 @@ use Rattle.rules.specs.declared.Ruling.TheVariants.{Accepted, Refused}
 use Rattle.ranges.specs.declared.Found.TheVariants.{At}
 use Rattle.rules.specs.declared.Noticed.TheVariants.{Moved}
 use Rattle.rules.specs.Rules.{change_of, was_executed, any_executed, key_for, eight_places, amounts_of, judge_order, written, line_moves, moved_to, judge_notice}
-use Rattle.rules.specs.Effects.{stored_at, besides, records_by, records_moved}
+use Rattle.rules.specs.Effects.{stored_at, records_by, records_moved}
 use Rattle.rules.proofs.Judging.{Stands, inserting, replacing, varying, annulling, accepted, accepted_change, Moves, moved}
 use Rattle.rules.proofs.Kept.{waiting_all}
 use Rattle.rules.specs.Worth.{Which, States, Value, worth_in, worth_of, are_executed, worth, are_held, of_kind, its_cents, on_line, is_replacement, lines_worth, brought_by, named_worth, given_by}

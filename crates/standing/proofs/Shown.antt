@@ -1,6 +1,6 @@
 -- The first field that breaks is shown by its place.
 use mathlib.Core.Path.{◌≡◌, refl, sym, ap, ◌∙◌}
-use mathlib.Core.List.{List, [], ◌∷◌, ◌++◌}
+use mathlib.Core.List.{List, [], ◌∷◌}
 use Prim.Native.Nat.{ℕ, zero, suc, ◌+◌, ◌-◌}
 use native.Mathlib.Omega.{arith}
 use lib.ListN.{length}
@@ -28,7 +28,7 @@ use Rattle.rows.specs.declared.Kept.{Kept}
 use Rattle.schema.specs.Table.{table, spot_in}
 use Rattle.rows.specs.Kept.{keep_one, keep, kept_from}
 use Rattle.rows.specs.Replaces.{rows_for}
-use Rattle.standing.specs.Readings.{Field, Bad, Place, Nowhere, text_of, fields_in, fields_by, fields_at, bad_or, first_bad}
+use Rattle.standing.specs.Readings.{Bad, Place, Nowhere, text_of, fields_in, fields_by, fields_at, bad_or, first_bad}
 use Rattle.standing.specs.Shown.{Shown}
 use Rattle.standing.proofs.Readings.{or_bad, bad_append}
 

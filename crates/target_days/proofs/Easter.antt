@@ -1,16 +1,15 @@
 -- Easter Sunday by the definition and by the published rules: the same in every year of 2000 to 2099, by computing.
-use mathlib.Core.Path.{◌≡◌, refl, sym, ap, ◌∙◌}
+use mathlib.Core.Path.{◌≡◌, refl, ap, ◌∙◌}
 use mathlib.Core.Bool.{Bool, true, false, not, ◌&&◌, ◌||◌}
 use Prim.Native.Nat.{ℕ, zero, suc, ◌+◌, ◌-◌, ◌*◌, ◌/◌, ◌%◌, ◌≤◌, ◌<◌}
 use native.Mathlib.Omega.{arith}
 use lib.Dec.{T, leb, eqb, eqb→eq, leb→le}
-use borrow.Author.Tests.{eq-eqb, eqb-true, eqb-false}
-use lib.ListN.{get_or}
+use borrow.Author.Tests.{eqb-true, eqb-false}
 use Rattle.calendar.specs.Calendar.{leap, month_length}
 use Rattle.days.specs.Days.{length_at, month_start, month_of, day_number, weekday, date_by}
 use Rattle.days.proofs.Table.{TBoth, all_starts, each_start}
 use Rattle.target_days.specs.Easter.{paschal, full_moon, sunday_after, easter}
-use Rattle.target_days.specs.Published.{moon_of_epact, moon_by_epact, butcher_end, butcher_mid, butcher, FirstSunday, Agreed, AllAgreed}
+use Rattle.target_days.specs.Published.{moon_of_epact, moon_by_epact, butcher_end, butcher_mid, butcher, FirstSunday, AllAgreed}
 
 -- THE FIRST SUNDAY AFTER the full moon
 pub first_sunday : (s moon : ℕ) → 1 ≤ moon → FirstSunday s moon (sunday_after s moon)

@@ -1,6 +1,5 @@
 -- Days known from outside: Easter Sundays, and the closing days of 2021.
 use mathlib.Core.Path.{◌≡◌, refl}
-use Prim.Native.Nat.{ℕ}
 use Rattle.calendar.specs.Calendar.{leap, month_length, is_date}
 use Rattle.days.specs.Days.{length_at, month_start, month_of, day_number, weekday, date_by, next_day, served}
 use Rattle.target_days.specs.Easter.{paschal, full_moon, sunday_after, easter}

@@ -1,6 +1,6 @@
 -- The markup's smallest parts (document 01, "The markup"): names, white space, text, an end tag. A reader answers `Past` the position after what
 -- it has read, or `Broken` at the place where it breaks.
-use Rattle.std.specs.Prelude.{ℕ, zero, suc, ◌+◌, ◌-◌, List, [], ◌∷◌, Bool, true, false, cond, not, ◌&&◌, ◌||◌, length, leb, eqb}
+use Rattle.std.specs.Prelude.{ℕ, zero, suc, ◌+◌, ◌-◌, List, Bool, cond, not, ◌&&◌, length, leb, eqb}
 use Rattle.scan.specs.Bytes.{bytes, byte, byte_at, part, between, is_letter, is_name_byte, is_white, run_end, has_at}
 use Rattle.scan.specs.Characters.{char_at}
 use Rattle.scan.specs.References.{ref_at}

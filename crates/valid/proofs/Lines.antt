@@ -4,7 +4,6 @@ use mathlib.Core.Bool.{Bool, true, false, ◌&&◌, cond, and-false, and-true, a
 use mathlib.Core.List.{List}
 use mathlib.Core.Path.{◌≡◌, refl, sym, ap, ◌∙◌}
 use native.Mathlib.Omega.{arith}
-use native.Mathlib.Nat.{add-zero}
 use lib.ListN.{length, get_or, drop, drop_of_length-le}
 use lib.Dec.{eqb, leb}
 use borrow.Author.Tests.{lt-ltb, le-ltb, le-leb, eqb-true}
@@ -13,7 +12,7 @@ use Rattle.scan.proofs.Laws.{both}
 use Rattle.bounds.specs.Bounds.{max_cents}
 use Rattle.calendar.specs.Calendar.{is_date}
 use Rattle.words.specs.Numbers.{be8}
-use Rattle.record.specs.Slot.{states_offset, amounts_offset, eight_at, be8s, record_at}
+use Rattle.record.specs.Slot.{record_at}
 use Rattle.record.proofs.Back.{eight_at_lem, be8s_at}
 use Rattle.record.specs.declared.Record.{Record}
 use Rattle.valid.specs.Valid.{line_there, line_absent, line_ok, all_from, sum, ranges_ok, record_ok, executed_in, executed}

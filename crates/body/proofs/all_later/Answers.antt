@@ -4,9 +4,6 @@ use native.Mathlib.Omega.{arith}
 use Rattle.slots.specs.Slots.{slots_at}
 use Rattle.slots.proofs.Laws.{used_le}
 use Rattle.body.specs.Body.{all_later}
-use borrow.Author.Rules.{rules}
-use Rattle.body.proofs.slots_later.Reads as slots-later-reads
-use Rattle.slots.proofs.used_slots.Reads as used-slots-reads
 use Rattle.body.proofs.all_later.Goals as goal
 
 pub slots_later-requires : goal.slots_later-requires

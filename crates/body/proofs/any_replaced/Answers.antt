@@ -1,8 +1,6 @@
-use Prim.Native.Nat.{◌≤◌, ◌-◌}
-use mathlib.Core.Path.{◌≡◌, refl, sym, ◌∙◌}
+use Prim.Native.Nat.{◌-◌}
+use mathlib.Core.Path.{refl, sym, ◌∙◌}
 use native.Mathlib.Omega.{arith}
-use lib.ListN.{length, drop}
-use Rattle.body.specs.Body.{any_replaced}
 use Rattle.body.proofs.Replaced.{replaced_here, replaced_later, replaced_none}
 use Rattle.body.proofs.any_replaced.Goals as goal
 

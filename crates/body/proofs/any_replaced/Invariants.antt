@@ -1,9 +1,7 @@
 use Prim.Native.Nat.{◌≤◌, ◌-◌}
-use mathlib.Core.Path.{◌≡◌, refl, sym, ◌∙◌}
-use native.Mathlib.Omega.{arith}
+use mathlib.Core.Path.{◌≡◌}
 use lib.ListN.{length, drop}
 use Rattle.body.specs.Body.{any_replaced}
-use Rattle.body.proofs.Replaced.{replaced_here, replaced_later, replaced_none}
 use Rattle.body.proofs.any_replaced.Given as goal
 
 abbrev pub invariant-loop-i : goal.invariant-loop-i

@@ -1,7 +1,6 @@
 use mathlib.Core.Path.{sym, ◌∙◌}
 use borrow.Author.Tests.{not-true, not-false}
 use Rattle.body.proofs.Laws.{slot_broken, slot_told}
-use borrow.Author.Rules.{rules}
 use Rattle.body.proofs.judge_slot.Goals as goal
 
 pub returns-then-not-rest_zero : goal.returns-then-not-rest_zero

@@ -1,7 +1,6 @@
-use borrow.Author.Rules.{rules}
-use mathlib.Core.Path.{◌≡◌, refl, sym, ◌∙◌}
+use mathlib.Core.Path.{refl, sym, ◌∙◌}
 use native.Mathlib.Omega.{arith}
-use Rattle.body.proofs.Laws.{Sofar, sofar_broken, its_most, sofar_more, sofar_done}
+use Rattle.body.proofs.Laws.{sofar_broken, its_most, sofar_more, sofar_done}
 use Rattle.body.proofs.judge_slots.Goals as goal
 
 pub loop-left-init : goal.loop-left-init

@@ -1,7 +1,4 @@
-use borrow.Author.Rules.{rules}
-use mathlib.Core.Path.{◌≡◌, refl, sym, ◌∙◌}
-use native.Mathlib.Omega.{arith}
-use Rattle.body.proofs.Laws.{Sofar, sofar_broken, its_most, sofar_more, sofar_done}
+use Rattle.body.proofs.Laws.{Sofar}
 use Rattle.body.proofs.judge_slots.Given as goal
 
 abbrev pub invariant-loop-left : goal.invariant-loop-left

@@ -4,9 +4,6 @@ use native.Mathlib.Omega.{arith}
 use Rattle.slots.specs.Slots.{slots_at}
 use Rattle.slots.proofs.Laws.{used_le}
 use Rattle.body.specs.Body.{none_replaced}
-use borrow.Author.Rules.{rules}
-use Rattle.body.proofs.slots_unreplaced.Reads as slots-unreplaced-reads
-use Rattle.slots.proofs.used_slots.Reads as used-slots-reads
 use Rattle.body.proofs.none_replaced.Goals as goal
 
 pub slots_unreplaced-requires : goal.slots_unreplaced-requires

@@ -1,12 +1,7 @@
-use Prim.Native.Nat.{◌+◌, ◌-◌, ◌*◌, ◌≤◌}
-use mathlib.Core.Path.{◌≡◌, refl, sym, ◌∙◌}
+use Prim.Native.Nat.{◌-◌}
+use mathlib.Core.Path.{refl, sym, ◌∙◌}
 use native.Mathlib.Omega.{arith}
-use Rattle.record.specs.Slot.{slot_size}
-use Rattle.slots.specs.Slots.{slots_at}
-use Rattle.body.specs.Body.{all_later}
 use Rattle.body.proofs.Later.{not_later, later_on, later_end}
-use borrow.Author.Rules.{rules}
-use Rattle.words.proofs.read2.Reads as read2-reads
 use Rattle.body.proofs.slots_later.Goals as goal
 
 pub loop-left-init : goal.loop-left-init

@@ -1,13 +1,7 @@
-use Prim.Native.Nat.{◌+◌, ◌-◌, ◌*◌, ◌≤◌}
-use mathlib.Core.Path.{◌≡◌, refl, sym, ◌∙◌}
+use Prim.Native.Nat.{◌-◌}
+use mathlib.Core.Path.{refl, sym, ◌∙◌}
 use native.Mathlib.Omega.{arith}
-use Rattle.record.specs.Slot.{slot_size}
-use Rattle.slots.specs.Slots.{slots_at}
-use Rattle.body.specs.Body.{none_replaced}
 use Rattle.body.proofs.Replaced.{some_first, none_later, none_end}
-use borrow.Author.Rules.{rules}
-use Rattle.body.proofs.any_replaced.Reads as any-replaced-reads
-use Rattle.record.proofs.record_at.Reads as record-at-reads
 use Rattle.body.proofs.slots_unreplaced.Goals as goal
 
 pub loop-left-init : goal.loop-left-init

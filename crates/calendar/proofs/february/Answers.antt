@@ -1,7 +1,6 @@
 use mathlib.Core.Path.{◌≡◌, sym, ◌∙◌}
 use mathlib.Core.Bool.{true, false}
 use Rattle.calendar.specs.Calendar.{leap, month_length}
-use borrow.Author.Rules.{rules}
 use Rattle.calendar.proofs.february.Goals as goal
 
 pub returns-then-is_leap : goal.returns-then-is_leap

@@ -2,8 +2,6 @@ use native.Mathlib.Omega.{arith}
 use borrow.Author.Tests.{le-leb, lt-leb}
 use Rattle.calendar.specs.Calendar.{month_length, is_date}
 use Rattle.calendar.proofs.Laws.{month_at_least}
-use borrow.Author.Rules.{rules}
-use Rattle.calendar.proofs.month_length.Reads as month-length-reads
 use Rattle.calendar.proofs.is_date.Goals as goal
 
 pub returns-then-d-lt-FIRST_YEAR : goal.returns-then-d-lt-FIRST_YEAR

@@ -1,17 +1,10 @@
-use mathlib.Core.Path.{◌≡◌, sym, ◌∙◌}
-use Prim.Native.Nat.{◌+◌, ◌<◌}
+use mathlib.Core.Path.{sym, ◌∙◌}
 use native.Mathlib.Omega.{arith}
 use borrow.Author.Tests.{eq-eqb}
-use lib.ListN.{length}
-use Rattle.scan.specs.declared.Walk.TheVariants.{Past}
-use Rattle.scan.specs.Bytes.{byte_at}
 use Rattle.scan.proofs.Laws.{stands}
-use Rattle.tokens.specs.Tokens.{name_at, end_tag_at}
 use Rattle.tokens.proofs.Laws.{name_past, end_past}
-use Rattle.markup.specs.Markup.{content_at}
 use Rattle.markup.proofs.Laws.{content_at_past}
 use Rattle.children.proofs.Laws.{child_none, child_no_name, child_no_gt, child_no_content, child_no_end, child_one}
-use borrow.Author.Rules.{rules}
 use Rattle.children.proofs.child_alone.Goals as goal
 
 pub returns-then-byte-ne60 : goal.returns-then-byte-ne60

@@ -4,7 +4,6 @@ use Rattle.scan.specs.Bytes.{byte_at}
 use Rattle.children.specs.declared.Step.TheVariants.{One}
 use Rattle.children.proofs.Laws.{child_none}
 use Rattle.children.proofs.Whole.{child_noted}
-use borrow.Author.Rules.{rules}
 use Rattle.children.proofs.child_at.Goals as goal
 
 pub returns-then-byte-ne60 : goal.returns-then-byte-ne60

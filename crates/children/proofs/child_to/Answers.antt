@@ -1,4 +1,3 @@
-use borrow.Author.Rules.{rules}
 use Rattle.children.proofs.child_to.Goals as goal
 
 pub returns : goal.returns

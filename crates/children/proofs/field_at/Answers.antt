@@ -3,8 +3,6 @@ use native.Mathlib.Omega.{arith}
 use Rattle.children.specs.declared.Step.TheVariants.{One}
 use Rattle.children.specs.Child.{child_at}
 use Rattle.children.proofs.Laws.{child_lies, child_beyond, field_none, field_one}
-use borrow.Author.Rules.{rules}
-use Rattle.children.proofs.child_alone.Reads as child-alone-reads
 use Rattle.children.proofs.field_at.Goals as goal
 
 pub returns-then-s-place : goal.returns-then-s-place

@@ -1,8 +1,5 @@
-use mathlib.Core.Path.{refl}
 use native.Mathlib.Omega.{arith}
 use Rattle.children.proofs.Laws.{field_within}
-use borrow.Author.Rules.{rules}
-use Rattle.children.proofs.field_at.Reads as field-at-reads
 use Rattle.children.proofs.text_at.Goals as goal
 
 pub overflow_add-e : goal.overflow_add-e

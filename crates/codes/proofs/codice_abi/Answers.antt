@@ -2,7 +2,6 @@ use mathlib.Core.Path.{◌∙◌}
 use lib.ListN.{length}
 use borrow.Author.Tests.{eq-eqb, ne_eqb}
 use Rattle.codes.specs.Codes.{codice_abi}
-use borrow.Author.Rules.{rules}
 use Rattle.codes.proofs.Laws.{all_whole}
 use Rattle.codes.proofs.codice_abi.Goals as goal
 

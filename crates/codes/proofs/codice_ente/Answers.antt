@@ -2,7 +2,6 @@ use mathlib.Core.Path.{◌∙◌}
 use lib.ListN.{length}
 use borrow.Author.Tests.{le-leb, lt-leb}
 use Rattle.codes.specs.Codes.{codice_ente}
-use borrow.Author.Rules.{rules}
 use Rattle.codes.proofs.Laws.{all_whole}
 use Rattle.codes.proofs.codice_ente.Goals as goal
 

@@ -1,5 +1,4 @@
 use Rattle.codes.specs.Codes.{esito_operazione}
-use borrow.Author.Rules.{rules}
 use Rattle.codes.proofs.esito_operazione.Goals as goal
 
 pub returns : goal.returns

@@ -2,7 +2,6 @@ use mathlib.Core.Path.{◌∙◌}
 use lib.ListN.{length}
 use borrow.Author.Tests.{le-leb, lt-leb}
 use Rattle.codes.specs.Codes.{identificativo}
-use borrow.Author.Rules.{rules}
 use Rattle.codes.proofs.Laws.{all_whole}
 use Rattle.codes.proofs.identificativo_flusso.Goals as goal
 

@@ -1,4 +1,3 @@
-use borrow.Author.Rules.{rules}
 use Rattle.codes.proofs.refused_esito.Goals as goal
 
 pub returns-in-Operazione : goal.returns-in-Operazione

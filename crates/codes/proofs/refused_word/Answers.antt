@@ -1,7 +1,6 @@
 use mathlib.Core.Path.{refl, sym}
 use Rattle.codes.specs.Codes.{refused_word}
 use Rattle.scan.proofs.Laws.{then_is, else_is}
-use borrow.Author.Rules.{rules}
 use Rattle.codes.proofs.refused_word.Goals as goal
 
 pub returns-then-same : goal.returns-then-same

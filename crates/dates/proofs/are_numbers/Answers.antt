@@ -2,7 +2,6 @@ use mathlib.Core.Path.{◌≡◌, sym, ◌∙◌}
 use mathlib.Core.Bool.{true, false}
 use borrow.Author.Tests.{not-true, not-false}
 use Rattle.digits.specs.Digits.{is_value}
-use borrow.Author.Rules.{rules}
 use Rattle.dates.proofs.are_numbers.Goals as goal
 
 pub returns-then-not-is_value : goal.returns-then-not-is_value

@@ -1,6 +1,5 @@
 use borrow.Author.Tests.{le-leb, lt-leb}
 use Rattle.dates.specs.Dates.{clock}
-use borrow.Author.Rules.{rules}
 use Rattle.dates.proofs.clock_stands.Goals as goal
 
 pub returns-in_default : goal.returns-in_default

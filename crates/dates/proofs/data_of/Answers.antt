@@ -1,4 +1,3 @@
-use borrow.Author.Rules.{rules}
 use mathlib.Core.Path.{ap, ◌∙◌}
 use Rattle.dates.specs.Dates.{real, data_of}
 use Rattle.dates.proofs.data_of.Goals as goal

@@ -1,7 +1,6 @@
 use mathlib.Core.Path.{◌≡◌, sym, ap, ◌∙◌}
 use mathlib.Core.Bool.{true, false}
 use native.Mathlib.Omega.{arith}
-use borrow.Author.Rules.{rules}
 use borrow.Author.Tests.{not-true, not-false}
 use Rattle.dates.specs.Dates.{data_written, is_on, signs, date_in}
 use Rattle.dates.proofs.Laws.{seen_19, written_no_signs, written_no_day, written_time}

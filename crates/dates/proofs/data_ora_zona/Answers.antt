@@ -1,12 +1,7 @@
 use mathlib.Core.Path.{sym, ◌∙◌}
-use native.Mathlib.Omega.{arith}
-use lib.ListN.{length, length-take}
 use borrow.Author.Tests.{not-true, not-false}
-use Rattle.dates.specs.Dates.{before_zone, data_ora_zona}
+use Rattle.dates.specs.Dates.{data_ora_zona}
 use Rattle.dates.proofs.Laws.{short_ora}
-use borrow.Author.Rules.{rules}
-use Rattle.dates.proofs.data_ora.Reads as data-ora-reads
-use Rattle.dates.proofs.zona_of.Reads as zona-of-reads
 use Rattle.dates.proofs.data_ora_zona.Goals as goal
 
 pub returns-then-n-lt19 : goal.returns-then-n-lt19

@@ -1,12 +1,7 @@
 use mathlib.Core.Path.{sym, ◌∙◌}
-use native.Mathlib.Omega.{arith}
-use lib.ListN.{length, length-take}
 use borrow.Author.Tests.{not-true, not-false}
-use Rattle.dates.specs.Dates.{before_zone, data_ora_zona_written}
+use Rattle.dates.specs.Dates.{data_ora_zona_written}
 use Rattle.dates.proofs.Laws.{short_written}
-use borrow.Author.Rules.{rules}
-use Rattle.dates.proofs.data_ora_written.Reads as data-ora-written-reads
-use Rattle.dates.proofs.zona_written.Reads as zona-written-reads
 use Rattle.dates.proofs.data_ora_zona_written.Goals as goal
 
 pub returns-then-n-lt19 : goal.returns-then-n-lt19

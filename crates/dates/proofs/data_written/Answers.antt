@@ -1,6 +1,5 @@
 use mathlib.Core.Path.{sym, ◌∙◌}
 use Rattle.dates.proofs.Laws.{data_length, data_no_first, data_no_second, data_day}
-use borrow.Author.Rules.{rules}
 use Rattle.dates.proofs.data_written.Goals as goal
 
 pub returns-then-t-ne10 : goal.returns-then-t-ne10

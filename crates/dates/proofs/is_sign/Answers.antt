@@ -1,6 +1,4 @@
-use Prim.Native.Nat.{ℕ}
 use borrow.Author.Tests.{eq-eqb, ne_eqb}
-use Rattle.dates.specs.Dates.{is_sign}
 use Rattle.dates.proofs.is_sign.Goals as goal
 
 pub returns-then-b-eq43 : goal.returns-then-b-eq43

@@ -1,6 +1,5 @@
 use mathlib.Core.Path.{refl, sym}
 use Rattle.scan.proofs.Laws.{then_is, else_is}
-use borrow.Author.Rules.{rules}
 use Rattle.dates.proofs.on_date.Goals as goal
 
 pub returns-then-is_date : goal.returns-then-is_date

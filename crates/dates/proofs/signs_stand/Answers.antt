@@ -1,6 +1,5 @@
 use mathlib.Core.Path.{sym}
 use Rattle.dates.proofs.Laws.{signs_length, signs_no_t, signs_no_colon, signs_last}
-use borrow.Author.Rules.{rules}
 use Rattle.dates.proofs.signs_stand.Goals as goal
 
 pub returns-then-t-ne19 : goal.returns-then-t-ne19

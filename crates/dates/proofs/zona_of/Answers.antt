@@ -3,11 +3,6 @@ use mathlib.Core.Path.{sym, ◌∙◌}
 use borrow.Author.Tests.{not-true, not-false}
 use Rattle.dates.specs.Dates.{clock}
 use Rattle.dates.proofs.Laws.{seen_6, zona_z, zona_no_signs, zona_time}
-use borrow.Author.Rules.{rules}
-use Rattle.dates.proofs.clock_stands.Reads as clock-stands-reads
-use Rattle.dates.proofs.zone_signs.Reads as zone-signs-reads
-use Rattle.digits.proofs.two_digits.Reads as two-digits-reads
-use Rattle.scan.proofs.same.Reads as same_Reads
 use Rattle.dates.proofs.zona_of.Goals as goal
 
 pub returns-then-same : goal.returns-then-same

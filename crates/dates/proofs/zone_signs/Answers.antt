@@ -1,8 +1,6 @@
 use mathlib.Core.Path.{sym, ◌∙◌}
 use borrow.Author.Tests.{not-true, not-false}
 use Rattle.dates.proofs.Laws.{zone_length, zone_no_sign, zone_colon}
-use borrow.Author.Rules.{rules}
-use Rattle.dates.proofs.is_sign.Reads as is-sign-reads
 use Rattle.dates.proofs.zone_signs.Goals as goal
 
 pub returns-then-z-ne6 : goal.returns-then-z-ne6

@@ -1,4 +1,4 @@
-use mathlib.Core.Path.{◌≡◌, sym, ap, ◌∙◌}
+use mathlib.Core.Path.{◌≡◌, sym, ◌∙◌}
 use mathlib.Core.Bool.{true}
 use native.Mathlib.Omega.{arith}
 use lib.IntN.{pos, ◌-ℤ◌}
@@ -6,7 +6,6 @@ use borrow.Author.Tests.{not-true, not-false}
 use Rattle.days.specs.Days.{served}
 use Rattle.days.proofs.Laws.{none_first, none_second, both_served, served_date, counted_date, counted_most}
 use Rattle.days.proofs.Signed.{difference_kept}
-use borrow.Author.Rules.{rules}
 use Rattle.days.proofs.between_dates.Goals as goal
 
 pub returns-then-not-is_served : goal.returns-then-not-is_served

@@ -1,6 +1,5 @@
 use native.Mathlib.Omega.{arith}
 use Rattle.days.proofs.Signed.{difference_fits, difference_is}
-use borrow.Author.Rules.{rules}
 use Rattle.days.proofs.difference.Goals as goal
 
 pub overflow_sub-result : goal.overflow_sub-result

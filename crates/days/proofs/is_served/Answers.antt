@@ -1,6 +1,5 @@
 use borrow.Author.Tests.{le-leb, lt-leb}
 use Rattle.days.specs.Days.{served}
-use borrow.Author.Rules.{rules}
 use Rattle.days.proofs.is_served.Goals as goal
 
 pub returns-then-d-lt2002 : goal.returns-then-d-lt2002

@@ -1,9 +1,8 @@
-use mathlib.Core.Path.{◌≡◌, refl, sym, ap, ◌∙◌}
+use mathlib.Core.Path.{◌≡◌, sym, ◌∙◌}
 use mathlib.Core.Bool.{true, false}
 use Rattle.calendar.specs.Calendar.{is_date}
 use Rattle.days.specs.Days.{counted}
 use Rattle.days.proofs.Laws.{counted_date}
-use borrow.Author.Rules.{rules}
 use Rattle.days.proofs.number_of.Goals as goal
 
 pub date_number-requires : goal.date_number-requires

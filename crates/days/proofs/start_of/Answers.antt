@@ -1,10 +1,7 @@
-use mathlib.Core.Path.{◌≡◌, refl, sym, ap, ◌∙◌}
-use borrow.Author.Rules.{rules}
-use native.Mathlib.Omega.{arith}
+use mathlib.Core.Path.{◌∙◌}
 use Rattle.calendar.specs.Calendar.{leap, month_length}
-use Rattle.days.specs.Days.{length_at, month_start}
+use Rattle.days.specs.Days.{length_at}
 use Rattle.days.proofs.Table.{starts, table_rule}
-use Rattle.days.proofs.wide.Reads as wide-reads
 use Rattle.days.proofs.start_of.Goals as goal
 
 pub returns : goal.returns

@@ -1,9 +1,6 @@
 use mathlib.Core.Path.{refl, sym}
 use Rattle.digits.specs.Digits.{codice_errore}
 use Rattle.scan.proofs.Laws.{then_is, else_is}
-use borrow.Author.Rules.{rules}
-use Rattle.digits.proofs.is_refusal.Reads as is-refusal-reads
-use Rattle.digits.proofs.digits_of.Reads as digits-of-reads
 use Rattle.digits.proofs.codice_errore.Goals as goal
 
 pub returns-in_default : goal.returns-in_default

@@ -1,13 +1,11 @@
-use mathlib.Core.Path.{◌≡◌, sym, ◌∙◌}
+use mathlib.Core.Path.{sym, ◌∙◌}
 use mathlib.Core.Bool.{true}
-use Prim.Native.Nat.{◌-◌, ◌≤◌, ◌<◌}
+use Prim.Native.Nat.{◌-◌}
 use native.Mathlib.Omega.{arith}
-use borrow.Author.Rules.{rules}
 use borrow.Author.Tests.{not-true, not-false}
-use lib.ListN.{length, get_or, drop}
+use lib.ListN.{get_or}
 use Rattle.scan.specs.Bytes.{is_digit}
-use Rattle.digits.specs.Digits.{digits, digits_after}
-use Rattle.digits.proofs.Laws.{p10, p10_zero, OneMore, one_more, digits_more, digits_not, digits_end, digits_short, digits_long, digits_within}
+use Rattle.digits.proofs.Laws.{p10_zero, OneMore, one_more, digits_more, digits_not, digits_end, digits_short, digits_long, digits_within}
 use Rattle.digits.proofs.digits_of.Goals as goal
 
 pub returns-then-t-lo : goal.returns-then-t-lo

@@ -1,13 +1,8 @@
-use mathlib.Core.Path.{◌≡◌, sym, ◌∙◌}
-use mathlib.Core.Bool.{true}
+use mathlib.Core.Path.{◌≡◌}
 use Prim.Native.Nat.{◌-◌, ◌≤◌, ◌<◌}
-use native.Mathlib.Omega.{arith}
-use borrow.Author.Rules.{rules}
-use borrow.Author.Tests.{not-true, not-false}
-use lib.ListN.{length, get_or, drop}
-use Rattle.scan.specs.Bytes.{is_digit}
+use lib.ListN.{length, drop}
 use Rattle.digits.specs.Digits.{digits, digits_after}
-use Rattle.digits.proofs.Laws.{p10, p10_zero, OneMore, one_more, digits_more, digits_not, digits_end, digits_short, digits_long, digits_within}
+use Rattle.digits.proofs.Laws.{p10}
 use Rattle.digits.proofs.digits_of.Given as goal
 
 abbrev pub invariant-loop-i : goal.invariant-loop-i

@@ -1,7 +1,6 @@
 use mathlib.Core.Path.{ap, ◌∙◌}
 use Rattle.bounds.specs.Bounds.{is_year}
 use Rattle.digits.specs.Digits.{within, esercizio}
-use borrow.Author.Rules.{rules}
 use Rattle.digits.proofs.esercizio_of.Goals as goal
 
 pub returns : goal.returns

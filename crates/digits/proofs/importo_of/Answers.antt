@@ -2,7 +2,6 @@ use mathlib.Core.Path.{◌≡◌, refl, sym, ◌∙◌}
 use native.Mathlib.Omega.{arith}
 use Rattle.digits.specs.declared.Number.TheVariants.{Value, NoNumber}
 use Rattle.digits.proofs.Laws.{whole, cents, digits_small, importo_short, importo_long, importo_no_point, importo_zero, importo_cents}
-use borrow.Author.Rules.{rules}
 use Rattle.digits.proofs.importo_of.Goals as goal
 
 pub returns-then-n-lt4 : goal.returns-then-n-lt4

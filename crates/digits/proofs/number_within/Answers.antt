@@ -1,5 +1,4 @@
 use borrow.Author.Tests.{le-leb, lt-leb}
-use borrow.Author.Rules.{rules}
 use Rattle.digits.proofs.number_within.Goals as goal
 
 pub returns-then-v-lo : goal.returns-then-v-lo

@@ -1,7 +1,6 @@
 use mathlib.Core.Path.{ap, ◌∙◌}
 use Rattle.bounds.specs.Bounds.{is_numero}
 use Rattle.digits.specs.Digits.{within, numero}
-use borrow.Author.Rules.{rules}
 use Rattle.digits.proofs.numero_of.Goals as goal
 
 pub returns : goal.returns

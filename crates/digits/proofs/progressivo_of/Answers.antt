@@ -1,5 +1,4 @@
 use Rattle.digits.specs.Digits.{progressivo}
-use borrow.Author.Rules.{rules}
 use Rattle.digits.proofs.progressivo_of.Goals as goal
 
 pub returns : goal.returns

@@ -2,7 +2,6 @@ use mathlib.Core.Path.{◌≡◌, sym, ◌∙◌}
 use borrow.Author.Tests.{eq-eqb, ne_eqb}
 use Rattle.scan.specs.Bytes.{byte_at}
 use Rattle.digits.specs.Inner.{zero_first}
-use borrow.Author.Rules.{rules}
 use Rattle.digits.proofs.zero_in_front.Goals as goal
 
 pub returns-then-byte-ne48 : goal.returns-then-byte-ne48

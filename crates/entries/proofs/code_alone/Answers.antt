@@ -4,10 +4,6 @@ use Rattle.scan.specs.Bytes.{part}
 use Rattle.ranges.specs.Ranges.{is_nothing}
 use Rattle.ranges.specs.declared.Found.{Found}
 use Rattle.entries.specs.Entry.{code_at, codes_from, find_code}
-use borrow.Author.Rules.{rules}
-use Rattle.entries.proofs.find_code.Reads as find-code-reads
-use Rattle.entries.proofs.wide.Reads as wide-reads
-use Rattle.ranges.proofs.is_nothing.Reads as is-nothing-reads
 use Rattle.entries.proofs.code_alone.Goals as goal
 
 pub returns : goal.returns

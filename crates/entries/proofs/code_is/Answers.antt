@@ -2,9 +2,6 @@ use mathlib.Core.Path.{ap, ◌∙◌}
 use Prim.Native.Nat.{ℕ, ◌+◌}
 use Rattle.scan.specs.Bytes.{part, text_is}
 use Rattle.entries.specs.Entry.{code_at}
-use borrow.Author.Rules.{rules}
-use Rattle.entries.proofs.wide.Reads as wide-reads
-use Rattle.scan.proofs.same.Reads as same_Reads
 use Rattle.entries.proofs.code_is.Goals as goal
 
 pub returns : goal.returns

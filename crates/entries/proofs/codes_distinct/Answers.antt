@@ -1,11 +1,8 @@
-use Prim.Native.Nat.{◌-◌, ◌+◌, ◌*◌}
-use mathlib.Core.Path.{◌≡◌, refl, sym, ◌∙◌}
-use mathlib.Core.Bool.{true}
+use Prim.Native.Nat.{◌-◌}
+use mathlib.Core.Path.{refl, sym, ◌∙◌}
 use native.Mathlib.Omega.{arith}
 use borrow.Author.Tests.{not-true, not-false}
-use Rattle.entries.specs.Entry.{forms_ok, codes_from, distinct_codes}
 use Rattle.entries.proofs.Laws.{times, form, forms_split, distinct_not, distinct_on, distinct_done}
-use Rattle.entries.proofs.code_alone.Reads as code-alone-reads
 use Rattle.entries.proofs.codes_distinct.Goals as goal
 
 pub loop-left-init : goal.loop-left-init

@@ -1,11 +1,9 @@
-use Prim.Native.Nat.{ℕ, suc, ◌≤◌, ◌<◌, ◌-◌, ◌+◌, ◌*◌}
+use Prim.Native.Nat.{ℕ, suc, ◌<◌, ◌-◌, ◌+◌}
 use mathlib.Core.Path.{◌≡◌, refl, sym, ◌∙◌}
 use mathlib.Core.Bool.{true}
 use native.Mathlib.Nat.{sub-zero}
 use native.Mathlib.Omega.{arith}
-use Rattle.entries.specs.Entry.{forms_ok, codes_from, find_code}
 use Rattle.entries.proofs.Laws.{times, form, forms_split, find_hit, find_on, find_done}
-use Rattle.entries.proofs.code_is.Reads as code-is-reads
 use Rattle.entries.proofs.find_code.Goals as goal
 
 more : (n i : ℕ) → i < n → n - i ≡ suc (n - (i + 1))

@@ -1,11 +1,6 @@
 use mathlib.Core.Path.{sym, ◌∙◌}
 use borrow.Author.Tests.{not-true, not-false}
 use Rattle.entries.proofs.Laws.{form_empty, form_long, form_code, form_pad, form_none, form_slots}
-use borrow.Author.Rules.{rules}
-use Rattle.entries.proofs.slots_of.Reads as slots-of-reads
-use Rattle.entries.proofs.wide.Reads as wide-reads
-use Rattle.ranges.proofs.are_of.Reads as are-of-reads
-use Rattle.ranges.proofs.are_zero.Reads as are-zero-reads
 use Rattle.entries.proofs.form_ok.Goals as goal
 
 pub returns-then-n-lt1 : goal.returns-then-n-lt1

@@ -1,10 +1,8 @@
-use Prim.Native.Nat.{◌-◌, ◌+◌, ◌*◌}
-use mathlib.Core.Path.{◌≡◌, refl, sym, ◌∙◌}
+use Prim.Native.Nat.{◌-◌}
+use mathlib.Core.Path.{refl, sym, ◌∙◌}
 use native.Mathlib.Omega.{arith}
 use borrow.Author.Tests.{not-true, not-false}
-use Rattle.entries.specs.Entry.{forms_ok}
 use Rattle.entries.proofs.Laws.{times, forms_not, forms_on, forms_done}
-use Rattle.entries.proofs.form_ok.Reads as form-ok-reads
 use Rattle.entries.proofs.forms_ok.Goals as goal
 
 pub loop-left-init : goal.loop-left-init

@@ -1,4 +1,3 @@
-use borrow.Author.Rules.{rules}
 use native.Mathlib.Omega.{arith}
 use Rattle.entries.proofs.Laws.{settled_by}
 use Rattle.entries.proofs.settle.Goals as goal

@@ -1,10 +1,6 @@
 use mathlib.Core.Path.{sym, ◌∙◌}
 use borrow.Author.Tests.{not-true, not-false}
 use Rattle.fields.proofs.Laws.{longer_by, cause_empty, cause_long, cause_form, cause_range}
-use borrow.Author.Rules.{rules}
-use Rattle.fields.proofs.is_formed.Reads as is-formed-reads
-use Rattle.fields.proofs.is_longer.Reads as is-longer-reads
-use Rattle.fields.proofs.longest_of.Reads as longest-of-reads
 use Rattle.fields.proofs.cause_of.Goals as goal
 
 pub returns-then-t-eq0 : goal.returns-then-t-eq0

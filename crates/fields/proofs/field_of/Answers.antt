@@ -1,5 +1,4 @@
 use Rattle.fields.proofs.Laws.{reading_some, none_breaks, reading_none}
-use borrow.Author.Rules.{rules}
 use Rattle.fields.proofs.field_of.Goals as goal
 
 pub cause_of-requires : goal.cause_of-requires

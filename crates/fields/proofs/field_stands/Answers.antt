@@ -1,6 +1,5 @@
-use mathlib.Core.Path.{sym, ◌∙◌}
+use mathlib.Core.Path.{sym}
 use Rattle.fields.proofs.Laws.{some_stands, none_breaks}
-use borrow.Author.Rules.{rules}
 use Rattle.fields.proofs.field_stands.Goals as goal
 
 pub returns-in-Some : goal.returns-in-Some

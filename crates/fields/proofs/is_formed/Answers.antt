@@ -4,15 +4,6 @@ use Rattle.dates.specs.Dates.{is_on}
 use Rattle.fields.specs.declared.Form.TheVariants.{CodiceAbi, Identificativo, CodiceEnte, TipoOperazione, Importo, Progressivo, Anagrafica, Testo, EsitoOperazione, Descrizione, Elemento}
 use Rattle.fields.specs.Causes.{formed, in_range}
 use Rattle.fields.proofs.Told.{broken_whole}
-use borrow.Author.Rules.{rules}
-use Rattle.dates.proofs.data_ora_written.Reads as data-ora-written-reads
-use Rattle.dates.proofs.data_ora_zona_written.Reads as data-ora-zona-written-reads
-use Rattle.dates.proofs.data_written.Reads as data-written-reads
-use Rattle.dates.proofs.is_on.Reads as is-on-reads
-use Rattle.digits.proofs.four_digits.Reads as four-digits-reads
-use Rattle.digits.proofs.is_value.Reads as is-value-reads
-use Rattle.digits.proofs.numero_written.Reads as numero-written-reads
-use Rattle.digits.proofs.two_digits.Reads as two-digits-reads
 use Rattle.fields.proofs.is_formed.Goals as goal
 
 pub returns-in-CodiceAbi : goal.returns-in-CodiceAbi

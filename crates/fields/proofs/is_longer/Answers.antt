@@ -1,4 +1,3 @@
-use borrow.Author.Rules.{rules}
 use Rattle.fields.proofs.is_longer.Goals as goal
 
 pub returns-in-Bytes : goal.returns-in-Bytes

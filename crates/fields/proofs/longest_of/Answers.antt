@@ -1,4 +1,3 @@
-use borrow.Author.Rules.{rules}
 use Rattle.fields.proofs.longest_of.Goals as goal
 
 pub returns-in-CodiceAbi : goal.returns-in-CodiceAbi

@@ -1,4 +1,3 @@
-use borrow.Author.Rules.{rules}
 use Rattle.fields.proofs.of_day.Goals as goal
 
 pub returns-in-On : goal.returns-in-On

@@ -1,4 +1,3 @@
-use borrow.Author.Rules.{rules}
 use Rattle.fields.proofs.of_esito.Goals as goal
 
 pub returns-in-Accepted : goal.returns-in-Accepted

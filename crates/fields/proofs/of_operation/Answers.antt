@@ -1,4 +1,3 @@
-use borrow.Author.Rules.{rules}
 use Rattle.fields.proofs.of_operation.Goals as goal
 
 pub returns-in-Operazione : goal.returns-in-Operazione

@@ -1,4 +1,3 @@
-use borrow.Author.Rules.{rules}
 use Rattle.fields.proofs.of_text.Goals as goal
 
 pub returns-then-has_form : goal.returns-then-has_form

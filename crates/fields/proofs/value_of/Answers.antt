@@ -1,6 +1,5 @@
 use mathlib.Core.Path.{ap, ◌∙◌}
 use Rattle.fields.specs.Fields.{of_text, of_number, of_day, of_operation, of_esito}
-use borrow.Author.Rules.{rules}
 use Rattle.fields.proofs.value_of.Goals as goal
 
 pub returns-in-CodiceAbi : goal.returns-in-CodiceAbi

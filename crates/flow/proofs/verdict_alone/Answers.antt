@@ -1,5 +1,4 @@
 use Rattle.markup.proofs.Noted.{noted_none}
-use borrow.Author.Rules.{rules}
 use Rattle.flow.proofs.verdict_alone.Goals as goal
 
 pub verdict_of-requires : goal.verdict_of-requires

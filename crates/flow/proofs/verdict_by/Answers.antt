@@ -2,7 +2,6 @@ use mathlib.Core.Path.{sym, ◌∙◌}
 use native.Mathlib.Omega.{arith}
 use Rattle.markup.proofs.Laws.{opened_placed}
 use Rattle.flow.proofs.Laws.{document_unopened, document_unclosed, document_rooted}
-use borrow.Author.Rules.{rules}
 use Rattle.flow.proofs.verdict_by.Goals as goal
 
 pub onward-reached-requires : goal.onward-reached-requires

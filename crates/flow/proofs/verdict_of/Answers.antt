@@ -1,8 +1,4 @@
 use Rattle.flow.proofs.Laws.{flow_by}
-use borrow.Author.Rules.{rules}
-use Rattle.flow.proofs.id_allowed.Reads as id-allowed-reads
-use Rattle.flow.proofs.verdict_by.Reads as verdict-by-reads
-use Rattle.header.proofs.root_of.Reads as root-of-reads
 use Rattle.flow.proofs.verdict_of.Goals as goal
 
 pub returns : goal.returns

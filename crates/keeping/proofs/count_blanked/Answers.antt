@@ -1,13 +1,8 @@
-use borrow.Author.Rules.{rules}
-use Prim.Native.Nat.{ℕ, ◌+◌, ◌-◌, ◌*◌, ◌≤◌}
-use mathlib.Core.List.{List}
+use Prim.Native.Nat.{◌-◌}
 use lib.ListN.{length}
-use Rattle.record.specs.Slot.{slot_size}
-use Rattle.keeping.specs.Keeping.{blanked_from}
-use Rattle.keeping.proofs.Laws.{blanked_rest, rest_yes, rest_no, rest_end}
+use Rattle.keeping.proofs.Laws.{rest_yes, rest_no, rest_end}
 use native.Mathlib.Omega.{arith}
-use mathlib.Core.Path.{◌≡◌, refl, sym, ap, ◌∙◌}
-use Rattle.keeping.proofs.is_blanked.Reads as is-blanked-reads
+use mathlib.Core.Path.{ap, ◌∙◌}
 use Rattle.keeping.proofs.count_blanked.Goals as goal
 use Rattle.keeping.proofs.count_blanked.Goals.{then-is_blanked, else-is_blanked}
 

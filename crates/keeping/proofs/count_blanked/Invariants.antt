@@ -1,14 +1,9 @@
-use borrow.Author.Rules.{rules}
-use Prim.Native.Nat.{ℕ, ◌+◌, ◌-◌, ◌*◌, ◌≤◌}
-use mathlib.Core.Logic.{⊎_elim}
-use mathlib.Core.List.{List}
+use Prim.Native.Nat.{◌+◌, ◌-◌, ◌*◌, ◌≤◌}
 use lib.ListN.{length}
 use Rattle.record.specs.Slot.{slot_size}
 use Rattle.keeping.specs.Keeping.{blanked_from}
-use Rattle.keeping.proofs.Laws.{blanked_rest, rest_yes, rest_no, rest_end}
-use native.Mathlib.Omega.{arith}
-use mathlib.Core.Path.{◌≡◌, refl, sym, ap, ◌∙◌}
-use Rattle.keeping.proofs.is_blanked.Reads as is-blanked-reads
+use Rattle.keeping.proofs.Laws.{blanked_rest}
+use mathlib.Core.Path.{◌≡◌}
 use Rattle.keeping.proofs.count_blanked.Given as goal
 
 abbrev pub invariant-loop-i : goal.invariant-loop-i

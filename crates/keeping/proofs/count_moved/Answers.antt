@@ -1,11 +1,9 @@
-use borrow.Author.Rules.{rules}
-use Prim.Native.Nat.{ℕ, ◌+◌, ◌-◌, ◌*◌, ◌≤◌}
-use mathlib.Core.List.{List}
-use lib.ListN.{length, drop}
-use Rattle.keeping.specs.Keeping.{moved, moved_from}
+use Prim.Native.Nat.{ℕ, ◌+◌, ◌-◌}
+use lib.ListN.{drop}
+use Rattle.keeping.specs.Keeping.{moved_from}
 use Rattle.keeping.proofs.Laws.{moved_up, moved_stays, moved_not, moved_end}
 use native.Mathlib.Omega.{arith}
-use mathlib.Core.Path.{◌≡◌, refl, sym, ap, ◌∙◌}
+use mathlib.Core.Path.{ap, ◌∙◌}
 use Rattle.keeping.proofs.count_moved.Goals as goal
 use Rattle.keeping.proofs.count_moved.Goals.{then-flags-i-eq1, then-i-to, else-i-to, else-flags-i-eq1}
 

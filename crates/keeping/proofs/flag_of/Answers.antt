@@ -5,9 +5,6 @@ use Prim.Native.Nat.{◌+◌, ◌*◌}
 use Rattle.record.specs.Slot.{slot_size}
 use Rattle.slots.specs.Slots.{slots_at}
 use Rattle.packing.specs.Packing.{chosen}
-use borrow.Author.Rules.{rules}
-use Rattle.keeping.proofs.key_new.Reads as key-new-reads
-use Rattle.keeping.proofs.slot_valid.Reads as slot-valid-reads
 use Rattle.keeping.proofs.flag_of.Goals as goal
 
 pub returns-then-not-slot_valid : goal.returns-then-not-slot_valid

@@ -1,14 +1,9 @@
-use borrow.Author.Rules.{rules}
-use Prim.Native.Nat.{ℕ, ◌+◌, ◌-◌, ◌*◌, ◌≤◌}
+use Prim.Native.Nat.{ℕ, ◌-◌}
 use lib.ListN.{length, length-set, length-replicate}
-use Rattle.slots.proofs.Filter.{Marked, unmarked}
-use Rattle.keeping.specs.Keeping.{keeps_at}
-use Rattle.keeping.proofs.Laws.{flags_from, flags_start, flags_more, flags_end, sofar, marked_start, marked_more}
+use Rattle.slots.proofs.Filter.{unmarked}
+use Rattle.keeping.proofs.Laws.{flags_start, flags_more, flags_end, marked_start, marked_more}
 use native.Mathlib.Omega.{arith}
-use mathlib.Core.Path.{◌≡◌, refl, sym, ap, ◌∙◌}
-use Rattle.keeping.proofs.flag_of.Reads as flag-of-reads
-use Rattle.record.proofs.key_at.Reads as key-at-reads
-use Rattle.slots.proofs.mark_of.Reads as mark-of-reads
+use mathlib.Core.Path.{refl, sym, ◌∙◌}
 use Rattle.keeping.proofs.flags_of.Goals as goal
 
 pub loop-i-init : goal.loop-i-init

@@ -1,6 +1,4 @@
 use Rattle.keeping.proofs.Laws.{blanks_kept, blanks_not}
-use borrow.Author.Rules.{rules}
-use Rattle.ranges.proofs.are_zero.Reads as are-zero-reads
 use Rattle.keeping.proofs.is_blanked.Goals as goal
 
 pub returns-then-f-eq1 : goal.returns-then-f-eq1

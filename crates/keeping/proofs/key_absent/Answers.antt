@@ -1,13 +1,7 @@
-use borrow.Author.Rules.{rules}
-use Prim.Native.Nat.{ℕ, ◌+◌, ◌-◌, ◌*◌, ◌≤◌}
-use lib.ListN.{length, take}
-use Rattle.ranges.specs.Ranges.{is_nothing}
-use Rattle.slots.specs.Slots.{slots_at, find_in}
-use Rattle.packing.specs.Packing.{chosen}
-use Rattle.keeping.proofs.Laws.{none_from, none_start, none_skip, none_hit, none_pass, none_end}
+use Prim.Native.Nat.{◌+◌, ◌-◌}
+use Rattle.keeping.proofs.Laws.{none_start, none_skip, none_hit, none_pass, none_end}
 use native.Mathlib.Omega.{arith}
-use mathlib.Core.Path.{◌≡◌, refl, sym, ap, ◌∙◌}
-use Rattle.record.proofs.hit_at.Reads as hit-at-reads
+use mathlib.Core.Path.{sym, ◌∙◌}
 use Rattle.keeping.proofs.key_absent.Goals as goal
 use Rattle.keeping.proofs.key_absent.Goals.{then-flags-i-eq1+else-hit_at, else-flags-i-eq1}
 

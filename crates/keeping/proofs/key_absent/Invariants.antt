@@ -1,14 +1,10 @@
-use borrow.Author.Rules.{rules}
-use Prim.Native.Nat.{ℕ, ◌+◌, ◌-◌, ◌*◌, ◌≤◌}
-use mathlib.Core.Logic.{⊎_elim}
-use lib.ListN.{length, take}
+use Prim.Native.Nat.{◌-◌, ◌≤◌}
+use lib.ListN.{take}
 use Rattle.ranges.specs.Ranges.{is_nothing}
 use Rattle.slots.specs.Slots.{slots_at, find_in}
 use Rattle.packing.specs.Packing.{chosen}
-use Rattle.keeping.proofs.Laws.{none_from, none_start, none_skip, none_hit, none_pass, none_end}
-use native.Mathlib.Omega.{arith}
-use mathlib.Core.Path.{◌≡◌, refl, sym, ap, ◌∙◌}
-use Rattle.record.proofs.hit_at.Reads as hit-at-reads
+use Rattle.keeping.proofs.Laws.{none_from}
+use mathlib.Core.Path.{◌≡◌}
 use Rattle.keeping.proofs.key_absent.Given as goal
 
 abbrev pub invariant-loop-i : goal.invariant-loop-i

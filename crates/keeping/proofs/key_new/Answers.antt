@@ -1,7 +1,5 @@
 use borrow.Author.Tests.{not-true}
 use mathlib.Core.Path.{sym}
-use borrow.Author.Rules.{rules}
-use Rattle.keeping.proofs.key_absent.Reads as key-absent-reads
 use Rattle.keeping.proofs.key_new.Goals as goal
 
 pub returns-then-not-maybe : goal.returns-then-not-maybe

@@ -1,16 +1,13 @@
-use borrow.Author.Rules.{rules}
-use Prim.Native.Nat.{ℕ, ◌+◌, ◌-◌, ◌*◌, ◌≤◌}
+use Prim.Native.Nat.{ℕ, ◌+◌, ◌-◌}
 use mathlib.Core.List.{List}
 use lib.ListN.{length}
 use Rattle.words.specs.Numbers.{put, bytes4}
 use Rattle.words.proofs.Laws.{length_put}
 use Rattle.record.specs.Slot.{slot_size}
-use Rattle.keeping.specs.Keeping.{blanked_from, each_bytes}
+use Rattle.keeping.specs.Keeping.{each_bytes}
 use Rattle.keeping.proofs.Laws.{blanked_rest, rest_yes, rest_no, rest_end, put_more, put_none}
 use native.Mathlib.Omega.{arith}
-use mathlib.Core.Path.{◌≡◌, refl, sym, ap, ◌∙◌}
-use Rattle.keeping.proofs.is_blanked.Reads as is-blanked-reads
-use Rattle.words.proofs.write4.Reads as write4-reads
+use mathlib.Core.Path.{refl, sym, ap, ◌∙◌}
 use Rattle.keeping.proofs.put_places.Goals as goal
 use Rattle.keeping.proofs.put_places.Goals.{then-is_blanked, else-is_blanked}
 

@@ -1,8 +1,6 @@
 use Rattle.keeping.proofs.Laws.{slot_is, slot_not}
 use mathlib.Core.Path.{sym, ◌∙◌}
 use Rattle.body.specs.Body.{slot_ok}
-use borrow.Author.Rules.{rules}
-use Rattle.body.proofs.judge_slot.Reads as judge-slot-reads
 use Rattle.keeping.proofs.slot_valid.Goals as goal
 
 pub returns-in-Right : goal.returns-in-Right

@@ -1,6 +1,5 @@
 use mathlib.Core.Path.{sym, ap}
 use Rattle.markup.specs.Inner.{broken_at}
-use borrow.Author.Rules.{rules}
 use Rattle.markup.proofs.broken.Goals as goal
 
 pub returns-in-Past : goal.returns-in-Past

@@ -2,7 +2,6 @@ use mathlib.Core.Path.{sym, ◌∙◌}
 use native.Mathlib.Omega.{arith}
 use Rattle.markup.proofs.Laws.{content_at_past, closed_no_end, closed_more, closed_ends}
 use Rattle.tokens.proofs.Laws.{end_past}
-use borrow.Author.Rules.{rules}
 use Rattle.markup.proofs.close.Goals as goal
 
 pub end_tag-end-requires : goal.end_tag-end-requires

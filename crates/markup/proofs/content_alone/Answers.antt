@@ -1,6 +1,5 @@
 use native.Mathlib.Omega.{arith}
 use Rattle.markup.proofs.Noted.{noted_none}
-use borrow.Author.Rules.{rules}
 use Rattle.markup.proofs.content_alone.Goals as goal
 
 pub content-requires : goal.content-requires

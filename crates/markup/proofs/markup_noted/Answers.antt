@@ -2,7 +2,6 @@ use mathlib.Core.Path.{sym, ap, ◌∙◌}
 use native.Mathlib.Omega.{arith}
 use Rattle.markup.specs.Inner.{then_closed}
 use Rattle.markup.proofs.Laws.{markup_opened, opened_placed}
-use borrow.Author.Rules.{rules}
 use Rattle.markup.proofs.markup_noted.Goals as goal
 
 pub returns-in_default : goal.returns-in_default

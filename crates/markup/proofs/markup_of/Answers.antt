@@ -1,5 +1,4 @@
 use Rattle.markup.proofs.Noted.{noted_none}
-use borrow.Author.Rules.{rules}
 use Rattle.markup.proofs.markup_of.Goals as goal
 
 pub markup_noted-requires : goal.markup_noted-requires

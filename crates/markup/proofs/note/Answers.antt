@@ -1,6 +1,5 @@
 use mathlib.Core.Path.{sym}
 use Rattle.markup.proofs.Noted.{note_fits, note_large, note_out}
-use borrow.Author.Rules.{rules}
 use Rattle.markup.proofs.note.Goals as goal
 
 pub returns-then-q-le65535 : goal.returns-then-q-le65535

@@ -2,7 +2,6 @@ use mathlib.Core.Path.{sym}
 use Prim.Native.Nat.{◌/◌}
 use native.Mathlib.Omega.{arith}
 use Rattle.markup.proofs.Noted.{note_past, note_meant, note_unmeant}
-use borrow.Author.Rules.{rules}
 use Rattle.markup.proofs.note_at.Goals as goal
 
 pub returns-then-past-i : goal.returns-then-past-i

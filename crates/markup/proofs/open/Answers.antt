@@ -9,7 +9,6 @@ use Rattle.tokens.specs.Tokens.{name_at}
 use Rattle.tokens.proofs.Laws.{name_past}
 use Rattle.markup.specs.Markup.{root_at}
 use Rattle.markup.proofs.Laws.{mark_within, declaration_within, root_is, opened_none, opened_no_name, opened_no_tag, opened_tag}
-use borrow.Author.Rules.{rules}
 use Rattle.markup.proofs.open.Goals as goal
 
 pub optional-d-requires : goal.optional-d-requires

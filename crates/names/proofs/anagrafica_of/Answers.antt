@@ -2,7 +2,6 @@ use Prim.Native.Nat.{ℕ}
 use mathlib.Core.Path.{sym, ap, ◌∙◌}
 use lib.Dec.{leb}
 use Rattle.names.proofs.Laws.{name_empty, name_short, name_counted}
-use borrow.Author.Rules.{rules}
 use Rattle.names.proofs.anagrafica_of.Goals as goal
 
 pub returns-then-t-lt1 : goal.returns-then-t-lt1

@@ -1,10 +1,7 @@
 use mathlib.Core.Path.{◌≡◌}
 use Prim.Native.Nat.{◌+◌, ◌-◌, ◌≤◌}
-use native.Mathlib.Omega.{arith}
-use borrow.Author.Rules.{rules}
 use lib.ListN.{length, drop}
 use Rattle.names.specs.Names.{references_replaced, characters}
-use Rattle.names.proofs.Laws.{characters_end}
 use Rattle.names.proofs.characters_of.Given as goal
 
 abbrev pub invariant-loop-i : goal.invariant-loop-i

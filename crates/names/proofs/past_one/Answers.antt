@@ -1,6 +1,5 @@
 use mathlib.Core.Path.{sym, ◌∙◌}
 use Rattle.names.proofs.Laws.{past_ascii, past_char, past_none}
-use borrow.Author.Rules.{rules}
 use Rattle.names.proofs.past_one.Goals as goal
 
 pub past_ref-requires : goal.past_ref-requires

@@ -1,6 +1,5 @@
 use mathlib.Core.Path.{sym, ◌∙◌}
 use Rattle.names.proofs.Laws.{past_amp, past_ref_lem}
-use borrow.Author.Rules.{rules}
 use Rattle.names.proofs.past_ref.Goals as goal
 
 pub returns-in-Past : goal.returns-in-Past

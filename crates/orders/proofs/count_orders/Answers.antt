@@ -1,12 +1,9 @@
-use mathlib.Core.Path.{◌≡◌, sym, ap, ◌∙◌}
-use Prim.Native.Nat.{◌+◌, ◌-◌, ◌≤◌}
+use mathlib.Core.Path.{sym, ap, ◌∙◌}
+use Prim.Native.Nat.{◌-◌}
 use native.Mathlib.Omega.{arith}
-use borrow.Author.Rules.{rules}
 use lib.ListN.{length}
-use Rattle.rows.specs.declared.Next.TheVariants.{Named}
-use Rattle.rows.specs.Kept.{kept_from, next_of}
 use Rattle.children.proofs.Laws.{Lies}
-use Rattle.orders.specs.Orders.{those, is_order, orders_in}
+use Rattle.orders.specs.Orders.{is_order}
 use Rattle.orders.proofs.Laws.{those_at, orders_end, orders_one}
 use Rattle.orders.proofs.count_orders.Goals as goal
 

@@ -1,4 +1,3 @@
-use borrow.Author.Rules.{rules}
 use Rattle.orders.proofs.day_said.Goals as goal
 
 pub returns-in-Text : goal.returns-in-Text

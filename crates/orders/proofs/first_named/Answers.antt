@@ -1,5 +1,4 @@
 use mathlib.Core.Path.{sym, ◌∙◌}
-use borrow.Author.Rules.{rules}
 use Rattle.orders.proofs.first_named.Goals as goal
 
 pub returns-in-Named : goal.returns-in-Named

@@ -2,7 +2,6 @@ use mathlib.Core.Path.{sym, ap, ◌∙◌}
 use Prim.Native.Nat.{ℕ}
 use lib.Dec.{leb}
 use Rattle.orders.specs.Orders.{holds_order}
-use borrow.Author.Rules.{rules}
 use Rattle.orders.proofs.holds_order.Goals as goal
 
 pub returns-in-Text : goal.returns-in-Text

@@ -1,5 +1,4 @@
 use mathlib.Core.Path.{refl}
-use borrow.Author.Rules.{rules}
 use Rattle.orders.proofs.is_replacing.Goals as goal
 
 pub returns-in-FlussoOrdinativi : goal.returns-in-FlussoOrdinativi

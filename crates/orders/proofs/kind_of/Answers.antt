@@ -1,5 +1,4 @@
 use mathlib.Core.Path.{refl}
-use borrow.Author.Rules.{rules}
 use Rattle.orders.proofs.kind_of.Goals as goal
 
 pub returns-in-FlussoOrdinativi : goal.returns-in-FlussoOrdinativi

@@ -8,7 +8,6 @@ use Rattle.structure.specs.Structure.{ranges}
 use Rattle.orders.specs.Said.{number_of}
 use Rattle.orders.specs.Shape.{line_rows, is_replacing, Filled}
 use Rattle.orders.proofs.Laws.{found, found_some, says_progressivo, says_importo, named_same, named_none, line_made}
-use borrow.Author.Rules.{rules}
 use Rattle.orders.proofs.line_from.Goals as goal
 
 pub first_named-requires : goal.first_named-requires

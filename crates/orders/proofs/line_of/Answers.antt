@@ -1,7 +1,6 @@
 use mathlib.Core.Path.{◌≡◌}
 use Rattle.schema.specs.declared.Holds.TheVariants.{Rows}
 use Rattle.orders.proofs.Laws.{line_some, line_shaped, line_inside}
-use borrow.Author.Rules.{rules}
 use Rattle.orders.proofs.line_of.Goals as goal
 
 pub line_from-requires : goal.line_from-requires

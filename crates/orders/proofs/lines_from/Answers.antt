@@ -1,10 +1,9 @@
 use mathlib.Core.Path.{◌≡◌, sym, ◌∙◌}
 use Prim.Native.Nat.{◌-◌}
 use native.Mathlib.Omega.{arith}
-use borrow.Author.Rules.{rules}
 use Rattle.rows.specs.declared.Next.TheVariants.{Named}
 use Rattle.rows.specs.Kept.{kept_from, next_of}
-use Rattle.orders.proofs.Laws.{Lining, lining_start, lining_end, lining_full, lining_shaped, lining_step}
+use Rattle.orders.proofs.Laws.{lining_start, lining_end, lining_full, lining_shaped, lining_step}
 use Rattle.orders.proofs.lines_from.Goals as goal
 
 pub loop-count-init : goal.loop-count-init

@@ -1,7 +1,6 @@
 use mathlib.Core.Path.{sym, ◌∙◌}
 use native.Mathlib.Omega.{arith}
 use Rattle.orders.proofs.Laws.{found, found_some, named_there, named_shaped}
-use borrow.Author.Rules.{rules}
 use Rattle.orders.proofs.named_after.Goals as goal
 
 pub first_named-requires : goal.first_named-requires

@@ -3,7 +3,6 @@ use native.Mathlib.Omega.{arith}
 use Rattle.rows.specs.Kept.{kept_from}
 use Rattle.orders.specs.Said.{number_of}
 use Rattle.orders.proofs.Laws.{found, found_some, says_numero, says_progressivo, says_esercizio, named_made}
-use borrow.Author.Rules.{rules}
 use Rattle.orders.proofs.named_from.Goals as goal
 
 pub first_named-requires : goal.first_named-requires

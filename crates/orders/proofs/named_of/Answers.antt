@@ -4,7 +4,6 @@ use lib.ListN.{drop}
 use Rattle.schema.specs.declared.Holds.TheVariants.{Rows}
 use Rattle.orders.specs.Shape.{named_rows}
 use Rattle.orders.proofs.Laws.{one, shaped_some, shaped_other, named_inside}
-use borrow.Author.Rules.{rules}
 use Rattle.orders.proofs.named_of.Goals as goal
 
 pub named_from-requires : goal.named_from-requires

@@ -1,12 +1,8 @@
-use borrow.Author.Rules.{rules}
-use mathlib.Core.Path.{◌≡◌, refl, sym, ap, ◌∙◌}
+use mathlib.Core.Path.{◌≡◌}
 use Prim.Native.Nat.{◌-◌, ◌≤◌}
-use native.Mathlib.Omega.{arith}
 use lib.ListN.{length}
-use Rattle.rows.specs.Kept.{kept_from, next_of}
-use Rattle.rows.proofs.Laws.{next_at}
+use Rattle.rows.specs.Kept.{kept_from}
 use Rattle.orders.specs.Orders.{those, is_order}
-use Rattle.orders.proofs.Laws.{those_done, those_other, those_one}
 use Rattle.orders.proofs.next_order.Given as goal
 
 abbrev pub invariant-loop-k : goal.invariant-loop-k

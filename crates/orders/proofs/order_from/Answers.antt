@@ -5,14 +5,6 @@ use Rattle.rows.specs.Kept.{kept_from}
 use Rattle.orders.specs.Orders.{kind_of}
 use Rattle.orders.specs.Said.{number_of, date_read, said_operation}
 use Rattle.orders.proofs.Laws.{found, found_some, says_operazione, says_numero, says_data, says_importo, lines_same, order_made}
-use borrow.Author.Rules.{rules}
-use Rattle.orders.proofs.day_of.Reads as day-of-reads
-use Rattle.orders.proofs.first_named.Reads as first-named-reads
-use Rattle.orders.proofs.kind_of.Reads as kind-of-reads
-use Rattle.orders.proofs.lines_from.Reads as lines-from-reads
-use Rattle.orders.proofs.number_of.Reads as number-of-reads
-use Rattle.orders.proofs.operation_of.Reads as operation-of-reads
-use Rattle.rows.proofs.read_field.Reads as read-field-reads
 use Rattle.orders.proofs.order_from.Goals as goal
 
 pub first_named-requires : goal.first_named-requires

@@ -8,7 +8,6 @@ use Rattle.rows.specs.Replaces.{rows_for}
 use Rattle.orders.specs.Shape.{order_rows}
 use Rattle.orders.specs.Orders.{kind_of}
 use Rattle.orders.proofs.Laws.{one, Inside, kind_alike, shaped_some, shaped_inside, order_inside}
-use borrow.Author.Rules.{rules}
 use Rattle.orders.proofs.order_of.Goals as goal
 
 pub order_from-requires : goal.order_from-requires

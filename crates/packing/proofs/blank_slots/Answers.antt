@@ -1,12 +1,8 @@
 use borrow.Author.Rules.{rules}
-use Prim.Native.Nat.{ℕ, ◌+◌, ◌-◌, ◌*◌, ◌≤◌}
-use mathlib.Core.Path.{◌≡◌, refl}
+use Prim.Native.Nat.{◌-◌}
+use mathlib.Core.Path.{refl}
 use native.Mathlib.Omega.{arith}
-use lib.ListN.{length, replicate}
-use Rattle.words.specs.Numbers.{put}
-use Rattle.record.specs.Slot.{slot_size}
 use Rattle.packing.proofs.Laws.{blank_turn, blank_none, blank_all}
-use Rattle.words.proofs.copy_in.Reads as copy-in-reads
 use Rattle.packing.proofs.blank_slots.Goals as goal
 
 pub loop-i-init : goal.loop-i-init

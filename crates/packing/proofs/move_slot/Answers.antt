@@ -2,8 +2,6 @@ use Prim.Native.Nat.{◌+◌, ◌-◌}
 use Rattle.record.specs.Slot.{slot_size}
 use native.Mathlib.Omega.{arith}
 use Rattle.packing.proofs.Laws.{moved}
-use borrow.Author.Rules.{rules}
-use Rattle.words.proofs.copy_in.Reads as copy-in-reads
 use Rattle.packing.proofs.move_slot.Goals as goal
 
 pub returns : goal.returns

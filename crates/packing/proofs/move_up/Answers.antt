@@ -1,15 +1,13 @@
-use borrow.Author.Rules.{rules}
 use Prim.Native.Nat.{ℕ, ◌+◌, ◌-◌, ◌*◌, ◌≤◌}
-use mathlib.Core.Path.{◌≡◌, refl, ap, ◌∙◌}
+use mathlib.Core.Path.{refl, ap, ◌∙◌}
 use mathlib.Core.List.{List}
 use lib.Seq.{take_all}
 use native.Mathlib.Omega.{arith}
-use lib.ListN.{length, take}
+use lib.ListN.{length}
 use Rattle.words.specs.Numbers.{put}
 use Rattle.record.specs.Slot.{slot_size}
 use Rattle.packing.specs.Packing.{chosen_count, chosen_bytes}
 use Rattle.packing.proofs.Laws.{kept_more, kept_same, slot_left, slot_kept, none_moved, none_kept, long}
-use Rattle.packing.proofs.move_slot.Reads as move-slot-reads
 use Rattle.packing.proofs.move_up.Goals as goal
 use Rattle.packing.proofs.move_up.Goals.{then-flags-i-eq1, else-flags-i-eq1}
 

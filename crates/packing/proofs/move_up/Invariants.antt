@@ -1,16 +1,8 @@
-use borrow.Author.Rules.{rules}
-use Prim.Native.Nat.{ℕ, ◌+◌, ◌-◌, ◌*◌, ◌≤◌}
-use mathlib.Core.Path.{◌≡◌, refl, ap, ◌∙◌}
-use mathlib.Core.Logic.{⊎_elim}
-use mathlib.Core.List.{List}
-use lib.Seq.{take_all}
-use native.Mathlib.Omega.{arith}
+use Prim.Native.Nat.{◌-◌, ◌≤◌}
+use mathlib.Core.Path.{◌≡◌}
 use lib.ListN.{length, take}
 use Rattle.words.specs.Numbers.{put}
-use Rattle.record.specs.Slot.{slot_size}
 use Rattle.packing.specs.Packing.{chosen_count, chosen_bytes}
-use Rattle.packing.proofs.Laws.{kept_more, kept_same, slot_left, slot_kept, none_moved, none_kept, long}
-use Rattle.packing.proofs.move_slot.Reads as move-slot-reads
 use Rattle.packing.proofs.move_up.Given as goal
 
 abbrev pub invariant-loop-i : goal.invariant-loop-i

@@ -1,8 +1,5 @@
 use native.Mathlib.Omega.{arith}
 use Rattle.packing.proofs.Laws.{together}
-use borrow.Author.Rules.{rules}
-use Rattle.packing.proofs.blank_slots.Reads as blank-slots-reads
-use Rattle.packing.proofs.move_up.Reads as move-up-reads
 use Rattle.packing.proofs.pack.Goals as goal
 
 pub returns : goal.returns

@@ -1,6 +1,5 @@
 use borrow.Author.Rules.{rules}
 use Rattle.pen.proofs.Laws.{wrote_then, room_first, room_then, decimal_none, decimal_small, decimal_step}
-use Prim.Native.Nat.{ℕ, ◌<◌}
 use Rattle.pen.proofs.+digits_by.Goals as goal
 
 pub one_digit-requires : goal.one_digit-requires

@@ -1,6 +1,5 @@
 use borrow.Author.Rules.{rules}
 use Rattle.pen.proofs.Laws.{wrote_nothing, wrote_then, room_first, room_then, fixed_step}
-use Prim.Native.Nat.{ℕ, ◌<◌}
 use Rattle.pen.proofs.+fixed_digits.Goals as goal
 
 pub returns-then-w-eq0 : goal.returns-then-w-eq0

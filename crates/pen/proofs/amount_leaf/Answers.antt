@@ -1,6 +1,5 @@
 use Rattle.pen.specs.Decimal.{amount}
 use Rattle.pen.proofs.Laws.{room_open, room_in, room_close, wrote_tagged}
-use borrow.Author.Rules.{rules}
 use Rattle.pen.proofs.amount_leaf.Goals as goal
 
 pub open_tag-a-requires : goal.open_tag-a-requires

@@ -1,6 +1,5 @@
 use Rattle.pen.specs.Decimal.{amount}
 use Rattle.pen.proofs.Laws.{wrote_then, room_first, room_then}
-use borrow.Author.Rules.{rules}
 use Rattle.pen.proofs.amount_of.Goals as goal
 
 pub decimal_digits-a-requires : goal.decimal_digits-a-requires

@@ -1,6 +1,5 @@
 use Rattle.scan.specs.Bytes.{bytes}
 use Rattle.pen.proofs.Laws.{wrote_then, room_first, room_then}
-use borrow.Author.Rules.{rules}
 use Rattle.pen.proofs.close_tag.Goals as goal
 
 pub ink-b-requires : goal.ink-b-requires

@@ -1,7 +1,6 @@
 use native.Mathlib.Omega.{arith}
 use Rattle.pen.specs.Decimal.{dated}
 use Rattle.pen.proofs.Laws.{wrote_then}
-use borrow.Author.Rules.{rules}
 use Rattle.pen.proofs.date_of.Goals as goal
 
 pub fixed_digits-a-requires : goal.fixed_digits-a-requires

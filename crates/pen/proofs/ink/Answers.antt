@@ -1,6 +1,5 @@
 use mathlib.Core.Path.{refl}
 use native.Mathlib.Omega.{arith}
-use borrow.Author.Rules.{rules}
 use Rattle.pen.proofs.ink.Goals as goal
 
 pub returns-else-to-m : goal.returns-else-to-m

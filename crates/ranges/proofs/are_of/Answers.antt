@@ -1,14 +1,9 @@
-use borrow.Author.Rules.{rules}
-use mathlib.Core.Path.{◌≡◌, refl, sym, ◌∙◌}
-use mathlib.Core.Bool.{Bool, true, false}
-use Prim.Native.Nat.{ℕ, ◌≤◌, ◌<◌, ◌-◌, ◌+◌}
+use mathlib.Core.Path.{refl, sym, ◌∙◌}
+use Prim.Native.Nat.{◌-◌}
 use native.Mathlib.Omega.{arith}
-use lib.ListN.{length, get_or}
 use borrow.Author.Tests.{not-true, not-false}
-use Rattle.scan.specs.Bytes.{part, all}
 use Rattle.ranges.specs.Ranges.{is_of}
 use Rattle.ranges.proofs.Laws.{all_more, all_not, all_done}
-use Rattle.ranges.proofs.is_of.Reads as is-of-reads
 use Rattle.ranges.proofs.are_of.Goals as goal
 
 pub loop-i-init : goal.loop-i-init

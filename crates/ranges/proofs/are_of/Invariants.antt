@@ -1,14 +1,7 @@
-use borrow.Author.Rules.{rules}
-use mathlib.Core.Path.{◌≡◌, refl, sym, ◌∙◌}
-use mathlib.Core.Bool.{Bool, true, false}
-use Prim.Native.Nat.{ℕ, ◌≤◌, ◌<◌, ◌-◌, ◌+◌}
-use native.Mathlib.Omega.{arith}
-use lib.ListN.{length, get_or}
-use borrow.Author.Tests.{not-true, not-false}
+use mathlib.Core.Path.{◌≡◌}
+use Prim.Native.Nat.{◌≤◌, ◌-◌}
 use Rattle.scan.specs.Bytes.{part, all}
 use Rattle.ranges.specs.Ranges.{is_of}
-use Rattle.ranges.proofs.Laws.{all_more, all_not, all_done}
-use Rattle.ranges.proofs.is_of.Reads as is-of-reads
 use Rattle.ranges.proofs.are_of.Given as goal
 
 abbrev pub invariant-loop-i : goal.invariant-loop-i

@@ -1,11 +1,9 @@
-use mathlib.Core.Path.{◌≡◌, refl, sym, ap, ◌∙◌}
-use Prim.Native.Nat.{ℕ, ◌≤◌, ◌+◌, ◌-◌}
+use mathlib.Core.Path.{◌≡◌, sym, ap, ◌∙◌}
+use Prim.Native.Nat.{ℕ, ◌-◌}
 use native.Mathlib.Omega.{arith}
-use borrow.Author.Rules.{rules}
 use lib.Dec.{eqb}
 use Rattle.ranges.specs.Ranges.{zeros}
 use Rattle.ranges.proofs.Laws.{zeros_none, greatest_more}
-use Rattle.ranges.proofs.greater.Reads as greater-reads
 use Rattle.ranges.proofs.are_zero.Goals as goal
 
 pub loop-i-init : goal.loop-i-init

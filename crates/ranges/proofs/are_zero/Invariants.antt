@@ -1,11 +1,7 @@
-use mathlib.Core.Path.{◌≡◌, refl, sym, ap, ◌∙◌}
-use Prim.Native.Nat.{ℕ, ◌≤◌, ◌+◌, ◌-◌}
-use native.Mathlib.Omega.{arith}
-use borrow.Author.Rules.{rules}
+use mathlib.Core.Path.{◌≡◌}
+use Prim.Native.Nat.{◌≤◌, ◌-◌}
 use lib.Dec.{eqb}
 use Rattle.ranges.specs.Ranges.{zeros}
-use Rattle.ranges.proofs.Laws.{zeros_none, greatest_more}
-use Rattle.ranges.proofs.greater.Reads as greater-reads
 use Rattle.ranges.proofs.are_zero.Given as goal
 
 abbrev pub invariant-loop-i : goal.invariant-loop-i

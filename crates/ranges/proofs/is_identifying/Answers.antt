@@ -3,7 +3,6 @@ use mathlib.Core.Bool.{true, false}
 use borrow.Author.Tests.{eq-eqb, ne_eqb}
 use Rattle.scan.specs.Bytes.{is_alnum}
 use Rattle.ranges.specs.Ranges.{is_identifying}
-use borrow.Author.Rules.{rules}
 use Rattle.ranges.proofs.is_identifying.Goals as goal
 
 pub returns-then-is_alnum : goal.returns-then-is_alnum

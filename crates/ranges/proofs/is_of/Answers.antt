@@ -1,8 +1,3 @@
-use borrow.Author.Rules.{rules}
-use borrow.Author.Rules.{rules}
-use Rattle.ranges.proofs.is_identifying.Reads as is-identifying-reads
-use Rattle.scan.proofs.is_alnum.Reads as is-alnum-reads
-use Rattle.scan.proofs.is_digit.Reads as is-digit-reads
 use Rattle.ranges.proofs.is_of.Goals as goal
 
 pub returns-in-Digits : goal.returns-in-Digits

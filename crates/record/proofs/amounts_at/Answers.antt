@@ -1,4 +1,3 @@
-use borrow.Author.Rules.{rules}
 use Rattle.record.proofs.amounts_at.Goals as goal
 
 pub returns : goal.returns

@@ -1,7 +1,6 @@
-use mathlib.Core.Path.{◌≡◌, sym, ap, ◌∙◌}
+use mathlib.Core.Path.{sym, ◌∙◌}
 use Rattle.record.specs.Slot.{record_at}
 use Rattle.record.proofs.Laws.{other_number, by_number}
-use borrow.Author.Rules.{rules}
 use Rattle.record.proofs.hit_at.Goals as goal
 
 pub returns-then-read4-k : goal.returns-then-read4-k

@@ -1,5 +1,4 @@
 use Rattle.record.specs.Slot.{record_at}
-use borrow.Author.Rules.{rules}
 use Rattle.record.proofs.key_at.Goals as goal
 
 pub returns : goal.returns

@@ -1,9 +1,7 @@
 use borrow.Author.Rules.{rules}
-use Prim.Native.Nat.{◌-◌, ◌≤◌}
-use mathlib.Core.Path.{◌≡◌, refl, sym}
+use Prim.Native.Nat.{◌-◌}
+use mathlib.Core.Path.{refl, sym}
 use native.Mathlib.Omega.{arith}
-use lib.ListN.{length, take}
-use Rattle.words.specs.Numbers.{put}
 use Rattle.words.proofs.Laws.{put_nil}
 use Rattle.record.specs.Slot.{flat8}
 use Rattle.record.proofs.Laws.{turn, whole}

@@ -1,12 +1,8 @@
-use borrow.Author.Rules.{rules}
 use Prim.Native.Nat.{◌-◌, ◌≤◌}
-use mathlib.Core.Path.{◌≡◌, refl, sym}
-use native.Mathlib.Omega.{arith}
+use mathlib.Core.Path.{◌≡◌}
 use lib.ListN.{length, take}
 use Rattle.words.specs.Numbers.{put}
-use Rattle.words.proofs.Laws.{put_nil}
 use Rattle.record.specs.Slot.{flat8}
-use Rattle.record.proofs.Laws.{turn, whole}
 use Rattle.record.proofs.put_amounts.Given as goal
 
 abbrev pub invariant-loop-i : goal.invariant-loop-i

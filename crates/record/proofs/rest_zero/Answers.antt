@@ -1,5 +1,4 @@
 use Rattle.record.specs.Slot.{rest_zero}
-use borrow.Author.Rules.{rules}
 use Rattle.record.proofs.rest_zero.Goals as goal
 
 pub returns : goal.returns

@@ -1,10 +1,6 @@
 use Rattle.scan.specs.Bytes.{is_white}
 use Rattle.scan.proofs.Laws.{run_within}
 use Rattle.rows.proofs.Operation.{told, told_on}
-use borrow.Author.Rules.{rules}
-use Rattle.rows.proofs.is_replacing_from.Reads as is-replacing-from-reads
-use Rattle.rows.proofs.operation_at.Reads as operation-at-reads
-use Rattle.scan.proofs.white_end.Reads as white-end-reads
 use Rattle.rows.proofs.is_replacing.Goals as goal
 
 pub operation_at-requires : goal.operation_at-requires

@@ -1,13 +1,8 @@
-use mathlib.Core.Path.{◌≡◌, refl, sym, ◌∙◌}
+use mathlib.Core.Path.{◌≡◌}
 use Prim.Native.Nat.{◌-◌, ◌≤◌}
-use native.Mathlib.Omega.{arith}
-use borrow.Author.Rules.{rules}
 use lib.ListN.{length}
 use Rattle.rows.specs.Kept.{kept_from}
 use Rattle.rows.specs.Replaces.{replaces}
-use Rattle.rows.proofs.Laws.{next_at, replaces_none, replaces_said, replaces_later}
-use Rattle.rows.proofs.next_named.Reads as next-named-reads
-use Rattle.schema.proofs.is.Reads as is-reads
 use Rattle.rows.proofs.is_replacing_from.Given as goal
 
 abbrev pub invariant-loop-k : goal.invariant-loop-k

@@ -1,13 +1,7 @@
-use mathlib.Core.Path.{◌≡◌, refl, sym, ap, ◌∙◌}
+use mathlib.Core.Path.{◌≡◌}
 use Prim.Native.Nat.{◌-◌, ◌≤◌}
-use native.Mathlib.Omega.{arith}
-use borrow.Author.Rules.{rules}
 use lib.ListN.{length}
-use Rattle.children.specs.declared.Step.TheVariants.{One}
-use Rattle.children.specs.Child.{child_at}
-use Rattle.rows.specs.Kept.{kept_from, next_of}
-use Rattle.children.proofs.Laws.{Lies, child_lies}
-use Rattle.rows.proofs.Laws.{kept_end, kept_passed, kept_at}
+use Rattle.rows.specs.Kept.{kept_from}
 use Rattle.rows.proofs.next_named.Given as goal
 
 abbrev pub invariant-loop-c : goal.invariant-loop-c

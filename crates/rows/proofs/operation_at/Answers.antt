@@ -3,8 +3,6 @@ use borrow.Author.Tests.{not-false}
 use Rattle.scan.specs.Bytes.{bytes}
 use Rattle.scan.proofs.Laws.{has_within}
 use Rattle.rows.proofs.Operation.{words, tells}
-use borrow.Author.Rules.{rules}
-use Rattle.tags.proofs.stands.Reads as stands-reads
 use Rattle.rows.proofs.operation_at.Goals as goal
 
 pub stands-requires-2 : goal.stands-requires-2

@@ -1,6 +1,5 @@
 use mathlib.Core.Path.{sym, ap, ◌∙◌}
 use Rattle.rows.specs.Read.{read_at, field_read}
-use borrow.Author.Rules.{rules}
 use Rattle.rows.proofs.read_field.Goals as goal
 
 pub returns-in-Some : goal.returns-in-Some

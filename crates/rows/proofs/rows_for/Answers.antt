@@ -2,7 +2,6 @@ use mathlib.Core.Path.{refl}
 use Rattle.rows.proofs.Laws.{rows_told, rows_still}
 use Rattle.rows.proofs.Operation.{says_mandato, says_reversale}
 use borrow.Author.Rules.{rules}
-use Rattle.rows.proofs.is_replacing.Reads as is-replacing-reads
 use Rattle.rows.proofs.rows_for.Goals as goal
 
 pub is_replacing-requires : goal.is_replacing-requires

@@ -1,17 +1,4 @@
 use mathlib.Core.Path.{refl}
-use borrow.Author.Rules.{rules}
-use Rattle.schema.proofs.beneficiario_spot.Reads as beneficiario-spot-reads
-use Rattle.schema.proofs.flusso_spot.Reads as flusso-spot-reads
-use Rattle.schema.proofs.informazioni_beneficiario_spot.Reads as informazioni-beneficiario-spot-reads
-use Rattle.schema.proofs.informazioni_versante_spot.Reads as informazioni-versante-spot-reads
-use Rattle.schema.proofs.mandato_spot.Reads as mandato-spot-reads
-use Rattle.schema_messages.proofs.message_spot.Reads as message-spot-reads
-use Rattle.schema.proofs.opi_spot.Reads as opi-spot-reads
-use Rattle.schema.proofs.reversale_spot.Reads as reversale-spot-reads
-use Rattle.schema.proofs.sostituzione_mandato_spot.Reads as sostituzione-mandato-spot-reads
-use Rattle.schema.proofs.sostituzione_reversale_spot.Reads as sostituzione-reversale-spot-reads
-use Rattle.schema.proofs.testata_flusso_spot.Reads as testata-flusso-spot-reads
-use Rattle.schema.proofs.versante_spot.Reads as versante-spot-reads
 use Rattle.rows.proofs.spot_of.Goals as goal
 
 pub message_spot-requires : goal.message_spot-requires

@@ -1,7 +1,5 @@
 use mathlib.Core.Path.{sym, ◌∙◌}
 use borrow.Author.Tests.{not-true, not-false}
-use borrow.Author.Rules.{rules}
-use Rattle.schema.proofs.is.Reads as is-reads
 use Rattle.schema.proofs.informazioni_versante_spot.Goals as goal
 
 pub returns-then-is : goal.returns-then-is

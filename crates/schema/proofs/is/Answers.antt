@@ -1,6 +1,5 @@
 use borrow.Author.Tests.{eq-eqb, ne_eqb}
 use Rattle.schema.specs.Table.{name_is}
-use borrow.Author.Rules.{rules}
 use Rattle.schema.proofs.is.Goals as goal
 
 pub returns-then-e-a : goal.returns-then-e-a

@@ -1,6 +1,4 @@
 use mathlib.Core.Path.{sym, ◌∙◌}
-use borrow.Author.Rules.{rules}
-use Rattle.schema.proofs.is.Reads as is-reads
 use Rattle.schema.proofs.sostituzione_mandato_spot.Goals as goal
 
 pub returns-then-is : goal.returns-then-is

@@ -1,5 +1,4 @@
 use mathlib.Core.Path.{sym, ◌∙◌}
-use borrow.Author.Rules.{rules}
 use Rattle.schema.proofs.versante_spot.Goals as goal
 
 pub returns-then-is : goal.returns-then-is

@@ -1,7 +1,4 @@
 use mathlib.Core.Path.{sym, ◌∙◌}
-use borrow.Author.Rules.{rules}
-use Rattle.schema_messages.proofs.entry_end.Reads as entry-end-reads
-use Rattle.schema.proofs.is.Reads as is-reads
 use Rattle.schema_messages.proofs.esito_reversali_spot.Goals as goal
 
 pub returns-then-is : goal.returns-then-is

@@ -1,11 +1,4 @@
 use Rattle.schema_messages.proofs.Laws.{not_both}
-use borrow.Author.Rules.{rules}
-use Rattle.schema_messages.proofs.errori_mandati_spot.Reads as errori-mandati-spot-reads
-use Rattle.schema_messages.proofs.errori_reversali_spot.Reads as errori-reversali-spot-reads
-use Rattle.schema_messages.proofs.esito_mandati_spot.Reads as esito-mandati-spot-reads
-use Rattle.schema_messages.proofs.esito_reversali_spot.Reads as esito-reversali-spot-reads
-use Rattle.schema_messages.proofs.messaggi_spot.Reads as messaggi-spot-reads
-use Rattle.schema_messages.proofs.testata_spot.Reads as testata-spot-reads
 use Rattle.schema_messages.proofs.message_spot.Goals as goal
 
 pub returns-in-MessaggiEsito : goal.returns-in-MessaggiEsito

@@ -1,7 +1,4 @@
 use mathlib.Core.Path.{sym, ◌∙◌}
-use borrow.Author.Rules.{rules}
-use Rattle.schema.proofs.is.Reads as is-reads
-use Rattle.schema_messages.proofs.testata_end.Reads as testata-end-reads
 use Rattle.schema_messages.proofs.testata_spot.Goals as goal
 
 pub returns-then-is : goal.returns-then-is

@@ -1,9 +1,7 @@
 use mathlib.Core.Path.{sym, ◌∙◌}
 use native.Mathlib.Omega.{arith}
-use borrow.Author.Rules.{rules}
 use Rattle.slots.proofs.Held.{search_held}
 use Rattle.service.proofs.Laws.{notice_none, notice_found, notice_lines}
-use borrow.Author.Rules.{rules}
 use Rattle.service.proofs.judge_notice.Goals as goal
 
 pub overflow_mul-i : goal.overflow_mul-i

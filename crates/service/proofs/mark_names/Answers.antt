@@ -1,8 +1,6 @@
 use mathlib.Core.Path.{refl}
 use Rattle.order.specs.Ordinativo.{ordinativo}
 use Rattle.service.proofs.Laws.{names_asked, besides_is}
-use borrow.Author.Rules.{rules}
-use Rattle.replacing.proofs.mark_lines.Reads as mark-lines-reads
 use Rattle.service.proofs.mark_names.Goals as goal
 
 pub mark_lines-requires : goal.mark_lines-requires

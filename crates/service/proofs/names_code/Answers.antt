@@ -4,8 +4,6 @@ use Rattle.slots.specs.Slots.{records_at}
 use Rattle.rules.specs.declared.Change.{Change}
 use Rattle.rules.specs.Inner.{names_code}
 use Rattle.service.proofs.Laws.{names_replace}
-use borrow.Author.Rules.{rules}
-use Rattle.replacing.proofs.replace_code.Reads as replace-code-reads
 use Rattle.service.proofs.names_code.Goals as goal
 
 pub returns-in-Insert : goal.returns-in-Insert

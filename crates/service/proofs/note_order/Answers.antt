@@ -1,5 +1,4 @@
 use Rattle.service.proofs.Filter.{marked_at, used_more, used_same, used_refused}
-use borrow.Author.Rules.{rules}
 use Rattle.service.proofs.note_order.Goals as goal
 
 pub returns-then-i-used : goal.returns-then-i-used

@@ -1,11 +1,5 @@
 use Rattle.order.specs.Ordinativo.{ordinativo}
 use Rattle.service.proofs.Laws.{outcome_put}
-use borrow.Author.Rules.{rules}
-use Rattle.codes.proofs.operation_number.Reads as operation-number-reads
-use Rattle.order.proofs.count_of.Reads as count-of-reads
-use Rattle.words.proofs.copy_in.Reads as copy-in-reads
-use Rattle.words.proofs.write4.Reads as write4-reads
-use Rattle.words.proofs.write8.Reads as write8-reads
 use Rattle.service.proofs.put_outcome.Goals as goal
 
 pub returns : goal.returns

@@ -1,4 +1,4 @@
-use mathlib.Core.Path.{refl, sym, ap, ◌∙◌}
+use mathlib.Core.Path.{refl, ap, ◌∙◌}
 use Prim.Native.Nat.{ℕ}
 use native.Mathlib.Omega.{arith}
 use lib.ListN.{length}
@@ -8,12 +8,6 @@ use Rattle.rules.specs.declared.Ruling.TheVariants.{Accepted}
 use Rattle.rules.specs.Inner.{names_code, absent_code}
 use Rattle.service.specs.Service.{order_stored}
 use Rattle.service.proofs.Laws.{ruled_refused, ruled_stored, refused_is, absent_low, absent_names, absent_put, besides_long}
-use borrow.Author.Rules.{rules}
-use Rattle.record.proofs.put_record.Reads as put-record-reads
-use Rattle.rules.proofs.absent_code.Reads as absent-code-reads
-use Rattle.rules.proofs.new_record.Reads as new-record-reads
-use Rattle.service.proofs.mark_names.Reads as mark-names-reads
-use Rattle.service.proofs.names_code.Reads as names-code-reads
 use Rattle.service.proofs.serve_absent.Goals as goal
 
 pub returns-then-code-ne0 : goal.returns-then-code-ne0

@@ -2,7 +2,6 @@ use mathlib.Core.Path.{sym, ap}
 use Rattle.order.specs.Ordinativo.{ordinativo}
 use Rattle.rules.specs.Rules.{change_of}
 use Rattle.service.proofs.Laws.{served_change}
-use borrow.Author.Rules.{rules}
 use Rattle.service.proofs.serve_order.Goals as goal
 
 pub returns-in-Inserimento : goal.returns-in-Inserimento

@@ -6,11 +6,6 @@ use Rattle.rules.specs.Rules.{written}
 use Rattle.rules.specs.Inner.{record_code}
 use Rattle.service.specs.Inner.{record_stored}
 use Rattle.service.proofs.Laws.{ruled_refused, ruled_stored, record_put}
-use borrow.Author.Rules.{rules}
-use Rattle.record.proofs.put_record.Reads as put-record-reads
-use Rattle.record.proofs.record_at.Reads as record-at-reads
-use Rattle.rules.proofs.record_code.Reads as record-code-reads
-use Rattle.rules.proofs.written_by.Reads as written-by-reads
 use Rattle.service.proofs.serve_record.Goals as goal
 
 pub returns-then-code-ne0 : goal.returns-then-code-ne0

@@ -1,7 +1,6 @@
 use mathlib.Core.Path.{sym, ◌∙◌}
 use Rattle.slots.specs.Slots.{records_at}
 use Rattle.slots.proofs.Search.{seek_at, seek_absent}
-use borrow.Author.Rules.{rules}
 use Rattle.slots.proofs.find.Goals as goal
 
 pub returns-in-At : goal.returns-in-At

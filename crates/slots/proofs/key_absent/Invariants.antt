@@ -1,11 +1,7 @@
-use borrow.Author.Rules.{rules}
-use Prim.Native.Nat.{ℕ, ◌+◌, ◌-◌, ◌*◌, ◌≤◌}
-use mathlib.Core.Path.{◌≡◌, refl, sym, ap, ◌∙◌}
-use native.Mathlib.Omega.{arith}
+use Prim.Native.Nat.{◌+◌, ◌-◌, ◌*◌, ◌≤◌}
+use mathlib.Core.Path.{◌≡◌}
 use Rattle.record.specs.Slot.{slot_size}
-use Rattle.ranges.specs.Ranges.{is_nothing}
 use Rattle.slots.specs.Slots.{find_in, slots_at}
-use Rattle.slots.proofs.Laws.{slots_more, slots_none, find_first, find_later, find_nil}
 use Rattle.slots.proofs.key_absent.Given as goal
 
 abbrev pub invariant-loop-left : goal.invariant-loop-left

@@ -1,6 +1,5 @@
 use mathlib.Core.Path.{sym}
 use borrow.Author.Tests.{not-true}
-use borrow.Author.Rules.{rules}
 use Rattle.slots.proofs.key_new.Goals as goal
 
 pub returns-then-not-maybe : goal.returns-then-not-maybe

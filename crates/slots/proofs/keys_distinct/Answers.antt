@@ -1,14 +1,11 @@
-use borrow.Author.Rules.{rules}
-use Prim.Native.Nat.{ℕ, ◌+◌, ◌-◌, ◌*◌, ◌≤◌}
-use mathlib.Core.Bool.{true}
-use mathlib.Core.Path.{◌≡◌, refl, sym, ◌∙◌}
+use Prim.Native.Nat.{ℕ, ◌+◌, ◌-◌, ◌*◌}
+use mathlib.Core.Path.{refl, sym, ◌∙◌}
 use native.Mathlib.Omega.{arith}
 use borrow.Author.Tests.{not-true, not-false}
 use lib.ListN.{length-replicate}
 use Rattle.record.specs.Slot.{slot_size}
-use Rattle.slots.specs.Slots.{slots_at, distinct}
 use Rattle.slots.proofs.Laws.{slots_none, distinct_nil}
-use Rattle.slots.proofs.Filter.{Marked, marked_none, unmarked, repeated, one_more, distinct_all}
+use Rattle.slots.proofs.Filter.{marked_none, unmarked, repeated, one_more, distinct_all}
 use Rattle.slots.proofs.keys_distinct.Goals as goal
 
 pub loop-later-init : goal.loop-later-init

@@ -1,9 +1,8 @@
-use borrow.Author.Rules.{rules}
 use Prim.Native.Nat.{◌-◌}
 use native.Mathlib.Omega.{arith}
 use mathlib.Core.Path.{◌∙◌, sym}
 use Rattle.slots.proofs.Laws.{used_end, used_none}
-use Rattle.slots.proofs.Filter.{Marking, marking_start, marking_more, marking_end}
+use Rattle.slots.proofs.Filter.{marking_start, marking_more, marking_end}
 use Rattle.slots.proofs.mark_keys.Goals as goal
 
 pub loop-i-init : goal.loop-i-init

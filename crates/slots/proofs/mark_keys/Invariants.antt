@@ -1,9 +1,5 @@
-use borrow.Author.Rules.{rules}
 use Prim.Native.Nat.{◌-◌}
-use native.Mathlib.Omega.{arith}
-use mathlib.Core.Path.{◌∙◌, sym}
-use Rattle.slots.proofs.Laws.{used_end, used_none}
-use Rattle.slots.proofs.Filter.{Marking, marking_start, marking_more, marking_end}
+use Rattle.slots.proofs.Filter.{Marking}
 use Rattle.slots.proofs.mark_keys.Given as goal
 
 abbrev pub invariant-loop-i : goal.invariant-loop-i

@@ -1,7 +1,6 @@
 use mathlib.Core.Path.{refl}
 use native.Mathlib.Omega.{arith}
 use Rattle.slots.specs.Inner.{mark_of}
-use borrow.Author.Rules.{rules}
 use Rattle.slots.proofs.mark_of.Goals as goal
 
 pub returns : goal.returns

@@ -1,11 +1,8 @@
-use borrow.Author.Rules.{rules}
-use Prim.Native.Nat.{ℕ, ◌+◌, ◌-◌, ◌*◌, ◌≤◌}
-use mathlib.Core.Path.{◌≡◌, sym, ap, ◌∙◌}
-use native.Mathlib.Omega.{arith}
+use Prim.Native.Nat.{◌+◌, ◌-◌, ◌*◌, ◌≤◌}
+use mathlib.Core.Path.{◌≡◌}
 use Rattle.record.specs.Slot.{slot_size}
 use Rattle.slots.specs.Slots.{records_at}
 use Rattle.slots.specs.Inner.{seek_in}
-use Rattle.slots.proofs.Laws.{records_end, records_none, records_more, seek_first, seek_later, seek_nil}
 use Rattle.slots.proofs.seek.Given as goal
 
 abbrev pub invariant-loop-i : goal.invariant-loop-i

@@ -1,7 +1,6 @@
 use native.Mathlib.Omega.{arith}
 use Rattle.slots.specs.Slots.{records_at}
 use Rattle.slots.proofs.Filter.{seek_unmarked}
-use borrow.Author.Rules.{rules}
 use Rattle.slots.proofs.seek_marked.Goals as goal
 
 pub bounds-marks-mark_of : goal.bounds-marks-mark_of

@@ -1,9 +1,5 @@
-use borrow.Author.Rules.{rules}
-use Prim.Native.Nat.{◌+◌, ◌-◌, ◌*◌, ◌≤◌}
-use mathlib.Core.Path.{◌≡◌, sym}
+use Prim.Native.Nat.{◌-◌}
 use native.Mathlib.Omega.{arith}
-use Rattle.record.specs.Slot.{slot_size}
-use Rattle.slots.specs.Slots.{used_at}
 use Rattle.slots.proofs.Laws.{used_end, used_none, used_more}
 use Rattle.slots.proofs.used_slots.Goals as goal
 

@@ -1,10 +1,7 @@
-use borrow.Author.Rules.{rules}
 use Prim.Native.Nat.{◌+◌, ◌-◌, ◌*◌, ◌≤◌}
-use mathlib.Core.Path.{◌≡◌, sym}
-use native.Mathlib.Omega.{arith}
+use mathlib.Core.Path.{◌≡◌}
 use Rattle.record.specs.Slot.{slot_size}
 use Rattle.slots.specs.Slots.{used_at}
-use Rattle.slots.proofs.Laws.{used_end, used_none, used_more}
 use Rattle.slots.proofs.used_slots.Given as goal
 
 abbrev pub invariant-loop-left : goal.invariant-loop-left

@@ -1,16 +1,11 @@
 use mathlib.Core.Path.{refl, sym, ◌∙◌}
-use Prim.Native.Nat.{◌-◌, ◌+◌, ◌*◌}
+use Prim.Native.Nat.{◌-◌, ◌+◌}
 use native.Mathlib.Omega.{arith}
-use borrow.Author.Rules.{rules}
 use borrow.Author.Tests.{not-true, not-false}
-use lib.ListN.{length}
 use Rattle.scan.specs.Bytes.{is_white}
 use Rattle.scan.proofs.Laws.{run_within}
-use Rattle.rows.specs.Kept.{kept_from}
 use Rattle.structure.proofs.Walk.{some_row}
-use Rattle.standing.specs.Walk.{rest, Goes}
 use Rattle.standing.proofs.Laws.{not_structured, held_text, held_none, held_rows, found, whole, unfilled}
-use Prim.Native.Nat.{ℕ, ◌<◌}
 use Rattle.standing.proofs.+held_breaking_walk_on.Goals as goal
 
 pub held_breaking-field_breaking-requires : goal.held_breaking-field_breaking-requires

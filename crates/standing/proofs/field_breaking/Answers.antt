@@ -4,7 +4,6 @@ use Prim.Native.Nat.{◌+◌}
 use borrow.Author.Tests.{not-true, not-false}
 use Rattle.structure.specs.Structure.{text_only}
 use Rattle.standing.proofs.Laws.{field_other, field_judged}
-use borrow.Author.Rules.{rules}
 use Rattle.standing.proofs.field_breaking.Goals as goal
 
 pub returns-then-not-text_only : goal.returns-then-not-text_only

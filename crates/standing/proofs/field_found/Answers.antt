@@ -1,6 +1,5 @@
 use mathlib.Core.Path.{sym, ap, ◌∙◌}
 use Rattle.standing.proofs.Second.{found_by}
-use borrow.Author.Rules.{rules}
 use Rattle.standing.proofs.field_found.Goals as goal
 
 pub returns-in-Holds : goal.returns-in-Holds

@@ -2,7 +2,6 @@ use Prim.Native.Nat.{◌≤◌}
 use native.Mathlib.Omega.{arith}
 use Rattle.standing.proofs.Laws.{level_none, goes_start}
 use Rattle.standing.proofs.Second.{judged}
-use borrow.Author.Rules.{rules}
 use Rattle.standing.proofs.judge.Goals as goal
 
 pub returns-then-d-eq0 : goal.returns-then-d-eq0

@@ -1,6 +1,5 @@
 use mathlib.Core.Path.{sym, ◌∙◌}
 use Rattle.standing.proofs.Second.{judged}
-use borrow.Author.Rules.{rules}
 use Rattle.standing.proofs.judge_on.Goals as goal
 
 pub returns-in-Structure : goal.returns-in-Structure

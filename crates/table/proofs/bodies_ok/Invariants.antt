@@ -1,13 +1,8 @@
-use borrow.Author.Rules.{rules}
 use Prim.Native.Nat.{◌<◌, ◌-◌, ◌+◌, ◌*◌}
-use mathlib.Core.Path.{◌≡◌, refl, sym, ◌∙◌}
+use mathlib.Core.Path.{◌≡◌}
 use mathlib.Core.Bool.{true}
-use native.Mathlib.Omega.{arith}
-use borrow.Author.Tests.{not-true, not-false}
 use Rattle.entries.specs.Entry.{place_of}
-use Rattle.entries.proofs.Laws.{times}
 use Rattle.table.specs.Table.{head_size, layout_ok, bodies_ok}
-use Rattle.table.proofs.Laws.{lay_own, lay_next, lay_room, lay_form, bodies_not, bodies_on, bodies_done}
 use Rattle.table.proofs.bodies_ok.Given as goal
 
 abbrev pub invariant-loop-left : goal.invariant-loop-left

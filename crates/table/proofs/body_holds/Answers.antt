@@ -3,12 +3,6 @@ use native.Mathlib.Omega.{arith}
 use borrow.Author.Tests.{not-true, not-false}
 use Rattle.table.proofs.Laws.{holds_not, holds_lines, holds_years, holds_kept, holds_bare}
 use Rattle.body.proofs.Laws.{summed_right}
-use borrow.Author.Rules.{rules}
-use Rattle.body.proofs.judge.Reads as judge-reads
-use Rattle.entries.proofs.place_of.Reads as place-of-reads
-use Rattle.entries.proofs.slots_of.Reads as slots-of-reads
-use Rattle.table.proofs.kept_are.Reads as kept-are-reads
-use Rattle.table.proofs.lines_hold.Reads as lines-hold-reads
 use Rattle.table.proofs.body_holds.Goals as goal
 
 pub returns-in_default : goal.returns-in_default

@@ -5,11 +5,6 @@ use native.Mathlib.Omega.{arith}
 use borrow.Author.Tests.{not-true, not-false}
 use Rattle.table.specs.Table.{head_size, bodies, head_ok, layout_ok}
 use Rattle.table.proofs.Laws.{head, lay_forms, contents_head, contents_layout, contents_codes}
-use borrow.Author.Rules.{rules}
-use Rattle.entries.proofs.codes_distinct.Reads as codes-distinct-reads
-use Rattle.table.proofs.body_count.Reads as body-count-reads
-use Rattle.table.proofs.head_ok.Reads as head-ok-reads
-use Rattle.table.proofs.layout_ok.Reads as layout-ok-reads
 use Rattle.table.proofs.contents_ok.Goals as goal
 
 pub returns-then-not-head_ok : goal.returns-then-not-head_ok

@@ -4,8 +4,6 @@ use native.Mathlib.Omega.{arith}
 use Rattle.entries.specs.Entry.{entry_size, codes_from, find_code, forms_ok}
 use Rattle.table.specs.Table.{table2, head_size}
 use Rattle.table.proofs.Laws.{head, table}
-use Rattle.entries.proofs.find_code.Reads as find-code-reads
-use Rattle.table.proofs.body_count.Reads as body-count-reads
 use Rattle.table.proofs.find_body.Goals as goal
 
 pub body_count-n-requires : goal.body_count-n-requires

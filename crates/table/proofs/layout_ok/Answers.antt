@@ -1,11 +1,10 @@
-use borrow.Author.Rules.{rules}
-use Prim.Native.Nat.{ℕ, ◌≤◌, ◌-◌, ◌+◌, ◌*◌}
-use mathlib.Core.Path.{◌≡◌, refl, sym, ap, ◌∙◌}
+use Prim.Native.Nat.{ℕ, ◌-◌, ◌+◌, ◌*◌}
+use mathlib.Core.Path.{refl, sym, ap, ◌∙◌}
 use native.Mathlib.Omega.{arith}
 use borrow.Author.Tests.{not-true, not-false}
 use Rattle.record.specs.Slot.{slot_size}
 use Rattle.entries.proofs.Laws.{form}
-use Rattle.table.specs.Table.{head_size, layout_ok}
+use Rattle.table.specs.Table.{layout_ok}
 use Rattle.table.proofs.Laws.{entries_most, next, entry, lay_not, lay_on, lay_done}
 use Rattle.table.proofs.layout_ok.Goals as goal
 

@@ -1,12 +1,7 @@
-use borrow.Author.Rules.{rules}
-use Prim.Native.Nat.{ℕ, ◌≤◌, ◌-◌, ◌+◌, ◌*◌}
-use mathlib.Core.Path.{◌≡◌, refl, sym, ap, ◌∙◌}
-use native.Mathlib.Omega.{arith}
-use borrow.Author.Tests.{not-true, not-false}
-use Rattle.record.specs.Slot.{slot_size}
-use Rattle.entries.proofs.Laws.{form}
+use Prim.Native.Nat.{◌≤◌, ◌-◌, ◌+◌, ◌*◌}
+use mathlib.Core.Path.{◌≡◌}
 use Rattle.table.specs.Table.{head_size, layout_ok}
-use Rattle.table.proofs.Laws.{entries_most, next, entry, lay_not, lay_on, lay_done}
+use Rattle.table.proofs.Laws.{entry}
 use Rattle.table.proofs.layout_ok.Given as goal
 
 abbrev pub invariant-loop-left : goal.invariant-loop-left

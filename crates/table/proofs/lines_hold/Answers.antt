@@ -2,8 +2,6 @@ use mathlib.Core.Bool.{Bool, true, cond}
 use mathlib.Core.Path.{sym, ap, ◌∙◌}
 use Rattle.slots.specs.Slots.{records_at}
 use Rattle.body.specs.Body.{none_replaced}
-use borrow.Author.Rules.{rules}
-use Rattle.body.proofs.none_replaced.Reads as none-replaced-reads
 use Rattle.table.proofs.lines_hold.Goals as goal
 
 pub returns : goal.returns

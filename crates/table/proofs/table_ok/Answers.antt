@@ -1,4 +1,3 @@
-use borrow.Author.Rules.{rules}
 use mathlib.Core.Path.{sym, ap, subst, ◌∙◌}
 use Rattle.table.specs.declared.Layout.{Layout}
 use Rattle.table.specs.Table.{valid_as}

@@ -5,10 +5,6 @@ use native.Mathlib.Omega.{arith}
 use borrow.Author.Tests.{not-true, not-false}
 use Rattle.table.specs.Table.{head_size, bodies, layout_ok, contents_ok}
 use Rattle.table.proofs.Laws.{head, laid, table_contents, table_bodies}
-use borrow.Author.Rules.{rules}
-use Rattle.table.proofs.bodies_ok.Reads as bodies-ok-reads
-use Rattle.table.proofs.body_count.Reads as body-count-reads
-use Rattle.table.proofs.contents_ok.Reads as contents-ok-reads
 use Rattle.table.proofs.valid_as.Goals as goal
 
 pub returns-then-not-contents_ok : goal.returns-then-not-contents_ok

@@ -1,9 +1,6 @@
 use mathlib.Core.Path.{◌∙◌}
 use native.Mathlib.Omega.{arith}
-use borrow.Author.Rules.{rules}
 use Rattle.table.proofs.Laws.{year_is}
-use Rattle.entries.proofs.closed_of.Reads as closed-of-reads
-use Rattle.entries.proofs.closed_ok.Reads as closed-ok-reads
 use Rattle.table.proofs.year_ok.Goals as goal
 
 pub closed_of-requires : goal.closed_of-requires

@@ -1,10 +1,7 @@
 use mathlib.Core.Path.{sym, ◌∙◌}
 use native.Mathlib.Omega.{arith}
 use borrow.Author.Tests.{not-true, not-false}
-use borrow.Author.Rules.{rules}
 use Rattle.table.proofs.Laws.{years_bare, years_are, years_none}
-use Rattle.body.proofs.all_later.Reads as all-later-reads
-use Rattle.entries.proofs.closed_of.Reads as closed-of-reads
 use Rattle.table.proofs.years_hold.Goals as goal
 
 pub returns-then-not-l : goal.returns-then-not-l

@@ -1,15 +1,6 @@
 use Rattle.tags.proofs.Laws.{told, spelled_names, headed}
 use Rattle.schema.specs.declared.Parent.TheVariants.{TestataFlusso}
 use Rattle.tags.specs.declared.Tag.TheVariants.{Other}
-use borrow.Author.Rules.{rules}
-use Rattle.tags.proofs.header_at.Reads as header-at-reads
-use Rattle.tags.proofs.in_beneficiario_line.Reads as in-beneficiario-line-reads
-use Rattle.tags.proofs.in_flusso.Reads as in-flusso-reads
-use Rattle.tags.proofs.in_mandato.Reads as in-mandato-reads
-use Rattle.tags.proofs.in_opi.Reads as in-opi-reads
-use Rattle.tags.proofs.in_reversale.Reads as in-reversale-reads
-use Rattle.tags.proofs.in_versante_line.Reads as in-versante-line-reads
-use Rattle.tags.proofs.tag_at.Reads as tag-at-reads
 use Rattle.tags.proofs.expected.Goals as goal
 
 pub returns-in-FlussoOrdinativi : goal.returns-in-FlussoOrdinativi

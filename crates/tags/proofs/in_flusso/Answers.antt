@@ -1,10 +1,6 @@
 use Rattle.tags.proofs.Laws.{told, told_order, ordered_roots, spelled_roots, headed}
 use Rattle.schema.specs.declared.Parent.TheVariants.{FlussoOrdinativi}
 use Rattle.tags.specs.declared.Tag.TheVariants.{Other}
-use borrow.Author.Rules.{rules}
-use Rattle.tags.proofs.header_at.Reads as header-at-reads
-use Rattle.tags.proofs.order_at.Reads as order-at-reads
-use Rattle.tags.proofs.tag_at.Reads as tag-at-reads
 use Rattle.tags.proofs.in_flusso.Goals as goal
 
 pub returns-then-want-ge5 : goal.returns-then-want-ge5

@@ -1,8 +1,5 @@
 use Rattle.tags.proofs.Laws.{told, told_order, ordered_roots, spelled_roots}
 use Rattle.tags.specs.declared.Tag.TheVariants.{Other}
-use borrow.Author.Rules.{rules}
-use Rattle.tags.proofs.order_at.Reads as order-at-reads
-use Rattle.tags.proofs.tag_at.Reads as tag-at-reads
 use Rattle.tags.proofs.in_opi.Goals as goal
 
 pub returns-in-0 : goal.returns-in-0

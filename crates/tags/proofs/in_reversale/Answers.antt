@@ -1,7 +1,5 @@
 use Rattle.tags.proofs.Laws.{told, spelled_reversale}
 use Rattle.tags.specs.declared.Tag.TheVariants.{Other}
-use borrow.Author.Rules.{rules}
-use Rattle.tags.proofs.tag_at.Reads as tag-at-reads
 use Rattle.tags.proofs.in_reversale.Goals as goal
 
 pub returns-in-0 : goal.returns-in-0

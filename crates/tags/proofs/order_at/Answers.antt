@@ -1,8 +1,5 @@
 use Rattle.scan.proofs.Laws.{then_is, else_is}
 use mathlib.Core.Path.{sym}
-use borrow.Author.Rules.{rules}
-use Rattle.tags.proofs.stands.Reads as stands-reads
-use Rattle.tags.proofs.tag_at.Reads as tag-at-reads
 use Rattle.tags.proofs.order_at.Goals as goal
 
 pub returns-then-stands : goal.returns-then-stands

@@ -1,10 +1,9 @@
-use mathlib.Core.Path.{◌≡◌, sym, ◌∙◌}
-use Prim.Native.Nat.{◌+◌, ◌-◌, ◌≤◌, ◌<◌}
+use mathlib.Core.Path.{sym, ◌∙◌}
+use Prim.Native.Nat.{◌-◌}
 use native.Mathlib.Omega.{arith}
-use borrow.Author.Rules.{rules}
 use lib.ListN.{length}
 use Rattle.scan.proofs.Laws.{has_less}
-use Rattle.tags.proofs.Words.{Same, eight_more, no_eight, last_eight}
+use Rattle.tags.proofs.Words.{eight_more, no_eight, last_eight}
 use Rattle.tags.proofs.stands.Goals as goal
 
 pub returns-then-s-at : goal.returns-then-s-at

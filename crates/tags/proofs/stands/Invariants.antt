@@ -1,10 +1,7 @@
-use mathlib.Core.Path.{◌≡◌, sym, ◌∙◌}
+use mathlib.Core.Path.{◌≡◌}
 use Prim.Native.Nat.{◌+◌, ◌-◌, ◌≤◌, ◌<◌}
-use native.Mathlib.Omega.{arith}
-use borrow.Author.Rules.{rules}
 use lib.ListN.{length}
-use Rattle.scan.proofs.Laws.{has_less}
-use Rattle.tags.proofs.Words.{Same, eight_more, no_eight, last_eight}
+use Rattle.tags.proofs.Words.{Same}
 use Rattle.tags.proofs.stands.Given as goal
 
 abbrev pub invariant-loop-i : goal.invariant-loop-i

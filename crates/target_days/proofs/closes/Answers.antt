@@ -1,8 +1,7 @@
-use mathlib.Core.Path.{◌≡◌, sym, ◌∙◌}
+use mathlib.Core.Path.{sym, ◌∙◌}
 use native.Mathlib.Omega.{arith}
 use Rattle.target_days.proofs.Easter.{easter_most}
 use Rattle.target_days.proofs.Laws.{march_most, served_real, week_of, shut_week, shut_fixed, shut_friday, shut_monday}
-use borrow.Author.Rules.{rules}
 use Rattle.target_days.proofs.closes.Goals as goal
 
 pub returns-then-is_weekend : goal.returns-then-is_weekend

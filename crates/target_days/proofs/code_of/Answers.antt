@@ -1,7 +1,6 @@
-use mathlib.Core.Path.{◌≡◌, sym, ◌∙◌}
+use mathlib.Core.Path.{sym, ◌∙◌}
 use borrow.Author.Tests.{not-true, not-false}
 use Rattle.target_days.proofs.Laws.{code_27, code_28, code_0}
-use borrow.Author.Rules.{rules}
 use Rattle.target_days.proofs.code_of.Goals as goal
 
 pub returns-then-not-is_served : goal.returns-then-not-is_served

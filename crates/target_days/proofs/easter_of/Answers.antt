@@ -3,7 +3,6 @@ use native.Mathlib.Omega.{arith}
 use native.Mathlib.Nat.{mod-lt}
 use Rattle.target_days.specs.Published.{butcher_end, butcher_mid, butcher}
 use Rattle.target_days.proofs.Easter.{by_butcher}
-use borrow.Author.Rules.{rules}
 use Rattle.target_days.proofs.easter_of.Goals as goal
 
 room : (a b : ℕ) {h k : ℕ} → h < 30 → k < 4 → k ≤ 32 + a + b - h

@@ -1,10 +1,8 @@
 use mathlib.Core.Path.{◌≡◌, refl, sym, ap, ◌∙◌}
 use Prim.Native.Nat.{ℕ, ◌-◌}
 use native.Mathlib.Omega.{arith}
-use Rattle.calendar.specs.declared.Date.{Date}
-use Rattle.target_days.specs.Target.{target_code, first_from}
+use Rattle.target_days.specs.Target.{first_from}
 use Rattle.target_days.proofs.Laws.{served_real, code_served, first_stop, first_step}
-use borrow.Author.Rules.{rules}
 use Rattle.target_days.proofs.first_from.Goals as goal
 
 pub loop-left-init : goal.loop-left-init

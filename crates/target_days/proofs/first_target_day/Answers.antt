@@ -2,7 +2,6 @@ use mathlib.Core.Path.{sym, ◌∙◌}
 use borrow.Author.Tests.{not-true, not-false}
 use Rattle.days.specs.Days.{date_by}
 use Rattle.target_days.proofs.Laws.{first_none, first_found}
-use borrow.Author.Rules.{rules}
 use Rattle.target_days.proofs.first_target_day.Goals as goal
 
 pub returns-then-not-is_served : goal.returns-then-not-is_served

@@ -1,6 +1,5 @@
 use borrow.Author.Tests.{eq-eqb, ne_eqb}
 use Rattle.target_days.specs.Target.{march_day}
-use borrow.Author.Rules.{rules}
 use Rattle.target_days.proofs.march_day.Goals as goal
 
 pub returns-then-month-eq3 : goal.returns-then-month-eq3

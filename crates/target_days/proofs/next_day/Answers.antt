@@ -1,8 +1,7 @@
-use mathlib.Core.Path.{◌≡◌, sym, ◌∙◌}
+use mathlib.Core.Path.{sym, ◌∙◌}
 use native.Mathlib.Omega.{arith}
 use Rattle.days.proofs.Laws.{placed}
 use Rattle.target_days.proofs.Laws.{next_in_month, next_month, next_year}
-use borrow.Author.Rules.{rules}
 use Rattle.target_days.proofs.next_day.Goals as goal
 
 pub overflow_add-same_month : goal.overflow_add-same_month

@@ -1,6 +1,5 @@
 use mathlib.Core.Path.{sym, ◌∙◌}
 use Rattle.texts.proofs.Laws.{text_short, text_long, text_by_lem}
-use borrow.Author.Rules.{rules}
 use Rattle.texts.proofs.is_caller_text.Goals as goal
 
 pub returns-then-t-lt1 : goal.returns-then-t-lt1

@@ -1,7 +1,6 @@
 use mathlib.Core.Path.{sym, ◌∙◌}
 use borrow.Author.Tests.{not-true, not-false}
 use Rattle.texts.proofs.Laws.{time_none, time_by}
-use borrow.Author.Rules.{rules}
 use Rattle.texts.proofs.is_caller_time.Goals as goal
 
 pub returns-then-not-data_ora_zona : goal.returns-then-not-data_ora_zona

@@ -1,6 +1,5 @@
 use mathlib.Core.Path.{sym, ◌∙◌}
 use Rattle.texts.proofs.Laws.{istat_none, istat_some}
-use borrow.Author.Rules.{rules}
 use Rattle.texts.proofs.is_istat.Goals as goal
 
 pub returns-then-t-eq0 : goal.returns-then-t-eq0

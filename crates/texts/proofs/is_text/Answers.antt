@@ -1,6 +1,5 @@
 use mathlib.Core.Path.{sym, ◌∙◌}
 use Rattle.texts.proofs.Laws.{whole_is}
-use borrow.Author.Rules.{rules}
 use Rattle.texts.proofs.is_text.Goals as goal
 
 pub returns-in-Past : goal.returns-in-Past

@@ -2,7 +2,6 @@ use mathlib.Core.Path.{sym, ◌∙◌}
 use native.Mathlib.Omega.{arith}
 use borrow.Author.Tests.{not-true, not-false}
 use Rattle.tokens.proofs.Laws.{end_none, end_inside, end_other, end_short, end_open, end_some}
-use borrow.Author.Rules.{rules}
 use Rattle.tokens.proofs.end_tag.Goals as goal
 
 pub returns-then-not-closes : goal.returns-then-not-closes

@@ -5,7 +5,6 @@ use borrow.Author.Tests.{not-true, not-false}
 use Rattle.scan.specs.Bytes.{byte_at, is_letter, is_name_byte}
 use Rattle.scan.proofs.Laws.{run_from}
 use Rattle.tokens.proofs.Laws.{name_none, name_some, name_long}
-use borrow.Author.Rules.{rules}
 use Rattle.tokens.proofs.name_end.Goals as goal
 
 pub returns-then-not-is_letter : goal.returns-then-not-is_letter

@@ -1,6 +1,5 @@
 use mathlib.Core.Path.{sym, ◌∙◌}
 use Rattle.tokens.proofs.Laws.{optional_some, optional_none}
-use borrow.Author.Rules.{rules}
 use Rattle.tokens.proofs.optional.Goals as goal
 
 pub returns-then-has : goal.returns-then-has

@@ -1,6 +1,5 @@
 use mathlib.Core.Path.{sym, ◌∙◌}
 use Rattle.tokens.proofs.Laws.{piece_ref, piece_end, piece_char}
-use borrow.Author.Rules.{rules}
 use Rattle.tokens.proofs.piece.Goals as goal
 
 pub returns-then-byte-eq38 : goal.returns-then-byte-eq38

@@ -1,12 +1,10 @@
 use mathlib.Core.Path.{◌≡◌, refl, sym, ◌∙◌}
 use mathlib.Core.Bool.{true}
-use Prim.Native.Nat.{◌≤◌, ◌-◌}
+use Prim.Native.Nat.{◌-◌}
 use native.Mathlib.Omega.{arith}
-use borrow.Author.Rules.{rules}
 use borrow.Author.Tests.{not-false}
-use lib.ListN.{length}
 use Rattle.scan.specs.Bytes.{byte_at}
-use Rattle.tokens.specs.Tokens.{is_plain, text_at}
+use Rattle.tokens.specs.Tokens.{is_plain}
 use Rattle.tokens.proofs.Laws.{text_plain}
 use Rattle.tokens.proofs.plain_end.Goals as goal
 

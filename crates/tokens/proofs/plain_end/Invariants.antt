@@ -1,13 +1,7 @@
-use mathlib.Core.Path.{◌≡◌, refl, sym, ◌∙◌}
-use mathlib.Core.Bool.{true}
+use mathlib.Core.Path.{◌≡◌}
 use Prim.Native.Nat.{◌≤◌, ◌-◌}
-use native.Mathlib.Omega.{arith}
-use borrow.Author.Rules.{rules}
-use borrow.Author.Tests.{not-false}
 use lib.ListN.{length}
-use Rattle.scan.specs.Bytes.{byte_at}
-use Rattle.tokens.specs.Tokens.{is_plain, text_at}
-use Rattle.tokens.proofs.Laws.{text_plain}
+use Rattle.tokens.specs.Tokens.{text_at}
 use Rattle.tokens.proofs.plain_end.Given as goal
 
 abbrev pub invariant-loop-i : goal.invariant-loop-i

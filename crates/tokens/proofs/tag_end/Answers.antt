@@ -1,4 +1,3 @@
-use borrow.Author.Rules.{rules}
 use mathlib.Core.Path.{sym, ◌∙◌}
 use Rattle.tokens.proofs.Laws.{tag_plain, tag_id, tag_none}
 use Rattle.tokens.proofs.tag_end.Goals as goal

@@ -1,10 +1,8 @@
 use mathlib.Core.Path.{◌≡◌, sym, ◌∙◌}
-use Prim.Native.Nat.{◌≤◌, ◌-◌}
+use Prim.Native.Nat.{◌-◌}
 use native.Mathlib.Omega.{arith}
-use borrow.Author.Rules.{rules}
-use lib.ListN.{length}
 use Rattle.scan.specs.declared.Walk.TheVariants.{Past}
-use Rattle.tokens.specs.Tokens.{piece_at, text_at}
+use Rattle.tokens.specs.Tokens.{piece_at}
 use Rattle.tokens.proofs.Laws.{piece_past, text_stop, text_step, text_broken}
 use Rattle.tokens.proofs.text.Goals as goal
 

@@ -1,11 +1,7 @@
-use mathlib.Core.Path.{◌≡◌, sym, ◌∙◌}
+use mathlib.Core.Path.{◌≡◌}
 use Prim.Native.Nat.{◌≤◌, ◌-◌}
-use native.Mathlib.Omega.{arith}
-use borrow.Author.Rules.{rules}
 use lib.ListN.{length}
-use Rattle.scan.specs.declared.Walk.TheVariants.{Past}
-use Rattle.tokens.specs.Tokens.{piece_at, text_at}
-use Rattle.tokens.proofs.Laws.{piece_past, text_stop, text_step, text_broken}
+use Rattle.tokens.specs.Tokens.{text_at}
 use Rattle.tokens.proofs.text.Given as goal
 
 abbrev pub invariant-loop-i : goal.invariant-loop-i

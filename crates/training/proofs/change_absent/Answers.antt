@@ -1,7 +1,6 @@
 use Rattle.order.specs.Ordinativo.{ordinativo}
 use Rattle.training.specs.Training.{list_of}
 use Rattle.training.proofs.Laws.{none_refused, none_room, none_taken}
-use borrow.Author.Rules.{rules}
 use Rattle.training.proofs.change_absent.Goals as goal
 
 pub returns-then-code-ne0 : goal.returns-then-code-ne0

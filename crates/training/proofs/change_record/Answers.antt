@@ -1,10 +1,9 @@
-use mathlib.Core.Path.{◌≡◌, refl, sym, ap, ◌∙◌}
+use mathlib.Core.Path.{◌≡◌, refl}
 use native.Mathlib.Omega.{arith}
 use lib.ListN.{length}
 use Rattle.order.specs.Ordinativo.{ordinativo}
 use Rattle.training.specs.Training.{list_of}
 use Rattle.training.proofs.Laws.{taken_low, record_refused, record_taken}
-use borrow.Author.Rules.{rules}
 use Rattle.training.proofs.change_record.Goals as goal
 
 pub overflow_add-result : goal.overflow_add-result

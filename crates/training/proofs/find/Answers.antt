@@ -1,11 +1,8 @@
-use Prim.Native.Nat.{◌-◌, ◌≤◌}
-use mathlib.Core.Path.{◌≡◌, refl, sym, ap, ◌∙◌}
+use Prim.Native.Nat.{◌-◌}
+use mathlib.Core.Path.{refl, sym, ◌∙◌}
 use native.Mathlib.Omega.{arith}
-use lib.ListN.{length, drop}
-use Rattle.slots.specs.Slots.{find_in}
 use Rattle.training.specs.Training.{list_of}
 use Rattle.training.proofs.Laws.{found_here, found_later, found_none}
-use borrow.Author.Rules.{rules}
 use Rattle.training.proofs.find.Goals as goal
 
 pub loop-i-init : goal.loop-i-init

@@ -1,6 +1,5 @@
 use Rattle.training.specs.Training.{list_of}
 use Rattle.training.proofs.Laws.{found_low, eight_here, notice_at_lem, notice_none}
-use borrow.Author.Rules.{rules}
 use Rattle.training.proofs.judge_notice.Goals as goal
 
 pub order_at-requires : goal.order_at-requires

@@ -1,9 +1,7 @@
 use mathlib.Core.Bool.{Bool, ◌&&◌}
 use lib.Dec.{eqb}
-use mathlib.Core.Path.{◌≡◌, refl, ap, ◌∙◌}
+use mathlib.Core.Path.{ap, ◌∙◌}
 use Rattle.record.specs.Slot.{key_is}
-use borrow.Author.Rules.{rules}
-use Rattle.training.proofs.both.Reads as both-reads
 use Rattle.training.proofs.key_is.Goals as goal
 
 pub returns : goal.returns

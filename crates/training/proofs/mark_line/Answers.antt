@@ -1,7 +1,6 @@
 use native.Mathlib.Omega.{arith}
 use Rattle.training.specs.Training.{list_of}
 use Rattle.training.proofs.Laws.{found_low, marks_absent, marks_refused, marks_first, marks_replaced}
-use borrow.Author.Rules.{rules}
 use Rattle.training.proofs.mark_line.Goals as goal
 
 pub returns-in_default : goal.returns-in_default

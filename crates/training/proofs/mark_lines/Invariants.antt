@@ -1,10 +1,8 @@
 use Prim.Native.Nat.{◌-◌}
-use native.Mathlib.Omega.{arith}
 use lib.ListN.{length}
 use Rattle.order.specs.Ordinativo.{lines_there}
 use Rattle.training.specs.Training.{list_of}
-use Rattle.training.proofs.Laws.{Marking, marking_start, marking_end, marking_stops, marking_next}
-use borrow.Author.Rules.{rules}
+use Rattle.training.proofs.Laws.{Marking}
 use Rattle.training.proofs.mark_lines.Given as goal
 
 abbrev pub invariant-loop-j : goal.invariant-loop-j

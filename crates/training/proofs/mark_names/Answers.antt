@@ -1,9 +1,8 @@
-use mathlib.Core.Path.{◌≡◌, refl, sym, ap, ◌∙◌}
+use mathlib.Core.Path.{refl}
 use Rattle.order.specs.Ordinativo.{ordinativo}
 use Rattle.training.specs.Training.{list_of}
 use Rattle.rules.specs.declared.Change.TheVariants.{Insert, Vary, Annul}
 use Rattle.training.proofs.Laws.{names_none, names_replace}
-use borrow.Author.Rules.{rules}
 use Rattle.training.proofs.mark_names.Goals as goal
 
 pub returns-in-Insert : goal.returns-in-Insert

@@ -1,8 +1,7 @@
-use mathlib.Core.Path.{◌≡◌, refl, sym, ap, ◌∙◌}
+use mathlib.Core.Path.{◌≡◌, sym, ◌∙◌}
 use native.Mathlib.Omega.{arith}
 use lib.ListN.{length}
 use Rattle.training.proofs.Laws.{taken_few, taken_all}
-use borrow.Author.Rules.{rules}
 use Rattle.training.proofs.size.Goals as goal
 
 pub returns-then-b-le-PLACES : goal.returns-then-b-le-PLACES

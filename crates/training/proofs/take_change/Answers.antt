@@ -2,7 +2,6 @@ use Rattle.order.specs.Ordinativo.{ordinativo}
 use Rattle.training.specs.Training.{list_of}
 use Rattle.rules.specs.Rules.{key_for}
 use Rattle.training.proofs.Laws.{found_low, change_lines, change_at, change_none}
-use borrow.Author.Rules.{rules}
 use Rattle.training.proofs.take_change.Goals as goal
 
 pub returns-then-code-ne0 : goal.returns-then-code-ne0

@@ -1,7 +1,6 @@
 use native.Mathlib.Omega.{arith}
 use Rattle.training.specs.Training.{list_of}
 use Rattle.training.proofs.Laws.{moved_low, moved_first, notice_moved, notice_unmoved}
-use borrow.Author.Rules.{rules}
 use Rattle.training.proofs.take_notice.Goals as goal
 
 pub overflow_sub-k : goal.overflow_sub-k

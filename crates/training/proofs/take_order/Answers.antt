@@ -3,7 +3,6 @@ use Rattle.order.specs.Ordinativo.{ordinativo}
 use Rattle.training.specs.Training.{list_of}
 use Rattle.rules.specs.Rules.{change_of}
 use Rattle.training.proofs.Laws.{order_taken}
-use borrow.Author.Rules.{rules}
 use Rattle.training.proofs.take_order.Goals as goal
 
 pub returns-in-Inserimento : goal.returns-in-Inserimento

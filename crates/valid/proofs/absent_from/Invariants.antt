@@ -1,13 +1,8 @@
-use borrow.Author.Rules.{rules}
 use Prim.Native.Nat.{◌-◌, ◌≤◌}
-use mathlib.Core.Path.{◌≡◌, refl, sym}
+use mathlib.Core.Path.{◌≡◌}
 use mathlib.Core.Bool.{◌&&◌}
-use native.Mathlib.Omega.{arith}
 use Rattle.record.specs.Slot.{record_at}
 use Rattle.valid.specs.Valid.{line_ok, all_from}
-use Rattle.valid.proofs.Lines.{past_more, past_done}
-use Rattle.record.proofs.both.Reads as both-reads
-use Rattle.valid.proofs.line_absent.Reads as line-absent-reads
 use Rattle.valid.proofs.absent_from.Given as goal
 
 abbrev pub invariant-loop-k : goal.invariant-loop-k

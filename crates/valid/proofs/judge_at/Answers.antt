@@ -7,7 +7,6 @@ use Rattle.valid.specs.Valid.{executed}
 use Rattle.valid.specs.Inner.{judged_by}
 use Rattle.valid.proofs.Valid.{ranges_bounds}
 use Rattle.valid.proofs.Lines.{broken, ranges_not, lines_is, lines_most, past_not, past_ok, past_sum}
-use borrow.Author.Rules.{rules}
 use Rattle.valid.proofs.judge_at.Goals as goal
 
 pub returns-then-not-ranges_ok : goal.returns-then-not-ranges_ok

@@ -1,7 +1,5 @@
 use native.Mathlib.Omega.{arith}
 use Rattle.valid.proofs.Lines.{past_same}
-use borrow.Author.Rules.{rules}
-use Rattle.valid.proofs.absent_from.Reads as absent-from-reads
 use Rattle.valid.proofs.lines_absent.Goals as goal
 
 pub returns-in-1 : goal.returns-in-1

@@ -1,21 +1,15 @@
-use borrow.Author.Rules.{rules}
-use Prim.Native.Nat.{ℕ, ◌+◌, ◌-◌, ◌≤◌}
-use mathlib.Core.Path.{◌≡◌, refl, sym, ap, ◌∙◌}
-use mathlib.Core.Bool.{Bool, cond}
+use Prim.Native.Nat.{ℕ, ◌+◌, ◌-◌}
+use mathlib.Core.Path.{◌≡◌, sym, ap, ◌∙◌}
+use mathlib.Core.Bool.{cond}
 use lib.Dec.{eqb}
 use native.Mathlib.Omega.{arith}
 use lib.ListN.{get_or, drop}
 use borrow.Author.Tests.{not-true, not-false}
-use Rattle.bounds.specs.Bounds.{max_cents}
 use Rattle.record.specs.Slot.{record_at}
 use Rattle.valid.specs.Valid.{executed_in, executed}
 use Rattle.valid.specs.Inner.{judged_by}
 use Rattle.valid.proofs.Laws.{executed_sum}
 use Rattle.valid.proofs.Lines.{left_ok, left_all, there_not, there_by, there_stop, over_stop, there_go, there_cents, there_done, lines_told}
-use Rattle.valid.proofs.line_cents.Reads as line-cents-reads
-use Rattle.valid.proofs.state_there.Reads as state-there-reads
-use Rattle.valid.proofs.told_by.Reads as told-by-reads
-use Rattle.words.proofs.read8.Reads as read8-reads
 use Rattle.valid.proofs.lines_there.Goals as goal
 
 pub loop-k-init : goal.loop-k-init

@@ -8,12 +8,6 @@ use Rattle.bounds.specs.Bounds.{max_cents}
 use Rattle.valid.specs.Valid.{ranges_ok}
 use Rattle.valid.proofs.Laws.{and_eq, and_known}
 use Rattle.valid.proofs.Lines.{date_not}
-use borrow.Author.Rules.{rules}
-use Rattle.record.proofs.both.Reads as both-reads
-use Rattle.valid.proofs.date_ok.Reads as date-ok-reads
-use Rattle.words.proofs.read2.Reads as read2-reads
-use Rattle.words.proofs.read4.Reads as read4-reads
-use Rattle.words.proofs.read8.Reads as read8-reads
 use Rattle.valid.proofs.ranges_ok.Goals as goal
 
 pub returns-then-not-date_ok : goal.returns-then-not-date_ok

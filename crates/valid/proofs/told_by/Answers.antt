@@ -1,7 +1,6 @@
 use mathlib.Core.Path.{sym, ap}
 use mathlib.Core.Bool.{Bool}
 use Rattle.valid.specs.Inner.{judged_by}
-use borrow.Author.Rules.{rules}
 use Rattle.valid.proofs.told_by.Goals as goal
 
 pub returns-then-right : goal.returns-then-right
