@@ -7,9 +7,7 @@ use native.Mathlib.Numerals.{add-one}
 use native.Mathlib.Omega.{arith}
 use lib.ListN.{length, get_or, drop, drop_of_length-le}
 use lib.Seq.{drop-cons}
-use lib.Dec.{eqb}
 use borrow.Author.Tests.{eq-eqb, ne_eqb}
-use Rattle.scan.specs.Bytes.{part}
 use Rattle.digits.proofs.Laws.{refusal_in}
 use Rattle.tokens.specs.Tokens.{white_at}
 use Rattle.calendar.specs.declared.Date.{Date}
@@ -24,7 +22,7 @@ use Rattle.schema.specs.declared.Parent.TheVariants.{MessaggiEsito, TestataMessa
 use Rattle.rows.specs.declared.Kept.{Kept}
 use Rattle.rows.specs.declared.Next.TheVariants.{Named, Done}
 use Rattle.rows.specs.Kept.{kept_from, next_of}
-use Rattle.orders.specs.Orders.{in_row, text_in, value_of, date_of, inside_of}
+use Rattle.orders.specs.Orders.{in_row, value_of, date_of, inside_of}
 use Rattle.parts.specs.declared.Span.{Span}
 use Rattle.parts.specs.Parts.{no_span, span_in, spans_from, parts_in, text_by}
 use Rattle.parts.proofs.Laws.{row_at, row_end, at_span, at_text}
@@ -33,7 +31,7 @@ use Rattle.agreement.specs.declared.EntryKind.{EntryKind}
 use Rattle.agreement.specs.Agreement.{entry_parent, errors_parent, entry_row, entries_of}
 use Rattle.schema.specs.declared.Holds.TheVariants.{Rows}
 use Rattle.message_values.specs.declared.Facts.{Facts}
-use Rattle.message_values.specs.Values.{kind_number, span_bytes, spans_bytes, facts_bytes, error_code_at, facts_at, parts_bytes, entry_by, entry_at, entries_at, head_at}
+use Rattle.message_values.specs.Values.{kind_number, span_bytes, spans_bytes, facts_bytes, error_code_at, facts_at, parts_bytes, entry_at, entries_at, head_at}
 
 -- A CODE fits a byte
 pub code_small : (t : List ℕ) → value_of (codice_errore t) ≤ 255

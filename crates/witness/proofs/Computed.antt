@@ -2,8 +2,8 @@
 use Prim.Native.Nat.{ℕ}
 use mathlib.Core.Path.{◌≡◌, refl}
 use mathlib.Core.Bool.{true}
-use mathlib.Core.List.{List, [], ◌∷◌, ◌++◌}
-use lib.ListN.{length, take}
+use mathlib.Core.List.{List, [], ◌∷◌}
+use lib.ListN.{length}
 use lib.Dec.{leb}
 use Rattle.bounds.specs.Bounds.{max_flow}
 use Rattle.order.specs.Ordinativo.{Ordinativo}
@@ -13,11 +13,10 @@ use Rattle.header.specs.Header.{Header}
 use Rattle.flow.specs.declared.Verdict.TheVariants.{Stands}
 use Rattle.flow.specs.Flow.{header_of, flow_orders, verdict_by, verdict_of}
 use Rattle.table.specs.Table.{table_ok}
-use Rattle.desk.specs.declared.FlowAnswer.TheVariants.{BrokenField}
-use Rattle.desk.specs.Desk.{refused, for_bank, flow_reads}
+use Rattle.desk.specs.Desk.{for_bank, flow_reads}
 use Rattle.marked.specs.Flows.{single}
 use Rattle.witness.specs.Flows.{two, header_for, order}
-use Rattle.scan.specs.Bytes.{bytes, is_letter, is_digit, is_alnum, is_name_byte, is_white, all, run, run_end, starts_with, has_at, text_is}
+use Rattle.scan.specs.Bytes.{is_letter, is_digit, is_alnum, is_name_byte, is_white, all, run, run_end, starts_with, has_at, text_is}
 use Rattle.scan.specs.Characters.{is_char, sized, is_tail, char_size, past_or, char_at}
 use Rattle.scan.specs.References.{which_at}
 use Rattle.calendar.specs.Calendar.{leap, month_length, is_date}

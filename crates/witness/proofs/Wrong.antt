@@ -20,7 +20,6 @@ use Rattle.editions.specs.declared.Edition.{Edition}
 use Rattle.editions.specs.declared.Edition.TheVariants.{Oil}
 use Rattle.editions.specs.declared.Edited.{Edited}
 use Rattle.editions.specs.declared.Edited.TheVariants.{By}
-use Rattle.editions.specs.Editions.{edition_of}
 use Rattle.header.specs.Header.{Header}
 use Rattle.opening.specs.Opening.{open_code}
 use Rattle.notices.specs.declared.TotalsAnswer.{TotalsAnswer}

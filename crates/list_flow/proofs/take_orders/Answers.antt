@@ -4,7 +4,7 @@ use native.Mathlib.Omega.{arith}
 use borrow.Author.Rules.{rules}
 use lib.ListN.{length}
 use Rattle.training.specs.Training.{list_of}
-use Rattle.list_flow.proofs.Laws.{taken_most, Taking, taking_start, taking_end, taking_order, taking_room, taking_steps, taking_step}
+use Rattle.list_flow.proofs.Laws.{taken_most, taking_start, taking_end, taking_order, taking_room, taking_steps, taking_step}
 use Rattle.list_flow.proofs.take_orders.Goals as goal
 
 pub loop-k-init : goal.loop-k-init

@@ -1,10 +1,7 @@
-use mathlib.Core.Path.{◌≡◌}
 use Prim.Native.Nat.{◌-◌}
-use native.Mathlib.Omega.{arith}
-use borrow.Author.Rules.{rules}
 use lib.ListN.{length}
 use Rattle.training.specs.Training.{list_of}
-use Rattle.list_flow.proofs.Laws.{taken_most, Taking, taking_start, taking_end, taking_order, taking_room, taking_steps, taking_step}
+use Rattle.list_flow.proofs.Laws.{Taking}
 use Rattle.list_flow.proofs.take_orders.Given as goal
 
 abbrev pub invariant-loop-k : goal.invariant-loop-k

@@ -1,6 +1,5 @@
 use mathlib.Core.Path.{◌≡◌, ap, ◌∙◌}
 use native.Mathlib.Omega.{arith}
-use borrow.Author.Rules.{rules}
 use Rattle.scan.specs.Bytes.{is_white}
 use Rattle.scan.proofs.Laws.{run_within}
 use Rattle.tokens.specs.Tokens.{white_at}
@@ -10,7 +9,6 @@ use Rattle.parts.specs.Parts.{parts_in}
 use Rattle.parts.proofs.Laws.{at_within}
 use Rattle.agreement.specs.Agreement.{errors_parent}
 use Rattle.message_values.proofs.Laws.{code_none, code_is}
-use borrow.Author.Rules.{rules}
 use Rattle.message_values.proofs.code_at.Goals as goal
 
 pub returns-then-list-eq0 : goal.returns-then-list-eq0

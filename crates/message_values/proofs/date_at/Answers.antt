@@ -1,8 +1,6 @@
 use mathlib.Core.Path.{ap, ◌∙◌}
-use borrow.Author.Rules.{rules}
 use Rattle.dates.specs.Dates.{data_of}
 use Rattle.orders.specs.Orders.{date_of}
-use borrow.Author.Rules.{rules}
 use Rattle.message_values.proofs.date_at.Goals as goal
 
 pub returns : goal.returns

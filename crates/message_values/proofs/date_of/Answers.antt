@@ -1,5 +1,3 @@
-use borrow.Author.Rules.{rules}
-use borrow.Author.Rules.{rules}
 use Rattle.message_values.proofs.date_of.Goals as goal
 
 pub returns-in-NoDay : goal.returns-in-NoDay

@@ -1,9 +1,7 @@
-use mathlib.Core.Path.{sym, ap, ◌∙◌}
-use borrow.Author.Rules.{rules}
+use mathlib.Core.Path.{ap, ◌∙◌}
 use Rattle.digits.specs.Digits.{codice_errore}
 use Rattle.orders.specs.Orders.{value_of}
 use Rattle.message_values.proofs.Laws.{code_small}
-use borrow.Author.Rules.{rules}
 use Rattle.message_values.proofs.error_at.Goals as goal
 
 pub small-requires : goal.small-requires

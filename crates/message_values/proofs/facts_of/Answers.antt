@@ -1,9 +1,7 @@
 use mathlib.Core.Path.{ap, ◌∙◌}
 use native.Mathlib.Omega.{arith}
-use borrow.Author.Rules.{rules}
 use Rattle.codes.specs.Codes.{operation_number}
 use Rattle.message_values.proofs.Laws.{facts_made}
-use borrow.Author.Rules.{rules}
 use Rattle.message_values.proofs.facts_of.Goals as goal
 
 pub year_at-esercizio-requires : goal.year_at-esercizio-requires

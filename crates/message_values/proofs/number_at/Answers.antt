@@ -1,8 +1,6 @@
 use mathlib.Core.Path.{ap, ◌∙◌}
-use borrow.Author.Rules.{rules}
 use Rattle.digits.specs.Digits.{numero}
 use Rattle.orders.specs.Orders.{value_of}
-use borrow.Author.Rules.{rules}
 use Rattle.message_values.proofs.number_at.Goals as goal
 
 pub returns : goal.returns

@@ -1,8 +1,6 @@
 use mathlib.Core.Path.{ap, ◌∙◌}
-use borrow.Author.Rules.{rules}
 use Rattle.codes.specs.Codes.{esito_operazione}
 use Rattle.message.specs.Read.{operation_in}
-use borrow.Author.Rules.{rules}
 use Rattle.message_values.proofs.operation_at.Goals as goal
 
 pub returns : goal.returns

@@ -1,11 +1,9 @@
 use mathlib.Core.Path.{sym, ◌∙◌}
 use Prim.Native.Nat.{◌-◌}
 use native.Mathlib.Omega.{arith}
-use lib.ListN.{length}
-use borrow.Author.Rules.{rules}
 use Rattle.schema.specs.declared.Parent.TheVariants.{MessaggiEsito}
 use Rattle.parts.proofs.Laws.{lies_begins, lies_less, lies_inside, row_at}
-use Rattle.message_values.proofs.Laws.{Entries, entries_start, entries_end, entries_room, entries_step}
+use Rattle.message_values.proofs.Laws.{entries_start, entries_end, entries_room, entries_step}
 use Rattle.message_values.proofs.put_entries.Goals as goal
 
 pub loop-k-init : goal.loop-k-init

@@ -1,6 +1,5 @@
 use mathlib.Core.Path.{◌≡◌, ap, ◌∙◌}
 use native.Mathlib.Omega.{arith}
-use borrow.Author.Rules.{rules}
 use lib.ListN.{get_or}
 use Rattle.words.specs.Numbers.{put}
 use Rattle.schema.specs.declared.Parent.{Parent}
@@ -12,7 +11,6 @@ use Rattle.agreement.specs.Agreement.{entry_parent}
 use Rattle.agreement.proofs.Laws.{list_within}
 use Rattle.message_values.specs.Values.{parts_bytes, entry_by, entry_at}
 use mathlib.Core.List.{List}
-use borrow.Author.Rules.{rules}
 use Rattle.message_values.proofs.put_entry.Goals as goal
 
 pub facts_of-f-requires : goal.facts_of-f-requires

@@ -1,7 +1,7 @@
-use mathlib.Core.Path.{◌≡◌, sym, ap, ◌∙◌}
+use mathlib.Core.Path.{◌≡◌, ap, ◌∙◌}
 use native.Mathlib.Omega.{arith}
 use borrow.Author.Rules.{rules}
-use lib.ListN.{get_or, length}
+use lib.ListN.{get_or}
 use Rattle.scan.specs.Bytes.{is_white}
 use Rattle.scan.proofs.Laws.{run_within}
 use Rattle.tokens.specs.Tokens.{white_at}

@@ -1,5 +1,4 @@
 use Rattle.message_values.proofs.Laws.{parts_put}
-use borrow.Author.Rules.{rules}
 use Rattle.message_values.proofs.put_parts.Goals as goal
 
 pub returns : goal.returns

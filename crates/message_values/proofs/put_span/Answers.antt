@@ -1,6 +1,4 @@
-use borrow.Author.Rules.{rules}
 use Rattle.message_values.proofs.Laws.{span_put}
-use borrow.Author.Rules.{rules}
 use Rattle.message_values.proofs.put_span.Goals as goal
 
 pub returns : goal.returns

@@ -1,9 +1,9 @@
 use mathlib.Core.Path.{◌≡◌}
-use Prim.Native.Nat.{◌-◌, ◌≤◌}
+use Prim.Native.Nat.{◌-◌}
 use native.Mathlib.Omega.{arith}
 use lib.ListN.{length}
 use borrow.Author.Rules.{rules}
-use Rattle.message_values.proofs.Laws.{Texts, texts_start, texts_step, texts_end}
+use Rattle.message_values.proofs.Laws.{texts_start, texts_step, texts_end}
 use Rattle.message_values.proofs.put_spans.Goals as goal
 
 pub loop-i-init : goal.loop-i-init

@@ -1,9 +1,5 @@
-use mathlib.Core.Path.{◌≡◌}
-use Prim.Native.Nat.{◌-◌, ◌≤◌}
-use native.Mathlib.Omega.{arith}
-use lib.ListN.{length}
-use borrow.Author.Rules.{rules}
-use Rattle.message_values.proofs.Laws.{Texts, texts_start, texts_step, texts_end}
+use Prim.Native.Nat.{◌-◌}
+use Rattle.message_values.proofs.Laws.{Texts}
 use Rattle.message_values.proofs.put_spans.Given as goal
 
 abbrev pub invariant-loop-i : goal.invariant-loop-i

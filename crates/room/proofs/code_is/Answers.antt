@@ -2,12 +2,10 @@ use Prim.Native.Nat.{ℕ, ◌≤◌}
 use mathlib.Core.List.{List}
 use mathlib.Core.Path.{◌≡◌, sym, ap, ◌∙◌}
 use native.Mathlib.Omega.{arith}
-use borrow.Author.Rules.{rules}
 use lib.ListN.{length, take}
 use Rattle.scan.specs.Bytes.{text_is}
 use lib.Seq.{length-take-le}
 use Rattle.room.proofs.Laws.{taken_bytes}
-use borrow.Author.Rules.{rules}
 use Rattle.room.proofs.code_is.Goals as goal
 use Rattle.room.proofs.code_is.Goals.{then-p-le16, else-p-le16}
 

@@ -1,12 +1,8 @@
-use Prim.Native.Nat.{◌-◌, ◌≤◌}
-use mathlib.Core.Path.{◌≡◌, refl, sym, ◌∙◌}
+use Prim.Native.Nat.{◌-◌}
+use mathlib.Core.Path.{refl, sym, ◌∙◌}
 use native.Mathlib.Omega.{arith}
-use borrow.Author.Rules.{rules}
-use lib.ListN.{drop}
-use Rattle.entries.specs.Entry.{find_code}
-use Rattle.plain.specs.Plain.{numbered}
 use Rattle.room.specs.Room.{room_of}
-use Rattle.room.proofs.Laws.{codes_of, seat_here, seat_later, seat_none}
+use Rattle.room.proofs.Laws.{seat_here, seat_later, seat_none}
 use Rattle.room.proofs.find_seat.Goals as goal
 
 pub loop-b-init : goal.loop-b-init

@@ -1,11 +1,8 @@
-use Prim.Native.Nat.{◌-◌, ◌≤◌}
-use mathlib.Core.Path.{◌≡◌, refl, sym, ◌∙◌}
+use Prim.Native.Nat.{◌-◌}
+use mathlib.Core.Path.{refl, sym, ◌∙◌}
 use native.Mathlib.Omega.{arith}
-use lib.ListN.{drop}
-use borrow.Author.Rules.{rules}
 use borrow.Author.Tests.{not-true, not-false}
 use Rattle.training.specs.Training.{list_of}
-use Rattle.plain.specs.Plain.{fits}
 use Rattle.room_notices.proofs.Laws.{fits_stop, fits_go, fits_end}
 use Rattle.room_notices.proofs.book_fits.Goals as goal
 

@@ -1,11 +1,9 @@
 use mathlib.Core.Path.{sym, ◌∙◌}
 use native.Mathlib.Omega.{arith}
-use borrow.Author.Rules.{rules}
 use borrow.Author.Tests.{not-true, not-false}
 use Rattle.days.proofs.Signed.{difference_fits, difference_is}
 use Rattle.training.specs.Training.{list_of}
 use Rattle.room_notices.proofs.Laws.{totals_unfit, totals_fit}
-use borrow.Author.Rules.{rules}
 use Rattle.room_notices.proofs.book_totals.Goals as goal
 
 pub returns-then-not-book_fits : goal.returns-then-not-book_fits

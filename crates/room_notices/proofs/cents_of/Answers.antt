@@ -1,8 +1,7 @@
-use Prim.Native.Nat.{◌-◌, ◌≤◌}
+use Prim.Native.Nat.{◌-◌}
 use native.Mathlib.Omega.{arith}
-use borrow.Author.Rules.{rules}
 use Rattle.training.specs.Training.{list_of}
-use Rattle.room_notices.proofs.Laws.{amounts_at, Counted, counted_none, counted_same, counted_other, counted_all}
+use Rattle.room_notices.proofs.Laws.{amounts_at, counted_none, counted_same, counted_other, counted_all}
 use Rattle.room_notices.proofs.cents_of.Goals as goal
 use Rattle.room_notices.proofs.cents_of.Goals.{then-r-kind, else-r-kind}
 

@@ -1,8 +1,6 @@
 use Prim.Native.Nat.{◌-◌, ◌≤◌}
-use native.Mathlib.Omega.{arith}
-use borrow.Author.Rules.{rules}
 use Rattle.training.specs.Training.{list_of}
-use Rattle.room_notices.proofs.Laws.{amounts_at, Counted, counted_none, counted_same, counted_other, counted_all}
+use Rattle.room_notices.proofs.Laws.{Counted}
 use Rattle.room_notices.proofs.cents_of.Given as goal
 
 abbrev pub invariant-loop-i : goal.invariant-loop-i

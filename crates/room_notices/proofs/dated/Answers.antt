@@ -1,7 +1,5 @@
-use borrow.Author.Rules.{rules}
 use Rattle.room.specs.Room.{room_of}
 use Rattle.room_notices.proofs.Laws.{on_target, off_target}
-use borrow.Author.Rules.{rules}
 use Rattle.room_notices.proofs.dated.Goals as goal
 
 pub returns-then-refused-eq0 : goal.returns-then-refused-eq0

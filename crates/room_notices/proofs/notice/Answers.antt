@@ -1,9 +1,7 @@
 use mathlib.Core.Path.{sym, ◌∙◌}
-use borrow.Author.Rules.{rules}
 use Rattle.room.specs.Room.{room_of}
 use Rattle.room.proofs.Laws.{numbered_low}
 use Rattle.room_notices.proofs.Laws.{for_none, for_at}
-use borrow.Author.Rules.{rules}
 use Rattle.room_notices.proofs.notice.Goals as goal
 
 pub seat_at-p-requires : goal.seat_at-p-requires

@@ -1,9 +1,7 @@
 use mathlib.Core.Path.{sym, ◌∙◌}
-use borrow.Author.Rules.{rules}
 use borrow.Author.Tests.{not-true, not-false}
 use Rattle.training.specs.Training.{list_of}
 use Rattle.room_notices.proofs.Laws.{eight, on_unfit, on_fit}
-use borrow.Author.Rules.{rules}
 use Rattle.room_notices.proofs.notice_on.Goals as goal
 
 pub returns-then-not-book_fits : goal.returns-then-not-book_fits

@@ -1,11 +1,8 @@
 use Prim.Native.Nat.{◌+◌, ◌*◌, ◌-◌, ◌≤◌}
-use mathlib.Core.Path.{◌≡◌, refl}
-use native.Mathlib.Omega.{arith}
-use lib.ListN.{length, drop}
-use borrow.Author.Rules.{rules}
+use mathlib.Core.Path.{◌≡◌}
+use lib.ListN.{drop}
 use Rattle.bounds.specs.Bounds.{max_cents}
 use Rattle.valid.specs.Valid.{executed_in}
-use Rattle.room_notices.proofs.Laws.{amount_low, lines_more, lines_end}
 use Rattle.room_notices.proofs.record_cents.Given as goal
 
 abbrev pub invariant-loop-k : goal.invariant-loop-k

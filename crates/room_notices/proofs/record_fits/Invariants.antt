@@ -1,10 +1,7 @@
 use Prim.Native.Nat.{◌-◌, ◌≤◌}
-use mathlib.Core.Path.{◌≡◌, refl, sym, ◌∙◌}
-use native.Mathlib.Omega.{arith}
-use lib.ListN.{length, drop}
-use borrow.Author.Rules.{rules}
+use mathlib.Core.Path.{◌≡◌}
+use lib.ListN.{drop}
 use Rattle.plain.specs.Plain.{amounts_fit}
-use Rattle.room_notices.proofs.Laws.{amounts_more, amounts_over, amounts_end, lines_over, lines_low}
 use Rattle.room_notices.proofs.record_fits.Given as goal
 
 abbrev pub invariant-loop-k : goal.invariant-loop-k

@@ -1,11 +1,9 @@
 use mathlib.Core.Path.{sym, ap, ◌∙◌}
-use borrow.Author.Rules.{rules}
 use Rattle.plain.specs.Plain.{Listed}
 use Rattle.plain.specs.Notices.{list_totals}
 use Rattle.room.specs.Room.{room_of}
 use Rattle.room.proofs.Laws.{numbered_low}
 use Rattle.room_notices.proofs.Laws.{totals_at}
-use borrow.Author.Rules.{rules}
 use Rattle.room_notices.proofs.totals.Goals as goal
 
 pub seat_at-p-requires : goal.seat_at-p-requires
