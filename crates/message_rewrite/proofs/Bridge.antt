@@ -1,32 +1,28 @@
 -- What the values show is what was read: an entry, from its 48 bytes, is the entry that its tree says.
 use mathlib.Core.Path.{◌≡◌, refl, sym, ap, ◌∙◌}
-use mathlib.Core.List.{List, [], ◌∷◌, ◌++◌, append_assoc}
-use mathlib.Core.Bool.{Bool, true, false}
-use Prim.Native.Nat.{ℕ, zero, suc, ◌+◌, ◌*◌, ◌-◌, ◌%◌, ◌≤◌, ◌<◌}
-use Prim.Native.String.{String}
+use mathlib.Core.List.{List, [], ◌∷◌, ◌++◌}
+use Prim.Native.Nat.{ℕ, ◌+◌, ◌-◌, ◌%◌, ◌≤◌, ◌<◌}
 use native.Mathlib.Nat.{add-zero, add_assoc}
 use native.Mathlib.Omega.{arith}
 use lib.ListN.{length, drop, get_or, length-append, length-drop}
 use lib.Seq.{get_or-drop, drop-drop}
 use Rattle.scan.specs.Bytes.{byte_at, part}
-use Rattle.scan.proofs.Laws.{in_range}
-use Rattle.words.specs.Numbers.{be2, be4, be8, bytes2, bytes4, bytes8}
+use Rattle.words.specs.Numbers.{be2, be4, be8, bytes4, bytes8}
 use Rattle.words.proofs.Laws.{Agree, on, same2, same4, same8, be2_bytes, be4_bytes, be8_bytes}
 use Rattle.grammar.proofs.Parts.{part_none}
-use Rattle.calendar.specs.declared.Date.{Date}
 use Rattle.codes.specs.declared.Operation.{Operation}
 use Rattle.codes.specs.declared.Operation.TheVariants.{Inserimento, Variazione, Annullo, Sostituzione}
 use Rattle.codes.specs.Codes.{operation_number}
-use Rattle.tree.specs.Tree.{Tree, Trees, none, more, held_of, kids_in}
-use Rattle.tree.specs.Orders.{children_named, held_text, first_text, Words}
+use Rattle.tree.specs.Tree.{Tree, held_of}
+use Rattle.tree.specs.Orders.{held_text, first_text, Words}
 use Rattle.tree.specs.Written.{node}
 use Rattle.message.specs.Message.{Entry}
-use Rattle.message.specs.Written.{◌and◌, entry_out, entries_out}
+use Rattle.message.specs.Written.{◌and◌, entry_out}
 use Rattle.message_pen.specs.Parts.{words_for, entry_name, entry_with}
 use Rattle.message_values.specs.Values.{facts_bytes}
 use Rattle.message_read.specs.Values.{text_place, shown, facts_of}
 use Rattle.message_rewrite.specs.Again.{text_shown, PairAt, operation_by, said_at, entry_again, EntryAt}
-use Rattle.message_rewrite.proofs.Places.{TextAt, AllOf, none_of, one_of}
+use Rattle.message_rewrite.proofs.Places.{TextAt, AllOf, one_of}
 
 -- BYTES FROM A PLACE ON
 module _ (v : List ℕ) (at : ℕ) where

@@ -1,6 +1,6 @@
 -- The call: what a reading leaves to be written, and each way out.
 use mathlib.Core.Path.{◌≡◌, refl, sym, ap, subst, ◌∙◌}
-use mathlib.Core.List.{List, ◌++◌}
+use mathlib.Core.List.{List}
 use mathlib.Core.Bool.{Bool, true, false, cond}
 use Prim.Native.Nat.{ℕ, ◌+◌, ◌*◌, ◌≤◌, ◌<◌}
 use native.Mathlib.Omega.{arith}
@@ -10,7 +10,6 @@ use lib.Dec.{leb}
 use borrow.Author.Tests.{le-leb, lt-leb, leb-true, leb-false}
 use Rattle.scan.proofs.Laws.{in_range}
 use Rattle.words.specs.Numbers.{put}
-use Rattle.words.proofs.Laws.{length_put}
 use Rattle.standing.specs.Readings.{Bad, Place, Nowhere}
 use Rattle.editions.specs.declared.Edition.{Edition}
 use Rattle.tree.specs.Tree.{Tree, held_of, kids_in}
@@ -22,7 +21,7 @@ use Rattle.message.proofs.Theorem.{read_ok}
 use Rattle.message.proofs.Short.{message_short}
 use Rattle.message_pen.specs.Parts.{RoomOf, WroteTree}
 use Rattle.message_read.specs.declared.Reply.{Reply}
-use Rattle.message_read.specs.Values.{values_in, values_size}
+use Rattle.message_read.specs.Values.{values_in}
 use Rattle.message_read.specs.Promise.{ReadFrom, ReadIn, refuses, no_room, reads}
 use Rattle.message_read.proofs.NoSecond.{values_suffice}
 use Rattle.message_rewrite.specs.declared.RewriteReply.{RewriteReply}

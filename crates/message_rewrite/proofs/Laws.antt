@@ -1,16 +1,13 @@
 -- A message written from its values: an entry, the entries while they are walked, the header.
 use mathlib.Core.Path.{◌≡◌, refl, sym, ap, subst, ◌∙◌}
 use mathlib.Core.List.{List}
-use mathlib.Core.Bool.{Bool, true, false, cond}
-use Prim.Native.Nat.{ℕ, zero, suc, ◌+◌, ◌*◌, ◌-◌, ◌≤◌, ◌<◌}
+use Prim.Native.Nat.{ℕ, zero, suc, ◌+◌, ◌*◌, ◌-◌, ◌≤◌}
 use native.Mathlib.Omega.{arith}
 use lib.ListN.{length}
-use lib.Dec.{eqb}
 use borrow.Author.Tests.{eq-eqb, ne_eqb}
 use Rattle.words.specs.Numbers.{be4}
-use Rattle.codes.specs.declared.Operation.{Operation}
 use Rattle.codes.specs.declared.Operation.TheVariants.{Inserimento, Variazione, Annullo, Sostituzione}
-use Rattle.tree.specs.Tree.{Tree, Trees, none, more}
+use Rattle.tree.specs.Tree.{Tree, Trees}
 use Rattle.tree.specs.Written.{node}
 use Rattle.message.specs.Written.{entry_out}
 use Rattle.header.specs.declared.Span.{Span}
@@ -18,7 +15,7 @@ use Rattle.message_pen.specs.declared.Saying.{Saying}
 use Rattle.message_pen.specs.declared.Given.{Given}
 use Rattle.message_pen.specs.Parts.{RoomFor, WroteAll, RoomOf, WroteTree, words_for, entry_name, entry_with, text_at, Lies, GivenIn, beginning_in}
 use Rattle.message_pen.proofs.Laws.{wrote_none, first_room, first_rest, wrote_first}
-use Rattle.message_rewrite.specs.Again.{span_at, text_shown, PairAt, operation_by, said_at, entry_again, EntryAt, entries_again, EntriesAt, no_entries, an_entry, given_at, head_again, HeadAt}
+use Rattle.message_rewrite.specs.Again.{span_at, text_shown, PairAt, operation_by, said_at, entry_again, EntryAt, entries_again, EntriesAt, an_entry, given_at, head_again, HeadAt}
 
 -- AN OPERATION by its number
 module _ (n : ℕ) where

@@ -1,6 +1,6 @@
 -- The text of an element stands where its tree says: after its start tag, in the message itself.
 use mathlib.Core.Path.{◌≡◌, refl, sym, ap, ◌∙◌}
-use mathlib.Core.List.{List, [], ◌∷◌, ◌++◌}
+use mathlib.Core.List.{List, [], ◌∷◌}
 use mathlib.Core.Bool.{Bool, true, false, cond, ◌||◌}
 use Prim.Native.Nat.{ℕ, zero, suc, ◌+◌, ◌-◌, ◌≤◌}
 use Prim.Native.String.{String}
@@ -8,16 +8,16 @@ use native.Mathlib.Omega.{arith}
 use lib.ListN.{length, length-append}
 use Rattle.scan.specs.Bytes.{bytes, part, text_is}
 use Rattle.tokens.specs.Tokens.{white_at}
-use Rattle.grammar.specs.Grammar.{start_tag, content_place, root_place, name_end}
+use Rattle.grammar.specs.Grammar.{start_tag, content_place}
 use Rattle.grammar.proofs.Parts.{part_length, part_none}
 use Rattle.children.specs.declared.Child.{Child}
 use Rattle.children.specs.declared.Step.{Step}
 use Rattle.children.specs.declared.Step.TheVariants.{One, End}
 use Rattle.children.specs.Child.{child_at, then_from, children_up_to, children_from}
 use Rattle.children.proofs.Laws.{Lies, child_lies}
-use Rattle.tree.specs.Tree.{Tree, tree, Held, says, holds, Trees, none, more, lt_of, name_of, held_of, kids_in, ReadsAs}
+use Rattle.tree.specs.Tree.{Tree, tree, Trees, none, more, name_of, held_of, kids_in, ReadsAs}
 use Rattle.tree.specs.Orders.{children_named, held_text}
-use Rattle.tree.proofs.Positions.{trees_by, held_by, held_from, tree_at, trees_from}
+use Rattle.tree.proofs.Positions.{trees_by, held_by, tree_at, trees_from}
 use Rattle.tree.proofs.Book.{kids_held}
 use Rattle.tree.proofs.Orders.{kids_of}
 use Rattle.tree.proofs.Read.{document_tree}

@@ -1,27 +1,27 @@
 -- THE WHOLE: what is written from the values of a reading is the message that was read.
-use mathlib.Core.Path.{◌≡◌, refl, sym, ap, subst, ◌∙◌}
+use mathlib.Core.Path.{◌≡◌, refl, ap, subst, ◌∙◌}
 use mathlib.Core.List.{List, [], ◌∷◌, ◌++◌, append_assoc}
 use mathlib.Core.Bool.{Bool, true, false, cond}
-use Prim.Native.Nat.{ℕ, zero, suc, ◌+◌, ◌*◌, ◌%◌, ◌≤◌, ◌<◌}
+use Prim.Native.Nat.{ℕ, zero, suc, ◌+◌, ◌*◌, ◌%◌, ◌≤◌}
 use Prim.Native.String.{String}
 use native.Mathlib.Omega.{arith}
-use lib.ListN.{length, take, drop, length-append}
+use lib.ListN.{length, drop, length-append}
 use Rattle.scan.proofs.Laws.{in_range}
-use Rattle.words.specs.Numbers.{be2, be4, put, bytes4, bytes8}
+use Rattle.words.specs.Numbers.{be2, be4, bytes4}
 use Rattle.words.proofs.Laws.{be4_bytes}
 use Rattle.calendar.proofs.Laws.{date_ranges}
 use Rattle.standing.specs.Readings.{Bad, Place, Nowhere}
 use Rattle.tree.specs.Tree.{Tree, Trees, none, more, held_of, kids_in}
 use Rattle.tree.specs.Orders.{children_named, first_text, text_named, Words, mandato_words, reversale_words}
 use Rattle.tree.specs.Written.{leaf, node}
-use Rattle.message.specs.Message.{Entry, Message, EntryOk, Every, every_none, every_next, entry_count, MessageOk}
+use Rattle.message.specs.Message.{Entry, Message, EntryOk, Every, every_next, entry_count, MessageOk}
 use Rattle.message.specs.Written.{◌and◌, head_out, entries_out, message_tree}
 use Rattle.message.specs.Read.{first_kids, kids_named, entry_in, each_of, entries_named, message_in, first_broken, read, refused, by_place, is_message, reading_on}
 use Rattle.message.proofs.Blind.{each_length}
 use Rattle.message_pen.specs.Parts.{words_for, entry_name}
-use Rattle.message_read.specs.Values.{shown, shown_named, testata_bytes, entry_shown, entries_shown, values_in}
+use Rattle.message_read.specs.Values.{shown_named, testata_bytes, entry_shown, entries_shown, values_in}
 use Rattle.message_rewrite.specs.Again.{text_shown, PairAt, entries_again, EntriesAt, no_entries, an_entry, message_again, HeadAt, AllAt}
-use Rattle.message_rewrite.proofs.Places.{TextAt, AllIn, all_none, DeepAt, root_at, AllOf, none_of, one_of, all_named}
+use Rattle.message_rewrite.proofs.Places.{TextAt, AllIn, all_none, DeepAt, AllOf, none_of, one_of, all_named}
 use Rattle.message_rewrite.proofs.Bridge.{Pair, pair_of, shows, shows_at, Fits, entry_rest_lem, entry_at, entry_same}
 
 -- an entry that may be written fits its bytes

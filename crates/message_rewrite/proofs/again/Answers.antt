@@ -1,6 +1,5 @@
 use Rattle.message_pen.proofs.Laws.{node_in, node_close, wrote_node, join_room, join_rest, wrote_join}
 use Rattle.message_rewrite.specs.Again.{head_again, entries_again}
-use borrow.Author.Rules.{rules}
 use Rattle.message_rewrite.proofs.again.Goals as goal
 
 pub head_again-b-requires : goal.head_again-b-requires

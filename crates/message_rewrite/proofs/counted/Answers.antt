@@ -1,6 +1,5 @@
 use mathlib.Core.Path.{◌∙◌}
 use Rattle.message_rewrite.proofs.Call.{again_none, again_made}
-use borrow.Author.Rules.{rules}
 use Rattle.message_rewrite.proofs.counted.Goals as goal
 
 pub returns-then-b-to : goal.returns-then-b-to

@@ -1,6 +1,6 @@
 use Prim.Native.Nat.{◌-◌}
 use native.Mathlib.Omega.{arith}
-use Rattle.message_rewrite.proofs.Laws.{Going, going_start, going_end, going_here, going_step}
+use Rattle.message_rewrite.proofs.Laws.{going_start, going_end, going_here, going_step}
 use Rattle.message_rewrite.proofs.entries_again.Goals as goal
 
 pub loop-left-init : goal.loop-left-init

@@ -1,6 +1,5 @@
 use Prim.Native.Nat.{◌-◌}
-use native.Mathlib.Omega.{arith}
-use Rattle.message_rewrite.proofs.Laws.{Going, going_start, going_end, going_here, going_step}
+use Rattle.message_rewrite.proofs.Laws.{Going}
 use Rattle.message_rewrite.proofs.entries_again.Given as goal
 
 abbrev pub invariant-loop-left : goal.invariant-loop-left

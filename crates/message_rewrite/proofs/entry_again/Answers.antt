@@ -1,5 +1,3 @@
-use borrow.Author.Rules.{rules}
-use native.Mathlib.Omega.{arith}
 use Rattle.message_rewrite.proofs.Laws.{entry_room, entry_wrote}
 use Rattle.message_rewrite.proofs.entry_again.Goals as goal
 

@@ -1,5 +1,4 @@
 use Rattle.message_rewrite.proofs.Laws.{given_is}
-use borrow.Author.Rules.{rules}
 use Rattle.message_rewrite.proofs.given_at.Goals as goal
 
 pub returns : goal.returns

@@ -1,5 +1,4 @@
 use Rattle.message_rewrite.proofs.Laws.{given_there, head_room, head_wrote}
-use borrow.Author.Rules.{rules}
 use Rattle.message_rewrite.proofs.head_again.Goals as goal
 
 pub beginning-requires : goal.beginning-requires

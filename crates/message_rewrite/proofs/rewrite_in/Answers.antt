@@ -1,9 +1,6 @@
 use mathlib.Core.Path.{refl}
 use native.Mathlib.Omega.{arith}
-use lib.ListN.{length}
-use Prim.Native.Nat.{◌≤◌}
 use Rattle.message_rewrite.proofs.Call.{read_refused, read_done, ready_done}
-use borrow.Author.Rules.{rules}
 use Rattle.message_rewrite.proofs.rewrite_in.Goals as goal
 
 pub returns-then-r-ne0 : goal.returns-then-r-ne0

@@ -1,6 +1,5 @@
 use mathlib.Core.Path.{sym, ◌∙◌}
 use Rattle.message_rewrite.specs.Promise.{no_edition, by_edition_lem}
-use borrow.Author.Rules.{rules}
 use Rattle.message_rewrite.proofs.rewrite_message.Goals as goal
 
 pub returns-in_default : goal.returns-in_default

@@ -1,6 +1,5 @@
 use mathlib.Core.Path.{◌∙◌}
 use Rattle.message_rewrite.specs.Again.{operation_by}
-use borrow.Author.Rules.{rules}
 use Rattle.message_rewrite.proofs.said_at.Goals as goal
 
 pub returns : goal.returns

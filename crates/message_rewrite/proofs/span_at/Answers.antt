@@ -1,5 +1,4 @@
 use Rattle.message_rewrite.proofs.Laws.{span_is}
-use borrow.Author.Rules.{rules}
 use Rattle.message_rewrite.proofs.span_at.Goals as goal
 
 pub returns : goal.returns

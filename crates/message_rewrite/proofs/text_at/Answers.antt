@@ -1,5 +1,4 @@
 use Rattle.message_rewrite.proofs.Laws.{pair_there, text_shown_lem}
-use borrow.Author.Rules.{rules}
 use Rattle.message_rewrite.proofs.text_at.Goals as goal
 
 pub part_at-requires : goal.part_at-requires
