@@ -1,7 +1,7 @@
 // A clerk's line: how it is read from standard input, and what it says: its words, and the numbers, kinds and dates that they write.
 #![tactic(auto)]
 
-ghost use Rattle.std.specs.Prelude.{◌≤◌, length, IfOk};
+ghost use Rattle.std.specs.Prelude.{◌≡◌, ◌≤◌, length, IfOk, OnErr};
 ghost use Rattle.std.specs.Counts.{IsPrefixLen};
 
 use calendar::Date;
@@ -45,7 +45,8 @@ fn next_byte<R: Read>(from: &mut R) -> io::Result<Next> {
 
 // Reads a line without its end; of one that is longer than there is room, the rest is another.
 pub fn read_line<R: Read>(from: &mut R, buf: &mut [u8]) -> io::Result<Line>
-    ensures { IfOk result (λ line. IsPrefixLen line.size buf.new) }
+    ensures ok { IfOk result (λ line. IsPrefixLen line.size buf.new) }
+    ensures err { OnErr result (length buf.new ≡ length buf.old) }
 {
     let mut n: usize = 0;
     while n < buf.len() {
