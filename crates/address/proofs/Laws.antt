@@ -1,12 +1,12 @@
 -- Laws of addressing, a way out of the code at a time.
+use Rattle.std.specs.Prelude.{Option, Result, Some, None, Ok, Err}
+use Rattle.std.specs.Option.{ok_or}
 use mathlib.Core.Path.{◌≡◌, refl, sym, ap, ◌∙◌}
 use mathlib.Core.List.{List}
 use mathlib.Core.Bool.{Bool, true, false}
 use Prim.Native.Nat.{ℕ, ◌+◌, ◌*◌, ◌≤◌}
 use native.Mathlib.Omega.{arith}
 use lib.ListN.{length}
-use Rattle.ranges.specs.declared.Found.{Found}
-use Rattle.ranges.specs.declared.Found.TheVariants.{At, Nothing}
 use Rattle.record.specs.Slot.{slot_size}
 use Rattle.slots.specs.Slots.{records_at}
 use Rattle.body.specs.Body.{body_ok, all_later}
@@ -15,8 +15,8 @@ use Rattle.bounds.specs.Bounds.{max_slots, max_length}
 use Rattle.table.specs.Table.{table2, agrees, table_ok, body_of, entry_of}
 use Rattle.table.proofs.Laws.{head, table, body_same}
 use Rattle.table.proofs.Bodies.{body_at_lem, found_body}
-use Rattle.address.specs.declared.Addressed.{Addressed}
-use Rattle.address.specs.declared.Addressed.TheVariants.{Invalid, Unknown, Body}
+use Rattle.address.specs.declared.NoBody.{NoBody}
+use Rattle.address.specs.declared.NoBody.TheVariants.{Invalid, Unknown}
 use Rattle.address.specs.Address.{body_at, body_named, addressed}
 
 -- the entry of a body that was found lies within the table
@@ -34,38 +34,58 @@ pub record Slots (t : List ℕ) (e base n : ℕ) : Type 0 where
   pub agreed : agrees t e (records_at t base n) ≡ true
   pub later : all_later (closed_of t e) (records_at t base n) ≡ true
 
-module _ (t code : List ℕ) where
-  pub to_unknown : body_of t code ≡ Nothing → Unknown ≡ body_named t code
-  to_unknown e = sym (ap (body_at t) e)
+-- a body's place is its own
+body_parts : {a b c x y z : ℕ} → ◌≡◌ {A = Result (ℕ × ℕ × ℕ) NoBody} (Ok (a, b, c)) (Ok (x, y, z)) → (a ≡ x) × (b ≡ y) × (c ≡ z)
+body_parts {a = a} {b = b} {c = c} {x = x} {y = y} {z = z} e =
+    let p : ◌≡◌ {A = ℕ × ℕ × ℕ} (a, b, c) (x, y, z) = cc in
+    (ap (λ (t : ℕ × ℕ × ℕ). t.0) p, ap (λ (t : ℕ × ℕ × ℕ). t.1) p, ap (λ (t : ℕ × ℕ × ℕ). t.2) p)
 
-  pub to_body : {b e p n : ℕ} → body_of t code ≡ At b → e ≡ entry_of b → p ≡ place_of t e → n ≡ slots_of t e → Body e p n ≡ body_named t code
+-- the place that a body was found at
+pub found_of : {x f : Option ℕ} {r : Result ℕ NoBody} {b : ℕ} → x ≡ f → r ≡ ok_or x Unknown → r ≡ Ok b → f ≡ Some b
+found_of {x} e g h = sym e ∙ go x (sym g ∙ h)
+  where
+    go : (y : Option ℕ) {b : ℕ} → ok_or y Unknown ≡ Ok b → y ≡ Some b
+    go (Some n) {b} q = let z : n ≡ b = cc in ap Some z
+    go None q = let z : ◌≡◌ {A = ℕ} 0 1 = cc in absurd (omega arith)
+
+module _ (t code : List ℕ) where
+  -- or that there is none
+  pub to_unknown : {x : Option ℕ} {r : Result ℕ NoBody} {w : NoBody} → x ≡ body_of t code → r ≡ ok_or x Unknown → r ≡ Err w → Err w ≡ body_named t code
+  to_unknown {x} e g h = go x (sym g ∙ h) ∙ ap (body_at t) e
+    where
+      go : (y : Option ℕ) {w : NoBody} → ok_or y Unknown ≡ Err w → Err w ≡ body_at t y
+      go None {w} q = let z : Unknown ≡ w = cc in ap Err (sym z)
+      go (Some n) q = let z : ◌≡◌ {A = ℕ} 0 1 = cc in absurd (omega arith)
+
+  pub to_body : {b e p n : ℕ} → body_of t code ≡ Some b → e ≡ entry_of b → p ≡ place_of t e → n ≡ slots_of t e → Ok (e, p, n) ≡ body_named t code
   to_body w f g h = rw (w, g, h, f) refl
 
-  pub to_invalid : table_ok t ≡ false → Invalid ≡ addressed t code
+  pub to_invalid : table_ok t ≡ false → Err Invalid ≡ addressed t code
   unfolding addressed
   to_invalid h = rw h
 
   module _ (ok : table_ok t ≡ true) where
-    pub to_named : {a : Addressed} → a ≡ body_named t code → a ≡ addressed t code
+    pub to_named : {a : Result (ℕ × ℕ × ℕ) NoBody} → a ≡ body_named t code → a ≡ addressed t code
     unfolding addressed
     to_named e = rw ok e
 
-    pub row : (b : ℕ) → body_of t code ≡ At b → Row t b
+    pub row : (b : ℕ) → body_of t code ≡ Some b → Row t b
     row b e =
         let h = head table2 t (table table2 t ok).head_ok in
         let w = (body_at_lem t ok b (found_body t ok code b e)).entry_in in
         record { ends = omega (arith, h.room); fits = h.fits }
 
-    pub named_slots : {e base n : ℕ} → body_named t code ≡ Body e base n → Slots t e base n
+    pub named_slots : {e base n : ℕ} → body_named t code ≡ Ok (e, base, n) → Slots t e base n
     named_slots {e} {base} {n} q = go (body_of t code) refl q
       where
-        go : (f : Found) → body_of t code ≡ f → body_at t f ≡ Body e base n → Slots t e base n
-        go Nothing g q = let z : ◌≡◌ {A = ℕ} 0 1 = cc in absurd (omega arith)
-        go (At b) g q =
+        go : (f : Option ℕ) → body_of t code ≡ f → body_at t f ≡ Ok (e, base, n) → Slots t e base n
+        go None g q = let z : ◌≡◌ {A = ℕ} 0 1 = cc in absurd (omega arith)
+        go (Some b) g q =
             let w = body_at_lem t ok b (found_body t ok code b g) in
-            let d : entry_of b ≡ e = cc in
-            let p : place_of t (entry_of b) ≡ base = cc in
-            let s : slots_of t (entry_of b) ≡ n = cc in
+            let k = body_parts q in
+            let d : entry_of b ≡ e = k.0 in
+            let p : place_of t (entry_of b) ≡ base = k.1 in
+            let s : slots_of t (entry_of b) ≡ n = k.2 in
             let i = w.inside in
             let m = w.own_form.most_slots in
             let x = w.entry_in in
@@ -79,7 +99,7 @@ module _ (t code : List ℕ) where
               later = sym (λ j. all_later (closed_of t (d j)) (records_at t (p j) (s j))) ∙ w.holds.later;
             }
 
-  pub slots : {e base n : ℕ} → addressed t code ≡ Body e base n → Slots t e base n
+  pub slots : {e base n : ℕ} → addressed t code ≡ Ok (e, base, n) → Slots t e base n
   slots {e} {base} {n} q = whether (table_ok t) refl
     where
       whether : (x : Bool) → table_ok t ≡ x → Slots t e base n

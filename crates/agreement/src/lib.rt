@@ -12,8 +12,6 @@ ghost use Rattle.message.specs.Message.{element_name};
 ghost use Rattle.agreement.specs.Agreement.{words_of, entry_parent, errors_parent, entry_row, word_stands, or_off, errors_off_at, entry_off_at, entries_off_at, off_from};
 
 use codes::Esito;
-use digits::Number;
-use rows::Next;
 use schema::Parent;
 
 // The two kinds of entries, as a message has them.
@@ -21,13 +19,6 @@ use schema::Parent;
 pub enum EntryKind {
     Reversale,
     Mandato,
-}
-
-// The `<` of the first element that doesn't agree.
-#[derive(Clone, Copy)]
-pub enum Off {
-    At(usize),
-    Nowhere,
 }
 
 pub fn entry_parent(k: EntryKind) -> Parent
@@ -59,75 +50,40 @@ pub fn entry_row(k: EntryKind) -> usize
 }
 
 // The number that a field's text writes, 0 if it writes none.
-pub fn value_of(n: Number) -> u64
+pub fn value_of(n: Option<u64>) -> u64
     ensures { result ≡ value_of n }
 {
-    match n {
-        Number::Value(v) => v,
-        Number::NoNumber => 0,
-    }
+    n.unwrap_or(0)
 }
 
-// Whether a text is the name of the element that a refusal of a reversale speaks of.
-fn reversale_element(t: &[u8], code: u64) -> bool
-    ensures { result ≡ text_is (bytes (element_name reversale_words code)) t.now }
-{
-    if code == 11 {
-        return scan::same(t, b"tipo_operazione");
-    }
-    if code == 12 {
-        return scan::same(t, b"progressivo_versante");
-    }
-    if code == 13 {
-        return scan::same(t, b"importo_reversale");
-    }
-    if code == 19 {
-        return scan::same(t, b"importo_reversale");
-    }
-    scan::same(t, b"numero_reversale")
-}
-
-// The same of a mandato.
-fn mandato_element(t: &[u8], code: u64) -> bool
-    ensures { result ≡ text_is (bytes (element_name mandato_words code)) t.now }
-{
-    if code == 11 {
-        return scan::same(t, b"tipo_operazione");
-    }
-    if code == 12 {
-        return scan::same(t, b"progressivo_beneficiario");
-    }
-    if code == 13 {
-        return scan::same(t, b"importo_mandato");
-    }
-    if code == 19 {
-        return scan::same(t, b"importo_mandato");
-    }
-    scan::same(t, b"numero_mandato")
-}
-
+// Whether a text is the name of the element that a refusal of an order speaks of.
 fn is_element(t: &[u8], kind: EntryKind, code: u64) -> bool
     ensures { result ≡ text_is (bytes (element_name (words_of kind) code)) t.now }
 {
-    match kind {
-        EntryKind::Reversale => reversale_element(t, code),
-        EntryKind::Mandato => mandato_element(t, code),
+    match (code, kind) {
+        (11, _) => scan::same(t, b"tipo_operazione"),
+        (12, EntryKind::Reversale) => scan::same(t, b"progressivo_versante"),
+        (12, EntryKind::Mandato) => scan::same(t, b"progressivo_beneficiario"),
+        (13 | 19, EntryKind::Reversale) => scan::same(t, b"importo_reversale"),
+        (13 | 19, EntryKind::Mandato) => scan::same(t, b"importo_mandato"),
+        (_, EntryKind::Reversale) => scan::same(t, b"numero_reversale"),
+        (_, EntryKind::Mandato) => scan::same(t, b"numero_mandato"),
     }
 }
 
 // A refused word has a list of errors, an accepted one none.
-fn word_stands(e: Esito, listed: bool) -> bool
+fn word_stands(e: Option<Esito>, listed: bool) -> bool
     ensures { result ≡ word_stands e «listed» }
 {
     match e {
-        Esito::Accepted(_) => !listed,
-        Esito::Refused(_) => listed,
-        Esito::NoEsito => false,
+        Some(Esito::Accepted(_)) => !listed,
+        Some(Esito::Refused(_)) => listed,
+        None => false,
     }
 }
 
 // A list of errors, its children from a place on: descrizione is the code again, elemento the name for the code.
-fn errors_off(s: &[u8], from: usize, kind: EntryKind, past: &[u32]) -> Off
+fn errors_off(s: &[u8], from: usize, kind: EntryKind, past: &[u32]) -> Option<usize>
     requires { (from ≤ length s.now) × Noted s.now past.now }
     ensures { result ≡ errors_off_at kind s.now (kept_from (errors_parent kind) s.now from) }
 {
@@ -136,17 +92,17 @@ fn errors_off(s: &[u8], from: usize, kind: EntryKind, past: &[u32]) -> Off
     let again = each[2];
     let name = each[3];
     if !scan::same(parts::text_at(s, again), parts::text_at(s, code)) {
-        return Off::At(again.lt);
+        return Some(again.lt);
     }
     let n = value_of(digits::codice_errore(parts::text_at(s, code)));
     if !is_element(parts::text_at(s, name), kind, n) {
-        return Off::At(name.lt);
+        return Some(name.lt);
     }
-    Off::Nowhere
+    None
 }
 
 // An entry, its children from a place on.
-fn entry_off(s: &[u8], from: usize, kind: EntryKind, past: &[u32]) -> Off
+fn entry_off(s: &[u8], from: usize, kind: EntryKind, past: &[u32]) -> Option<usize>
     requires { (from ≤ length s.now) × Noted s.now past.now }
     ensures { result ≡ entry_off_at kind s.now (kept_from (entry_parent kind) s.now from) }
 {
@@ -157,44 +113,41 @@ fn entry_off(s: &[u8], from: usize, kind: EntryKind, past: &[u32]) -> Off
         codes::esito_operazione(parts::text_at(s, word)),
         list.to != 0,
     ) {
-        return Off::At(word.lt);
+        return Some(word.lt);
     }
     if list.to == 0 {
-        return Off::Nowhere;
+        return None;
     }
     errors_off(s, scan::white_end(s, list.from), kind, past)
 }
 
 // The entries of a kind among the root's children from a place on.
-fn entries_off(s: &[u8], from: usize, kind: EntryKind, past: &[u32]) -> Off
+fn entries_off(s: &[u8], from: usize, kind: EntryKind, past: &[u32]) -> Option<usize>
     requires { (from ≤ length s.now) × Noted s.now past.now }
     ensures { result ≡ entries_off_at kind s.now (in_row (entry_row kind) (kept_from MessaggiEsito s.now from)) }
 {
+    let row = entry_row(kind);
     let mut i = from;
-    loop {
-        let Next::Named(k) = parts::next_row(s, i, Parent::MessaggiEsito, entry_row(kind), past)
-        else {
-            return Off::Nowhere;
-        };
+    while let Some(k) = parts::next_row(s, i, Parent::MessaggiEsito, row, past) {
         let c = k.child;
-        match entry_off(s, scan::white_end(s, c.gt + 1), kind, past) {
-            Off::At(p) => {
-                return Off::At(p);
-            }
-            Off::Nowhere => {
-                i = c.after;
-            }
+        let off = entry_off(s, scan::white_end(s, c.gt + 1), kind, past);
+        if off.is_some() {
+            return off;
         }
+        i = c.after;
     }
+    None
 }
 
 // All entries: reversali stand before mandati.
-pub fn first_off(s: &[u8], from: usize, past: &[u32]) -> Off
+pub fn first_off(s: &[u8], from: usize, past: &[u32]) -> Option<usize>
     requires { (from ≤ length s.now) × Noted s.now past.now }
     ensures { result ≡ off_from s.now from }
 {
-    match entries_off(s, from, EntryKind::Reversale, past) {
-        Off::At(p) => Off::At(p),
-        Off::Nowhere => entries_off(s, from, EntryKind::Mandato, past),
-    }
+    entries_off(s, from, EntryKind::Reversale, past).or_else(|| entries_off(
+        s,
+        from,
+        EntryKind::Mandato,
+        past,
+    ))
 }

@@ -1,4 +1,5 @@
 -- A list is in order of arrival: a new record comes after the last one, and every other change keeps its record's key.
+use Rattle.std.specs.Prelude.{Option, Result, Some, None, Ok, Err}
 use Prim.Native.Nat.{ℕ, zero, suc, ◌+◌, ◌-◌, ◌≤◌, ◌<◌}
 use mathlib.Core.Path.{◌≡◌, refl, sym, ap, ◌∙◌}
 use mathlib.Core.Bool.{Bool}
@@ -6,8 +7,6 @@ use mathlib.Core.List.{List, [], ◌∷◌, ◌++◌, append-nil, append_assoc}
 use native.Mathlib.Omega.{arith}
 use lib.ListN.{length, set, length-map, length-set, length-append}
 use lib.Seq.{set_split}
-use Rattle.ranges.specs.declared.Found.{Found}
-use Rattle.ranges.specs.declared.Found.TheVariants.{At, Nothing}
 use Rattle.order.specs.Ordinativo.{Ordinativo}
 use Rattle.record.specs.declared.Record.{Record}
 use Rattle.record.specs.declared.Key.{Key}
@@ -18,10 +17,6 @@ use Rattle.replacing.specs.declared.Naming.{Naming}
 use Rattle.replacing.specs.Replacing.{namings, with_replaced_at, with_replaced, replaced_by}
 use Rattle.replacing.proofs.Marks.{replaced_length}
 use Rattle.rules.specs.declared.Change.{Change}
-use Rattle.rules.specs.declared.Ruling.{Ruling}
-use Rattle.rules.specs.declared.Ruling.TheVariants.{Accepted, Refused}
-use Rattle.rules.specs.declared.Noticed.{Noticed}
-use Rattle.rules.specs.declared.Noticed.TheVariants.{Moved, Unmoved}
 use Rattle.rules.specs.Rules.{key_for, judge_order, judge_notice, written}
 use Rattle.rules.specs.Effects.{stored_at, records_by, all_records, records_moved}
 use Rattle.rules.proofs.Judging.{Stands, inserting, replacing, varying, annulling, accepted}
@@ -44,10 +39,10 @@ keys_end [] r = refl
 keys_end (x ∷ rs) r = ap (λ (l : List Key). key_of x ∷ l) (keys_end rs r)
 
 -- of records with named lines replaced
-keys_marked : (rs : List Record) (m : Naming) (f : Found) → keys_of (with_replaced_at rs m f) ≡ keys_of rs
+keys_marked : (rs : List Record) (m : Naming) (f : Option ℕ) → keys_of (with_replaced_at rs m f) ≡ keys_of rs
 unfolding with_replaced_at
-keys_marked rs m Nothing = refl
-keys_marked rs m (At i) = keys_set rs i (with_state (nth rs i) (m.line - 1) 3) refl
+keys_marked rs m None = refl
+keys_marked rs m (Some i) = keys_set rs i (with_state (nth rs i) (m.line - 1) 3) refl
 
 keys_replaced : (rs : List Record) (ms : List Naming) → keys_of (replaced_by rs ms) ≡ keys_of rs
 unfolding replaced_by with_replaced
@@ -56,7 +51,7 @@ keys_replaced rs (m ∷ ms) = keys_replaced (with_replaced rs m) ms ∙ keys_mar
 
 -- AN ORDER
 module _ (slots year : ℕ) (o : Ordinativo) (rs : List Record) where
-  by_stand : (c : Change) (i : ℕ) → Stands slots year o rs c i → keys_of (records_by year o rs (Accepted c i)) ≡ keys_of rs ++ arrived year o (Accepted c i)
+  by_stand : (c : Change) (i : ℕ) → Stands slots year o rs c i → keys_of (records_by year o rs (Ok (c, i))) ≡ keys_of rs ++ arrived year o (Ok (c, i))
   unfolding written
   by_stand c i (inserting p f q l) = rw (p, q) (keys_end rs _)
   by_stand c i (replacing p f q l z) =
@@ -64,23 +59,23 @@ module _ (slots year : ℕ) (o : Ordinativo) (rs : List Record) where
   by_stand c i (varying p f w) = rw p (keys_stored rs i _ (found_below rs (key_for year o) i no_record f) refl ∙ sym (append-nil (keys_of rs)))
   by_stand c i (annulling p f w s) = rw p (keys_stored rs i _ (found_below rs (key_for year o) i no_record f) refl ∙ sym (append-nil (keys_of rs)))
 
-  by_ruling : (j : Ruling) → judge_order slots year o rs ≡ j → keys_of (records_by year o rs j) ≡ keys_of rs ++ arrived year o j
-  by_ruling (Accepted c i) e = by_stand c i (accepted slots year o rs c i e)
-  by_ruling (Refused code) e = sym (append-nil (keys_of rs))
+  by_ruling : (j : Result (Change × ℕ) ℕ) → judge_order slots year o rs ≡ j → keys_of (records_by year o rs j) ≡ keys_of rs ++ arrived year o j
+  by_ruling (Ok (c, i)) e = by_stand c i (accepted slots year o rs c i e)
+  by_ruling (Err code) e = sym (append-nil (keys_of rs))
 
   order : keys_of (records_by year o rs (judge_order slots year o rs)) ≡ keys_of rs ++ arrived year o (judge_order slots year o rs)
   order = by_ruling (judge_order slots year o rs) refl
 
   -- one arrives only where there is an empty slot
-  few : length rs ≤ slots → (j : Ruling) → judge_order slots year o rs ≡ j → length rs + length (arrived year o j) ≤ slots
-  few h (Accepted c i) e = go (accepted slots year o rs c i e)
+  few : length rs ≤ slots → (j : Result (Change × ℕ) ℕ) → judge_order slots year o rs ≡ j → length rs + length (arrived year o j) ≤ slots
+  few h (Ok (c, i)) e = go (accepted slots year o rs c i e)
     where
-      go : Stands slots year o rs c i → length rs + length (arrived year o (Accepted c i)) ≤ slots
+      go : Stands slots year o rs c i → length rs + length (arrived year o (Ok (c, i))) ≤ slots
       go (inserting p f q l) = rw p (omega arith)
       go (replacing p f q l z) = rw p (omega arith)
       go (varying p f w) = rw p (omega arith)
       go (annulling p f w s) = rw p (omega arith)
-  few h (Refused code) e = omega arith
+  few h (Err code) e = omega arith
 
   order_room : length rs ≤ slots → length (records_by year o rs (judge_order slots year o rs)) ≤ slots
   order_room h =
@@ -104,13 +99,13 @@ module _ (slots year : ℕ) where
   room (o ∷ os) rs h = room os (records_by year o rs (judge_order slots year o rs)) (order_room slots year o rs h)
 
 -- A NOTICE
-notice : (executing : Bool) (line : ℕ) (rs : List Record) (m : Noticed) → keys_of (records_moved executing line rs m) ≡ keys_of rs
-notice executing line rs (Moved i cents) = keys_set rs i _ refl
-notice executing line rs (Unmoved c) = refl
+notice : (executing : Bool) (line : ℕ) (rs : List Record) (m : Result (ℕ × ℕ) ℕ) → keys_of (records_moved executing line rs m) ≡ keys_of rs
+notice executing line rs (Ok (i, cents)) = keys_set rs i _ refl
+notice executing line rs (Err c) = refl
 
-same_room : (executing : Bool) (line : ℕ) (rs : List Record) (m : Noticed) → length (records_moved executing line rs m) ≡ length rs
-same_room executing line rs (Moved i cents) = length-set rs i _
-same_room executing line rs (Unmoved c) = refl
+same_room : (executing : Bool) (line : ℕ) (rs : List Record) (m : Result (ℕ × ℕ) ℕ) → length (records_moved executing line rs m) ≡ length rs
+same_room executing line rs (Ok (i, cents)) = length-set rs i _
+same_room executing line rs (Err c) = refl
 
 -- THE THEOREM
 pub arrival : Arrival

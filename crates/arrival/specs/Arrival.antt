@@ -1,27 +1,26 @@
 -- ORDER OF ARRIVAL (document 02, Req 12): the training engine "keeps each body's orders as a simple list in order of arrival, unpacked, as many as the body has
 -- slots". Of any list, whatever it holds. Proved: `arrival : Arrival`.
-use Rattle.std.specs.Prelude.{ℕ, ◌≤◌, ◌≡◌, Bool, List, [], ◌∷◌, ◌++◌, map, length}
+use Rattle.std.specs.Prelude.{ℕ, ◌≤◌, ◌≡◌, Bool, List, [], ◌∷◌, ◌++◌, map, length, Result, Ok, Err}
 use Rattle.order.specs.Ordinativo.{Ordinativo}
 use Rattle.record.specs.declared.Record.{Record}
 use Rattle.record.specs.declared.Key.{Key}
 use Rattle.record.specs.Slot.{key_of}
 use Rattle.rules.specs.declared.Change.TheVariants.{Insert, Vary, Annul, Replace}
-use Rattle.rules.specs.declared.Ruling.{Ruling}
-use Rattle.rules.specs.declared.Ruling.TheVariants.{Accepted, Refused}
 use Rattle.rules.specs.Rules.{key_for, judge_order, judge_notice}
 use Rattle.rules.specs.Effects.{records_by, all_records, records_moved}
+use Rattle.rules.specs.declared.Change.{Change}
 
 -- "a simple list": which orders it holds, in its order
 abbrev pub keys_of : List Record → List Key
 keys_of rs = map key_of rs
 
 -- what arrives with an order: "INSERIMENTO fills the body's first empty slot"; SOSTITUZIONE "carries a new order" (Req 07). No other brings one
-abbrev pub arrived : ℕ → Ordinativo → Ruling → List Key
-arrived year o (Accepted Insert i) = key_for year o ∷ []
-arrived year o (Accepted Replace i) = key_for year o ∷ []
-arrived year o (Accepted Vary i) = []
-arrived year o (Accepted Annul i) = []
-arrived year o (Refused code) = []
+abbrev pub arrived : ℕ → Ordinativo → Result (Change × ℕ) ℕ → List Key
+arrived year o (Ok (Insert, i)) = key_for year o ∷ []
+arrived year o (Ok (Replace, i)) = key_for year o ∷ []
+arrived year o (Ok (Vary, i)) = []
+arrived year o (Ok (Annul, i)) = []
+arrived year o (Err code) = []
 
 -- and with a flow's orders, "taken as written, each on the table the one before left"
 unfoldable pub arrivals : ℕ → ℕ → List Ordinativo → List Record → List Key

@@ -1,5 +1,5 @@
 -- Records that are all of later years than one: in a body's slots, one slot at a time, and in a list that changes.
-use Prim.Native.Nat.{ℕ, zero, suc, ◌+◌, ◌-◌, ◌≤◌, ◌<◌}
+use Prim.Native.Nat.{ℕ, zero, suc, ◌+◌, ◌-◌, ◌*◌, ◌≤◌, ◌<◌}
 use mathlib.Core.Path.{◌≡◌, refl, sym, ◌∙◌}
 use mathlib.Core.Bool.{true, false}
 use mathlib.Core.List.{List, [], ◌∷◌, ◌++◌}
@@ -14,19 +14,19 @@ use Rattle.record.specs.declared.Record.{Record}
 use Rattle.record.specs.Slot.{slot_size, record_at, rest_zero}
 use Rattle.valid.proofs.Valid.{ok_bounds}
 use Rattle.slots.specs.Slots.{used_at, slots_at, records_at}
-use Rattle.slots.proofs.Laws.{slots_more, slots_none}
+use Rattle.slots.proofs.Laws.{slots_next, slots_none}
 use Rattle.body.specs.Body.{slot_ok, slots_ok, body_ok, all_later}
 use Rattle.body.proofs.Laws.{slot_rest, slots_ok_more, ok_slots}
 
--- A BODY'S SLOTS, the first of which is of the year e
-module _ (t : List ℕ) (at left : ℕ) {e year : ℕ} (q : e ≡ be2 t (at + 4)) (h : 0 < left) where
-  pub not_later : e ≤ year → all_later year (slots_at t at left) ≡ false
+-- A BODY'S SLOTS from the one at an index on, which is of the year e
+module _ (t : List ℕ) (base n i : ℕ) {e year : ℕ} (q : e ≡ be2 t (base + slot_size * i + 4)) (h : i < n) where
+  pub not_later : e ≤ year → all_later year (slots_at t (base + slot_size * i) (n - i)) ≡ false
   unfolding all_later record_at
-  not_later l = rw (slots_more t at left (left - 1) (omega arith), ← q, le-ltb year e l)
+  not_later l = rw (slots_next t base n i h, ← q, le-ltb year e l)
 
-  pub later_on : year < e → all_later year (slots_at t at left) ≡ all_later year (slots_at t (at + slot_size) (left - 1))
+  pub later_on : year < e → all_later year (slots_at t (base + slot_size * i) (n - i)) ≡ all_later year (slots_at t (base + slot_size * (i + 1)) (n - (i + 1)))
   unfolding all_later record_at
-  later_on l = rw (slots_more t at left (left - 1) (omega arith), ← q, lt-ltb year e l)
+  later_on l = rw (slots_next t base n i h, ← q, lt-ltb year e l)
 
 pub later_end : (t : List ℕ) (at left year : ℕ) → left ≤ 0 → all_later year (slots_at t at left) ≡ true
 unfolding all_later

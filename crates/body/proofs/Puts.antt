@@ -1,4 +1,5 @@
 -- A valid record put into a slot: it takes the place of one, or comes after the last, in the list of records; and the body stays valid.
+use Rattle.std.specs.Prelude.{None}
 use Prim.Native.Nat.{ℕ, suc, ◌+◌, ◌*◌, ◌≤◌, ◌<◌}
 use mathlib.Core.Bool.{Bool, true, false, ◌&&◌}
 use mathlib.Core.List.{List, [], ◌∷◌, ◌++◌}
@@ -14,7 +15,6 @@ use Rattle.record.specs.Slot.{slot_size, record_at, record_bytes, key_of}
 use Rattle.record.specs.declared.Record.{Record}
 use Rattle.record.proofs.Back.{same_record, agree_before, agree_after, length_record, record_put, rest_put}
 use Rattle.ranges.specs.Ranges.{is_nothing}
-use Rattle.ranges.specs.declared.Found.TheVariants.{Nothing}
 use Rattle.valid.specs.Valid.{record_ok}
 use Rattle.slots.specs.Slots.{used_at, slots_at, records_at, find_in, distinct}
 use Rattle.body.specs.Body.{slot_ok, body_ok}
@@ -126,7 +126,7 @@ module _ (t : List ℕ) (base n i : ℕ) (r : Record) (v : Valid r) (low : i < n
     pub records_add : records_at (put t (base + slot_size * i) (record_bytes r)) base n ≡ records_at t base n ++ r ∷ []
     records_add = ap (slots_at after base) used_add ∙ slots_add ∙ ap (λ (m : ℕ). slots_at t base m ++ r ∷ []) (sym h)
 
-    pub adds_ok : find_in (records_at t base n) 0 (key_of r) ≡ Nothing → body_ok (put t (base + slot_size * i) (record_bytes r)) base n ≡ true
+    pub adds_ok : find_in (records_at t base n) 0 (key_of r) ≡ None → body_ok (put t (base + slot_size * i) (record_bytes r)) base n ≡ true
     adds_ok f =
         let p = parts t base n e in
         body_after (suc i) (omega arith) low (λ j b ne. omega arith) p (omega arith) used_add

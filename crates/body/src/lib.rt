@@ -11,83 +11,50 @@ ghost use Rattle.slots.specs.Slots.{slots_at, records_at};
 ghost use Rattle.body.specs.Body.{slot_ok, slots_ok, body_ok, any_replaced, none_replaced, all_later};
 ghost use Rattle.body.specs.Inner.{summed};
 
-use valid::Judged;
-
 // Where a slot has its record's year.
 const ESERCIZIO: usize = 4;
 
-// A body judged: broken, or valid with the cents of its executed lines, paid and collected.
-#[derive(Clone, Copy)]
-pub enum Sums {
-    Broken,
-    Right(u64, u64),
-}
-
 // Whether the used slot at a place is valid, and the cents of its record's executed lines.
-pub fn judge_slot(t: &[u8], at: usize) -> Judged
+#[tactic(auto, using(crate::proofs::Laws::slot_broken, crate::proofs::Laws::slot_told))]
+pub fn judge_slot(t: &[u8], at: usize) -> Option<u64>
     requires { at + slot_size ≤ length t.now }
     ensures { result ≡ judged_by (slot_ok t.now at) (executed (record_at t.now at)) }
 {
-    if !record::rest_zero(t, at) {
-        return Judged::Broken;
+    if record::rest_zero(t, at) {
+        valid::judge_at(t, at)
+    } else {
+        None
     }
-    valid::judge_at(t, at)
 }
 
 // Whether the n used slots from a place on are valid, and the cents of their executed lines.
-fn judge_slots(t: &[u8], base: usize, n: usize) -> Sums
+fn judge_slots(t: &[u8], base: usize, n: usize) -> Option<(u64, u64)>
     requires { (base + slot_size * n ≤ length t.now) × (n ≤ max_slots) }
     ensures { result ≡ summed (slots_ok t.now base n) (slots_at t.now base n) }
 {
-    let mut at = base;
-    let mut left = n;
     let mut paid: u64 = 0;
     let mut collected: u64 = 0;
-    while 0 < left {
-        let Judged::Right(cents) = judge_slot(t, at) else {
-            return Sums::Broken;
-        };
+    for i in 0..n {
+        let at = base + record::SLOT * i;
+        let cents = judge_slot(t, at)?;
         let kind = t[at];
         paid += valid::line_cents(kind == record::MANDATO, cents);
         collected += valid::line_cents(kind == record::REVERSALE, cents);
-        at += record::SLOT;
-        left -= 1;
     }
-    Sums::Right(paid, collected)
+    Some((paid, collected))
 }
 
 // Whether a body of n slots is valid, and the cents of its executed lines.
-pub fn judge(t: &[u8], base: usize, n: usize) -> Sums
+#[tactic(auto, using(slots::proofs::Laws::used_le, crate::proofs::Laws::body_slots, crate::proofs::Laws::body_rest, crate::proofs::Laws::body_keys, crate::proofs::Laws::body_right))]
+pub fn judge(t: &[u8], base: usize, n: usize) -> Option<(u64, u64)>
     requires { (base + slot_size * n ≤ length t.now) × (n ≤ max_slots) }
     ensures { result ≡ summed (body_ok t.now base n) (records_at t.now base n) }
 {
     let used = slots::used_slots(t, base, n);
     let first = base + record::SLOT * used;
     let end = base + record::SLOT * n;
-    let Sums::Right(paid, collected) = judge_slots(t, base, used) else {
-        return Sums::Broken;
-    };
-    if !ranges::are_zero(t, first, end) {
-        return Sums::Broken;
-    }
-    if !slots::keys_distinct(t, base, used) {
-        return Sums::Broken;
-    }
-    Sums::Right(paid, collected)
-}
-
-// Whether one of these lines is replaced.
-fn any_replaced(states: &[u8]) -> bool
-    ensures { result ≡ any_replaced states.now }
-{
-    let mut i = 0;
-    while i < states.len() {
-        if states[i] == record::REPLACED {
-            return true;
-        }
-        i += 1;
-    }
-    false
+    let sums = judge_slots(t, base, used)?;
+    (ranges::are_zero(t, first, end) && slots::keys_distinct(t, base, used)).then_some(sums)
 }
 
 // Whether no line of the n used slots from a place on is replaced.
@@ -95,16 +62,11 @@ fn slots_unreplaced(t: &[u8], base: usize, n: usize) -> bool
     requires { base + slot_size * n ≤ length t.now }
     ensures { result ≡ none_replaced (slots_at t.now base n) }
 {
-    let mut at = base;
-    let mut left = n;
-    while 0 < left {
-        let r = record::record_at(t, at);
-        let states = r.states;
-        if any_replaced(&states) {
+    for i in 0..n {
+        let r = record::record_at(t, base + record::SLOT * i);
+        if r.states.contains(&record::REPLACED) {
             return false;
         }
-        at += record::SLOT;
-        left -= 1;
     }
     true
 }
@@ -123,14 +85,10 @@ fn slots_later(t: &[u8], base: usize, n: usize, year: u64) -> bool
     requires { base + slot_size * n ≤ length t.now }
     ensures { result ≡ all_later year (slots_at t.now base n) }
 {
-    let mut at = base;
-    let mut left = n;
-    while 0 < left {
-        if words::read2(t, at + ESERCIZIO) <= year {
+    for i in 0..n {
+        if words::read2(t, base + record::SLOT * i + ESERCIZIO) <= year {
             return false;
         }
-        at += record::SLOT;
-        left -= 1;
     }
     true
 }

@@ -11,66 +11,31 @@ pub struct Date {
     pub day: u64,
 }
 
+#[tactic(auto, unfolding(crate::specs::Calendar::leap))]
 fn is_leap(y: u64) -> bool
     ensures { result ≡ leap y }
 {
-    if y % 4 != 0 {
-        return false;
-    }
-    if y % 100 != 0 {
-        return true;
-    }
-    y % 400 == 0
+    y % 4 == 0 && (y % 100 != 0 || y % 400 == 0)
 }
 
-fn february(y: u64) -> u64
-    ensures { result ≡ month_length y 2 }
-{
-    if is_leap(y) { 29 } else { 28 }
-}
-
+#[tactic(auto, unfolding(crate::specs::Calendar::month_length))]
 fn month_length(y: u64, m: u64) -> u64
     ensures { result ≡ month_length y m }
 {
-    if m == 2 {
-        return february(y);
+    match m {
+        2 => if is_leap(y) { 29 } else { 28 },
+        4 | 6 | 9 | 11 => 30,
+        _ => 31,
     }
-    if m == 4 {
-        return 30;
-    }
-    if m == 6 {
-        return 30;
-    }
-    if m == 9 {
-        return 30;
-    }
-    if m == 11 {
-        return 30;
-    }
-    31
 }
 
+#[tactic(auto, unfolding(crate::specs::Calendar::is_date))]
 pub fn is_date(d: Date) -> bool
     ensures { result ≡ is_date d }
 {
-    if d.year < bounds::FIRST_YEAR {
-        return false;
-    }
-    if bounds::LAST_YEAR < d.year {
-        return false;
-    }
-    if d.month < 1 {
-        return false;
-    }
-    if 12 < d.month {
-        return false;
-    }
-    if d.day < 1 {
-        return false;
-    }
     // Most days are in every month, and the month's length is not asked.
-    if d.day <= 28 {
-        return true;
-    }
-    d.day <= month_length(d.year, d.month)
+    (bounds::FIRST_YEAR..=bounds::LAST_YEAR).contains(&d.year)
+        && (1..=12).contains(&d.month)
+        && 1 <= d.day
+        && (d.day <= 28 || d.day <= month_length(d.year, d.month))
 }

@@ -2,22 +2,16 @@
 // flow is replaced by what, and what document 01 says of the flow so changed, by hand; a line of the output has what the code says beside it.
 #![tactic(auto)]
 
-ghost use Rattle.std.specs.Prelude.{◌+◌, ◌≤◌, ◌<◌, length};
-
-use casebook::{say, say_number};
+use casebook::{column, say};
 use editions::Edition;
 use fields::Cause;
-use flow::Verdict;
+use flow::Breakage;
 use std::io;
 use std::io::Write;
 
 // A field's own words, as parts of the flow, and its cause.
 fn say_words<W: Write>(to: &mut W, f: &[u8], p: usize, x: Cause) -> io::Result<()> {
-    say(to, b"field breaks at ")?;
-    say_number(to, p as u64)?;
-    say(to, b" by ")?;
-    say_number(to, fields::cause_number(x))?;
-    say(to, b": ")?;
+    write!(to, "field breaks at {p} by {}: ", fields::cause_number(x))?;
     say(to, children::name_at(f, p))?;
     say(to, b" \"")?;
     say(to, children::text_at(f, p))?;
@@ -26,10 +20,10 @@ fn say_words<W: Write>(to: &mut W, f: &[u8], p: usize, x: Cause) -> io::Result<(
 
 fn say_verdict<W: Write>(to: &mut W, f: &[u8]) -> io::Result<()> {
     match flow::verdict_alone(f, Edition::Oil) {
-        Verdict::MarkupBreaks(_) => say(to, b"markup breaks"),
-        Verdict::StructureBreaks => say(to, b"structure breaks"),
-        Verdict::FieldBreaks(p, x) => say_words(to, f, p, x),
-        Verdict::Stands(_) => say(to, b"stands"),
+        Err(Breakage::MarkupBreaks(_)) => say(to, b"markup breaks"),
+        Err(Breakage::StructureBreaks) => say(to, b"structure breaks"),
+        Err(Breakage::FieldBreaks(p, x)) => say_words(to, f, p, x),
+        Ok(_) => say(to, b"stands"),
     }
 }
 
@@ -40,31 +34,23 @@ fn say_edited<W: Write>(to: &mut W, base: &[u8], x: &[u8], k: u64, y: &[u8]) -> 
     say_verdict(to, &f[..n])
 }
 
-// One case: the line from a up to e.
-fn run_case<W: Write>(to: &mut W, base: &[u8], s: &[u8], a: usize, e: usize) -> io::Result<()>
-    requires { (a ≤ e) × (e ≤ length s.now) × (length s.now ≤ 196608) }
-{
-    let x = casebook::column(s, a, e, 2);
-    let end = casebook::find(s, x, e, b'\t');
+fn run_case<W: Write>(to: &mut W, base: &[u8], line: &[u8]) -> io::Result<()> {
     let mut y = [0u8; 4096];
-    let n = casebook::bytes(s, a, e, 3, &mut y);
-    let k = casebook::number(s, a, e, 1);
-    casebook::say_column(to, s, a, e, 0)?;
+    let n = casebook::bytes(line, 3, &mut y);
+    let k = casebook::number(line, 1);
+    say(to, column(line, 0))?;
     say(to, b": ")?;
-    say_edited(to, base, &s[x..end], k, &y[..n])?;
+    say_edited(to, base, column(line, 2), k, &y[..n])?;
     say(to, b", expected ")?;
-    casebook::say_column(to, s, a, e, 4)?;
+    say(to, column(line, 4))?;
     say(to, b"\n")
 }
 
-fn run_cases<W: Write>(to: &mut W, s: &[u8]) -> io::Result<()>
-    requires { length s.now ≤ 196608 }
-{
-    let first = casebook::line_end(s, 0);
-    let mut at = casebook::after(first, s.len());
-    while at < s.len() {
-        run_case(to, &s[0..first], s, at, casebook::line_end(s, at))?;
-        at = casebook::next_line(s, at);
+fn run_cases<W: Write>(to: &mut W, text: &[u8]) -> io::Result<()> {
+    let mut lines = casebook::lines_of(text);
+    let base = lines.next().unwrap_or(b"");
+    for line in lines {
+        run_case(to, base, line)?;
     }
     Ok(())
 }

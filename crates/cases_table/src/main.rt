@@ -7,53 +7,22 @@ ghost use Rattle.std.specs.Prelude.{◌≡◌, true, ◌+◌, ◌≤◌, ◌<◌
 ghost use Rattle.bounds.specs.Bounds.{max_length};
 ghost use Rattle.table.specs.Table.{table_ok};
 
-use casebook::{say, say_number};
-use opening::Opened;
-use ranges::Found;
+use casebook::{column, say};
+use opening::{OpenRefusal, Opened};
 use std::io;
 use std::io::Write;
 
-fn least(a: usize, b: usize) -> usize
-    ensures { (result ≤ a) × (result ≤ b) }
-{
-    if a < b { a } else { b }
-}
+// What a buffer's bytes are before it is opened: no byte of a table's contents is this.
+const MARK: u8 = 170;
 
 // Column k as a number, but at most 8 more than the greatest length.
-fn number(s: &[u8], a: usize, e: usize, k: usize) -> usize
-    requires { (a ≤ e) × (e ≤ length s.now) }
-    ensures { result ≤ max_length + 8 }
-{
-    least(
-        casebook::number(s, a, e, k) as usize,
-        bounds::MAX_LENGTH + 8,
-    )
-}
-
-// A buffer before it is opened: no byte of a table's contents is 170.
-fn mark(t: &mut [u8]) {
-    let mut i = 0;
-    while i < t.len() {
-        t[i] = 170;
-        i += 1;
-    }
-}
-
-fn is_marked(t: &[u8]) -> bool {
-    let mut i = 0;
-    while i < t.len() {
-        if t[i] != 170 {
-            return false;
-        }
-        i += 1;
-    }
-    true
+fn number(line: &[u8], k: usize) -> usize {
+    (casebook::number(line, k) as usize).min(bounds::MAX_LENGTH + 8)
 }
 
 fn say_opened<W: Write>(to: &mut W, o: Opened, t: &[u8]) -> io::Result<()> {
-    say(to, b": ")?;
-    say_number(to, opening::code_of(o))?;
-    if is_marked(t) {
+    write!(to, ": {}", opening::code_of(o))?;
+    if t.iter().all(|&b| b == MARK) {
         say(to, b", buffer kept")
     } else {
         say(to, b", buffer written")
@@ -61,17 +30,15 @@ fn say_opened<W: Write>(to: &mut W, o: Opened, t: &[u8]) -> io::Result<()> {
 }
 
 // Puts the byte of column 4 at the place of column 3, if there is one.
-fn damage(s: &[u8], a: usize, e: usize, t: &mut [u8])
-    requires { (a ≤ e) × (e ≤ length s.now) }
+fn damage(line: &[u8], t: &mut [u8])
+    ensures { length t.new ≡ length t.old }
 {
-    let from = casebook::column(s, a, e, 3);
-    if casebook::find(s, from, e, b'\t') <= from {
+    if column(line, 3).is_empty() {
         return;
     }
-    let place = number(s, a, e, 3);
-    let byte = number(s, a, e, 4);
+    let place = number(line, 3);
     if place < t.len() {
-        t[place] = (byte % 256) as u8;
+        t[place] = (number(line, 4) % 256) as u8;
     }
 }
 
@@ -79,11 +46,8 @@ fn say_found<W: Write>(to: &mut W, t: &[u8], code: &[u8]) -> io::Result<()>
     requires { table_ok t.now ≡ true }
 {
     match table::find_body(t, code) {
-        Found::At(b) => {
-            say(to, b", code at ")?;
-            say_number(to, b as u64)
-        }
-        Found::Nothing => say(to, b", code not there"),
+        Some(b) => write!(to, ", code at {b}"),
+        None => say(to, b", code not there"),
     }
 }
 
@@ -92,98 +56,69 @@ fn say_bodies<W: Write>(to: &mut W, t: &[u8]) -> io::Result<()>
     requires { table_ok t.now ≡ true }
 {
     let n = table::body_count(t);
-    say(to, b", bodies ")?;
-    say_number(to, n as u64)?;
-    say(to, b", the last at ")?;
-    say_number(
+    write!(
         to,
-        entries::place_of(t, table::HEAD + entries::ENTRY * (n - 1)) as u64,
+        ", bodies {n}, the last at {}",
+        entries::place_of(t, table::HEAD + entries::ENTRY * (n - 1)),
     )
 }
 
 // Whether a table begins with these bytes and all others are zero.
-fn say_contents<W: Write>(to: &mut W, t: &[u8], x: &[u8]) -> io::Result<()>
-    requires { length t.now ≤ max_length + 8 }
-{
-    if t.len() < x.len() {
-        return say(to, b", contents differ");
-    }
-    if !scan::has(t, 0, x) {
-        return say(to, b", contents differ");
-    }
-    if ranges::are_zero(t, x.len(), t.len()) {
-        say(to, b", contents as expected")
-    } else {
-        say(to, b", slots differ")
+fn say_contents<W: Write>(to: &mut W, t: &[u8], x: &[u8]) -> io::Result<()> {
+    match t.strip_prefix(x) {
+        None => say(to, b", contents differ"),
+        Some(slots) if slots.iter().all(|&b| b == 0) => say(to, b", contents as expected"),
+        Some(_) => say(to, b", slots differ"),
     }
 }
 
-fn say_table<W: Write>(to: &mut W, t: &[u8], code: &[u8], x: &[u8]) -> io::Result<()>
-    requires { length t.now ≤ max_length + 8 }
-{
+fn say_table<W: Write>(to: &mut W, t: &[u8], code: &[u8], x: &[u8]) -> io::Result<()> {
     if !table::table_ok(t) {
         return say(to, b", not valid");
     }
     say(to, b", valid")?;
     say_bodies(to, t)?;
-    if 0 < code.len() {
+    if !code.is_empty() {
         say_found(to, t, code)?;
     }
-    if 0 < x.len() {
+    if !x.is_empty() {
         say_contents(to, t, x)?;
     }
     Ok(())
 }
 
-fn open_case<W: Write>(to: &mut W, s: &[u8], a: usize, e: usize, t: &mut [u8]) -> io::Result<()>
-    requires { (a ≤ e) × (e ≤ length s.now) × (length s.now ≤ 65536) }
-{
+fn open_case<W: Write>(to: &mut W, line: &[u8], t: &mut [u8]) -> io::Result<()> {
     let mut q = [0u8; 512];
-    let n = casebook::bytes(s, a, e, 1, &mut q);
-    mark(t);
+    let n = casebook::bytes(line, 1, &mut q);
+    t.fill(MARK);
     let o = opening::open_table(&q[..n], t);
     say_opened(to, o, t)?;
-    damage(s, a, e, t);
+    damage(line, t);
     Ok(())
 }
 
-fn show_case<W: Write>(to: &mut W, s: &[u8], a: usize, e: usize, t: &[u8]) -> io::Result<()>
-    requires { (a ≤ e) × (e ≤ length s.now) × (length s.now ≤ 65536) × (length t.now ≤ max_length + 8) }
-{
+fn show_case<W: Write>(to: &mut W, line: &[u8], t: &[u8]) -> io::Result<()> {
     let mut c = [0u8; 64];
     let mut x = [0u8; 1024];
-    let n = casebook::bytes(s, a, e, 5, &mut c);
-    let m = casebook::bytes(s, a, e, 6, &mut x);
+    let n = casebook::bytes(line, 5, &mut c);
+    let m = casebook::bytes(line, 6, &mut x);
     say_table(to, t, &c[..n], &x[..m])
 }
 
-// One case: the line from a up to e.
-fn run_case<W: Write>(to: &mut W, s: &[u8], a: usize, e: usize, t: &mut [u8]) -> io::Result<()>
-    requires { (a ≤ e) × (e ≤ length s.now) × (length s.now ≤ 65536) × (length t.old ≤ max_length + 8) }
-{
-    casebook::say_column(to, s, a, e, 0)?;
-    open_case(to, s, a, e, t)?;
-    show_case(to, s, a, e, t)?;
+fn run_case<W: Write>(to: &mut W, line: &[u8], t: &mut [u8]) -> io::Result<()> {
+    say(to, column(line, 0))?;
+    open_case(to, line, t)?;
+    show_case(to, line, t)?;
     say(to, b"; expected ")?;
-    casebook::say_column(to, s, a, e, 7)?;
+    say(to, column(line, 7))?;
     say(to, b"\n")
 }
 
-// In a buffer of the length that the case asks for.
-fn run_within<W: Write>(to: &mut W, s: &[u8], a: usize, e: usize, room: &mut [u8]) -> io::Result<()>
-    requires { (a ≤ e) × (e ≤ length s.now) × (length s.now ≤ 65536) }
-{
-    let n = least(number(s, a, e, 2), room.len());
-    run_case(to, s, a, e, &mut room[..n])
-}
-
-fn run_cases<W: Write>(to: &mut W, s: &[u8], room: &mut [u8]) -> io::Result<()>
-    requires { length s.now ≤ 65536 }
-{
-    let mut at = 0;
-    while at < s.len() {
-        run_within(to, s, at, casebook::line_end(s, at), room)?;
-        at = casebook::next_line(s, at);
+// Each case in a buffer of the length that it asks for, as far as there is room.
+fn run_cases<W: Write>(to: &mut W, text: &[u8], room: &mut [u8]) -> io::Result<()> {
+    for line in casebook::lines_of(text) {
+        let n = number(line, 2).min(room.len());
+        run_case(to, line, &mut room[..n])?;
     }
     Ok(())
 }

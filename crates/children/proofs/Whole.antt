@@ -1,45 +1,43 @@
 -- Where the markup stands, the children are all there: the root is a child, and a content's children reach to its end tag.
+use Rattle.std.specs.Prelude.{Some, None, Ok}
 use mathlib.Core.Path.{◌≡◌, refl, ◌∙◌}
 use mathlib.Core.List.{List, [], ◌∷◌}
 use mathlib.Core.Bool.{Bool, true, false, cond, not, ◌&&◌}
-use Prim.Native.Nat.{ℕ, zero, suc, ◌+◌, ◌-◌, ◌/◌, ◌≤◌, ◌<◌}
+use Prim.Native.Nat.{ℕ, zero, suc, ◌+◌, ◌-◌, ◌≤◌, ◌<◌}
 use native.Mathlib.Numerals.{add-one}
 use native.Mathlib.Omega.{arith}
 use lib.ListN.{length, get_or, drop}
 use lib.Seq.{drop-cons}
 use lib.Dec.{eqb}
 use borrow.Author.Tests.{eqb-true, eqb-false}
-use Rattle.scan.specs.declared.Walk.TheVariants.{Past}
 use Rattle.scan.specs.Bytes.{bytes, byte_at, part, is_letter, starts_with, has_at}
 use Rattle.scan.proofs.Laws.{never, both, cond_past, has_past}
 use Rattle.tokens.specs.Tokens.{and_then, repeat, until, white_at, name_at, end_tag_at}
 use Rattle.tokens.proofs.Laws.{then_past, name_past, end_past}
 use Rattle.markup.specs.Markup.{child_by, children_by, content_by, element_at, content_at}
 use Rattle.markup.proofs.Laws.{Parts, parts}
-use Rattle.markup.specs.declared.Told.TheVariants.{Ends}
 use Rattle.markup.specs.Noted.{Noted, note_of}
 use Rattle.markup.proofs.Noted.{element_more, noted_read}
 use Rattle.children.specs.declared.Child.{Child}
-use Rattle.children.specs.declared.Step.TheVariants.{One, End}
 use Rattle.children.specs.Child.{child_at, child_to, children_from}
 use Rattle.children.proofs.Laws.{child_none, child_no_name, child_one, children_end, children_one}
 
 -- an element of the markup, one level more or less
-element_parts : (s : List ℕ) (at q : ℕ) → element_at 12 s at ≡ Past q → (e p : ℕ) × Parts (content_at 12 s) s at e p q
+element_parts : (s : List ℕ) (at q : ℕ) → element_at 12 s at ≡ Ok q → (e p : ℕ) × Parts (content_at 12 s) s at e p q
 unfolding element_at content_at
 element_parts s at q e = parts (content_at 12 s) s at q (element_more 12 s at q e)
 
 -- it is a child, and the next one begins after it and its white space
-pub child_of : (s : List ℕ) (i q : ℕ) → byte_at s i ≡ 60 → element_at 12 s (i + 1) ≡ Past q → (c : Child) × (child_at s i ≡ One c) × (c.after ≡ white_at s q)
+pub child_of : (s : List ℕ) (i q : ℕ) → byte_at s i ≡ 60 → element_at 12 s (i + 1) ≡ Ok q → (c : Child) × (child_at s i ≡ Some c) × (c.after ≡ white_at s q)
 child_of s i q l e =
     let k = element_parts s (i + 1) q e in
     (record { lt = i; gt = k.0; to = k.1; after = white_at s q }, child_one s i l k.0 k.2.name (eqb-true _ _ k.2.opens) k.1 k.2.holds q k.2.end, refl)
 
 -- past an end tag: its content ended before its name and three bytes
-end_at : (s : List ℕ) (a e p q : ℕ) → end_tag_at s a e p ≡ Past q → p + 2 + (e - a) + 1 ≡ q
+end_at : (s : List ℕ) (a e p q : ℕ) → end_tag_at s a e p ≡ Ok q → p + 2 + (e - a) + 1 ≡ q
 unfolding end_tag_at
 end_at s a e p q h =
-    let c = cond_past (has_at (bytes "</") s p && (has_at (part s a e) s (p + 2) && eqb (byte_at s (p + 2 + (e - a))) 62)) (Past (p + 2 + (e - a) + 1)) p h in
+    let c = cond_past (has_at (bytes "</") s p && (has_at (part s a e) s (p + 2) && eqb (byte_at s (p + 2 + (e - a))) 62)) (Ok (p + 2 + (e - a) + 1)) p h in
     let f = c.1 in
     cc
 
@@ -50,10 +48,10 @@ pub record NotedAt (s : List ℕ) (i e q : ℕ) : Type 0 where
   pub name : i + 1 < e
   pub room : e - i + 2 ≤ q
   pub within : q ≤ length s
-  pub child : child_at s i ≡ One (child_to s i e q)
+  pub child : child_at s i ≡ Some (child_to s i e q)
 
 -- an element whose name and end are known is a child: its name tells where its content ends
-known : (s : List ℕ) (i e q : ℕ) → byte_at s i ≡ 60 → element_at 12 s (i + 1) ≡ Past q → name_at s (i + 1) ≡ Past e → NotedAt s i e q
+known : (s : List ℕ) (i e q : ℕ) → byte_at s i ≡ 60 → element_at 12 s (i + 1) ≡ Ok q → name_at s (i + 1) ≡ Ok e → NotedAt s i e q
 known s i e q l h b = let k = element_parts s (i + 1) q h in let u = k.2.name in let v : k.0 ≡ e = cc in by k.0 k.1 v k.2
   where
     by : (t p : ℕ) → t ≡ e → Parts (content_at 12 s) s (i + 1) t p q → NotedAt s i e q
@@ -65,7 +63,7 @@ known s i e q l h b = let k = element_parts s (i + 1) q h in let u = k.2.name in
         rw (← v) (record { name = a.on; room = omega arith; within = o.within; child = rw (← x) (child_one s i l t k.name (eqb-true _ _ k.opens) p k.holds q k.end) })
 
 -- and so is one that is noted
-pub child_noted : (s past : List ℕ) (i k q : ℕ) → byte_at s i ≡ 60 → Noted s past → Ends k q ≡ note_of past (i + 1) → NotedAt s i (i + 1 + k) q
+pub child_noted : (s past : List ℕ) (i k q : ℕ) → byte_at s i ≡ 60 → Noted s past → Some (k, q) ≡ note_of past (i + 1) → NotedAt s i (i + 1 + k) q
 child_noted s past i k q l h w = let t = noted_read s past (i + 1) k q h w in known s i (i + 1 + k) q l t.0 t.1
 
 -- CHILDREN
@@ -85,29 +83,29 @@ closing s i e =
     let b = both (eqb (get_or s (suc i) 0) 47) true (rw (drop-cons s (suc i) 0 k) at a.1) in
     (eqb-true _ _ a.0, rw add-one (eqb-true _ _ b.0))
 
-at_end : (s : List ℕ) (i : ℕ) → byte_at s i ≡ 60 → byte_at s (i + 1) ≡ 47 → child_at s i ≡ End
+at_end : (s : List ℕ) (i : ℕ) → byte_at s i ≡ 60 → byte_at s (i + 1) ≡ 47 → child_at s i ≡ None
 unfolding name_at is_letter
 at_end s i l e = child_no_name s i l (i + 1) (rw e)
 
-walk_one : (s : List ℕ) (w v q : ℕ) (c : Child) → child_at s w ≡ One c → c.after ≡ v → end_of v (children_from s v) ≡ q → end_of w (children_from s w) ≡ q
+walk_one : (s : List ℕ) (w v q : ℕ) (c : Child) → child_at s w ≡ Some c → c.after ≡ v → end_of v (children_from s v) ≡ q → end_of w (children_from s w) ≡ q
 unfolding end_of
 walk_one s w v q c e z h = rw (children_one s w c e, z) h
 
-walk_end : (s : List ℕ) (w : ℕ) → child_at s w ≡ End → end_of w (children_from s w) ≡ w
+walk_end : (s : List ℕ) (w : ℕ) → child_at s w ≡ None → end_of w (children_from s w) ≡ w
 unfolding end_of
 walk_end s w e = rw (children_end s w e)
 
-walks : (s : List ℕ) (n w q : ℕ) → repeat n (has_at (bytes "</") s) (child_by (element_at 12 s) s) w ≡ Past q → end_of w (children_from s w) ≡ q
+walks : (s : List ℕ) (n w q : ℕ) → repeat n (has_at (bytes "</") s) (child_by (element_at 12 s) s) w ≡ Ok q → end_of w (children_from s w) ≡ q
 unfolding repeat child_by
 walks s zero w q e = never e
 walks s (suc n) w q e = go (has_at (bytes "</") s w) refl (walks s n) e
   where
-    go : (b : Bool) → has_at (bytes "</") s w ≡ b → ((v q : ℕ) → repeat n (has_at (bytes "</") s) (child_by (element_at 12 s) s) v ≡ Past q → end_of v (children_from s v) ≡ q) → cond b (Past w) (and_then (child_by (element_at 12 s) s w) (repeat n (has_at (bytes "</") s) (child_by (element_at 12 s) s))) ≡ Past q → end_of w (children_from s w) ≡ q
+    go : (b : Bool) → has_at (bytes "</") s w ≡ b → ((v q : ℕ) → repeat n (has_at (bytes "</") s) (child_by (element_at 12 s) s) v ≡ Ok q → end_of v (children_from s v) ≡ q) → cond b (Ok w) (and_then (child_by (element_at 12 s) s w) (repeat n (has_at (bytes "</") s) (child_by (element_at 12 s) s))) ≡ Ok q → end_of w (children_from s w) ≡ q
     go true eb ih h = let z : w ≡ q = cc in let a = closing s w eb in walk_end s w (at_end s w a.0 a.1) ∙ z
     go false eb ih h =
         let t = then_past (child_by (element_at 12 s) s w) (repeat n (has_at (bytes "</") s) (child_by (element_at 12 s) s)) h in
-        let c = cond_past (eqb (byte_at s w) 60) (and_then (element_at 12 s (w + 1)) (λ r. Past (white_at s r))) w t.1 in
-        let d = then_past (element_at 12 s (w + 1)) (λ r. Past (white_at s r)) c.1 in
+        let c = cond_past (eqb (byte_at s w) 60) (and_then (element_at 12 s (w + 1)) (λ r. Ok (white_at s r))) w t.1 in
+        let d = then_past (element_at 12 s (w + 1)) (λ r. Ok (white_at s r)) c.1 in
         let k = child_of s w d.0 (eqb-true _ _ c.0) d.1 in
         let f = d.2 in
         let z : white_at s d.0 ≡ t.0 = cc in
@@ -118,7 +116,7 @@ abbrev pub holds_elements : List ℕ → ℕ → Bool
 holds_elements s at = eqb (byte_at s (white_at s at)) 60 && not (eqb (byte_at s (white_at s at + 1)) 47)
 
 -- its children reach from its first < to its end tag
-pub children_reach : (s : List ℕ) (at q : ℕ) → content_at 12 s at ≡ Past q → holds_elements s at ≡ true → end_of (white_at s at) (children_from s (white_at s at)) ≡ q
+pub children_reach : (s : List ℕ) (at q : ℕ) → content_at 12 s at ≡ Ok q → holds_elements s at ≡ true → end_of (white_at s at) (children_from s (white_at s at)) ≡ q
 unfolding content_at content_by children_by until
 children_reach s at q e h = walks s (suc (length s)) (white_at s at) q (rw h at e)
 

@@ -5,9 +5,6 @@ ghost use Rattle.std.specs.Prelude.{◌≡◌, ◌+◌, ◌-◌, ◌≤◌, ◌<
 ghost use Rattle.markup.specs.Noted.{Noted};
 ghost use Rattle.children.specs.Child.{child_at, child_to, FieldPromise, NamePromise, TextPromise};
 
-use markup::Told;
-use scan::Walk;
-
 // An element: its `<`, the end of its name, the `<` of its end tag, and the place past it and the white space after it.
 #[derive(Clone, Copy)]
 pub struct Child {
@@ -15,12 +12,6 @@ pub struct Child {
     pub gt: usize,
     pub to: usize,
     pub after: usize,
-}
-
-#[derive(Clone, Copy)]
-pub enum Step {
-    One(Child),
-    End,
 }
 
 // Where a field's name and its text stand in the flow: places and lengths, all zero where no field does.
@@ -33,27 +24,21 @@ pub struct FieldSpans {
 }
 
 // The child at a position, read with no notes at hand.
-pub fn child_alone(s: &[u8], i: usize) -> Step
+pub fn child_alone(s: &[u8], i: usize) -> Option<Child>
     requires { i ≤ length s.now }
     ensures { result ≡ child_at s.now i }
 {
     if scan::byte(s, i) != b'<' {
-        return Step::End;
+        return None;
     }
-    let Walk::Past(e) = tokens::name_end(s, i + 1) else {
-        return Step::End;
-    };
+    let e = tokens::name_end(s, i + 1).ok()?;
     if scan::byte(s, e) != b'>' {
-        return Step::End;
+        return None;
     }
-    let Walk::Past(p) = markup::content_alone(s, e + 1) else {
-        return Step::End;
-    };
-    let Walk::Past(q) = tokens::end_tag(s, i + 1, e, p) else {
-        return Step::End;
-    };
+    let p = markup::content_alone(s, e + 1).ok()?;
+    let q = tokens::end_tag(s, i + 1, e, p).ok()?;
     let after = scan::white_end(s, q);
-    Step::One(Child {
+    Some(Child {
         lt: i,
         gt: e,
         to: p,
@@ -76,18 +61,17 @@ fn child_to(s: &[u8], i: usize, e: usize, q: usize) -> Child
 }
 
 // The child at a position, by the notes of the markup pass.
-pub fn child_at(s: &[u8], i: usize, past: &[u32]) -> Step
+pub fn child_at(s: &[u8], i: usize, past: &[u32]) -> Option<Child>
     requires { (i ≤ length s.now) × Noted s.now past.now }
     ensures { result ≡ child_at s.now i }
 {
     if scan::byte(s, i) != b'<' {
-        return Step::End;
+        return None;
     }
-    let Told::Ends(k, q) = markup::note_at(past, i + 1) else {
-        return child_alone(s, i);
-    };
-    let c = child_to(s, i, i + 1 + k, q);
-    Step::One(c)
+    match markup::note_at(past, i + 1) {
+        Some((k, q)) => Some(child_to(s, i, i + 1 + k, q)),
+        None => child_alone(s, i),
+    }
 }
 
 // Where name and text stand of the element whose `<` stands at a place.
@@ -104,7 +88,7 @@ pub fn field_at(s: &[u8], place: usize) -> FieldSpans
         return none;
     }
     match child_alone(s, place) {
-        Step::One(c) => {
+        Some(c) => {
             let name = c.lt + 1;
             let text = c.gt + 1;
             FieldSpans {
@@ -114,7 +98,7 @@ pub fn field_at(s: &[u8], place: usize) -> FieldSpans
                 text_len: c.to - text,
             }
         }
-        Step::End => none,
+        None => none,
     }
 }
 
@@ -123,9 +107,7 @@ pub fn name_at(s: &[u8], place: usize) -> &[u8]
     ensures { NamePromise s.now place result.now }
 {
     let w = field_at(s, place);
-    let a = w.name;
-    let e = a + w.name_len;
-    &s[a..e]
+    &s[w.name..w.name + w.name_len]
 }
 
 // The text of the element whose `<` stands at a place, likewise.
@@ -133,7 +115,5 @@ pub fn text_at(s: &[u8], place: usize) -> &[u8]
     ensures { TextPromise s.now place result.now }
 {
     let w = field_at(s, place);
-    let a = w.text;
-    let e = a + w.text_len;
-    &s[a..e]
+    &s[w.text..w.text + w.text_len]
 }

@@ -3,7 +3,6 @@
 
 use clerk_line::{date_of, kind_of, value_of, word};
 use printing::say;
-use ranges::Found;
 use record::Key;
 use room::Room;
 use std::fs::File;
@@ -20,42 +19,23 @@ fn key_in(s: &[u8]) -> Key {
     }
 }
 
-fn run_execute<W: Write>(to: &mut W, r: Room, s: &[u8]) -> io::Result<Room> {
-    if word(s, 6).len() == 0 {
+// execute or reverse, as those words say.
+fn run_notice<W: Write>(to: &mut W, r: Room, s: &[u8], executing: bool) -> io::Result<Room> {
+    let day = word(s, 6);
+    if day.is_empty() {
         say_help(to)?;
         return Ok(r);
     }
-    let told = room_notices::execute(
-        r,
-        word(s, 1),
-        key_in(s),
-        value_of(word(s, 5)),
-        date_of(word(s, 6)),
-    );
-    let answer = told.answer;
-    let n = notices::reply_of(answer);
-    clerk_words::say_notice(to, n.code, n.cents, true)?;
-    let room = told.room;
-    Ok(room)
-}
-
-fn run_reverse<W: Write>(to: &mut W, r: Room, s: &[u8]) -> io::Result<Room> {
-    if word(s, 6).len() == 0 {
-        say_help(to)?;
-        return Ok(r);
-    }
-    let told = room_notices::reverse(
-        r,
-        word(s, 1),
-        key_in(s),
-        value_of(word(s, 5)),
-        date_of(word(s, 6)),
-    );
-    let answer = told.answer;
-    let n = notices::reply_of(answer);
-    clerk_words::say_notice(to, n.code, n.cents, false)?;
-    let room = told.room;
-    Ok(room)
+    let body = word(s, 1);
+    let line = value_of(word(s, 5));
+    let told = if executing {
+        room_notices::execute(r, body, key_in(s), line, date_of(day))
+    } else {
+        room_notices::reverse(r, body, key_in(s), line, date_of(day))
+    };
+    let n = notices::reply_of(told.answer);
+    clerk_words::say_notice(to, n.code, n.cents, executing)?;
+    Ok(told.room)
 }
 
 // Why a flow of an edition is refused: a sentence of the school's where it is document 01's edition.
@@ -76,13 +56,7 @@ fn say_refused<W: Write>(
     match code {
         3 => say(to, b"  3, the markup breaks\n"),
         4 => say(to, b"  4, the structure breaks\n"),
-        5 => {
-            say(to, b"  5, a field breaks, at byte ")?;
-            clerk_words::say_plain(to, place)?;
-            say(to, b", cause ")?;
-            clerk_words::say_plain(to, cause)?;
-            say(to, b"\n")
-        }
+        5 => write!(to, "  5, a field breaks, at byte {place}, cause {cause}\n"),
         _ => reasons::of_flow(to, f, code, place, cause),
     }
 }
@@ -90,16 +64,14 @@ fn say_refused<W: Write>(
 fn tell_flow<W: Write>(to: &mut W, r: Room, f: &[u8], edition: u64) -> io::Result<Room> {
     let mut out = [0u8; 1024];
     let told = room_flow::take_flow(r, edition, f, &mut out);
-    let answer = told.answer;
-    let n = desk::reply_of(answer);
+    let n = desk::reply_of(told.answer);
     if n.code == 0 {
         clerk_words::say_taken(to, n.orders, n.accepted, n.steps)?;
         clerk_words::say_outcomes(to, &out, n.orders)?;
     } else {
         say_refused(to, f, edition, n.code, n.place, n.cause)?;
     }
-    let room = told.room;
-    Ok(room)
+    Ok(told.room)
 }
 
 // A flow's file, of which one byte more than the longest flow is read, so that a longer one shows.
@@ -111,15 +83,11 @@ fn run_file<F: Read, W: Write>(
 ) -> io::Result<Room> {
     let mut input = [0u8; 32769];
     let got = printing::read_input(file, &mut input);
-    let n = got.read;
-    tell_flow(to, r, &input[..n], edition)
+    tell_flow(to, r, &input[..got.read], edition)
 }
 
 fn edition_of(w: &[u8]) -> u64 {
-    if w.len() == 0 {
-        return 1;
-    }
-    value_of(w)
+    if w.is_empty() { 1 } else { value_of(w) }
 }
 
 fn say_unopened<W: Write>(to: &mut W) -> io::Result<()> {
@@ -142,12 +110,12 @@ fn run_flow<H: Files, W: Write>(rt: &H, to: &mut W, r: Room, s: &[u8]) -> io::Re
 // list BODY
 fn run_list<W: Write>(to: &mut W, r: Room, body: &[u8]) -> io::Result<()> {
     match room::find_seat(r, body) {
-        Found::At(b) => {
+        Some(b) => {
             let p = room::seat_at(r, b);
             let book = p.book;
             clerk_words::say_orders(to, book)
         }
-        Found::Nothing => { clerk_words::say_unknown(to) }
+        None => clerk_words::say_unknown(to),
     }
 }
 
@@ -164,26 +132,22 @@ fn say_help<W: Write>(to: &mut W) -> io::Result<()> {
 
 // Takes one command line: the room afterwards.
 pub fn take<H: Files, W: Write>(rt: &H, to: &mut W, r: Room, s: &[u8]) -> io::Result<Room> {
-    let command = word(s, 0);
-    if scan::same(command, b"flow") {
-        return run_flow(rt, to, r, s);
+    match word(s, 0) {
+        b"flow" => run_flow(rt, to, r, s),
+        b"execute" => run_notice(to, r, s, true),
+        b"reverse" => run_notice(to, r, s, false),
+        b"totals" => {
+            clerk_words::say_totals(to, room_notices::totals(r, word(s, 1)))?;
+            Ok(r)
+        }
+        b"list" => {
+            run_list(to, r, word(s, 1))?;
+            Ok(r)
+        }
+        b"" => Ok(r),
+        _ => {
+            say_help(to)?;
+            Ok(r)
+        }
     }
-    if scan::same(command, b"execute") {
-        return run_execute(to, r, s);
-    }
-    if scan::same(command, b"reverse") {
-        return run_reverse(to, r, s);
-    }
-    if scan::same(command, b"totals") {
-        clerk_words::say_totals(to, room_notices::totals(r, word(s, 1)))?;
-        return Ok(r);
-    }
-    if scan::same(command, b"list") {
-        run_list(to, r, word(s, 1))?;
-        return Ok(r);
-    }
-    if command.len() != 0 {
-        say_help(to)?;
-    }
-    Ok(r)
 }

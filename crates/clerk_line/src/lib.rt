@@ -1,7 +1,7 @@
 // A clerk's line: how it is read from standard input, and what it says: its words, and the numbers, kinds and dates that they write.
 #![tactic(auto)]
 
-ghost use Rattle.std.specs.Prelude.{◌≡◌, ◌≤◌, length, IfOk, OnErr};
+ghost use Rattle.std.specs.Prelude.{◌≡◌, length, IfOk, OnErr};
 ghost use Rattle.std.specs.Counts.{IsPrefixLen};
 
 use calendar::Date;
@@ -15,31 +15,18 @@ pub struct Line {
     pub more: bool,
 }
 
-// A byte of standard input, or its end.
-#[derive(Clone, Copy)]
-enum Next {
-    Byte(u8),
-    End,
-}
-
 // A tab, or the CR before a line's end, parts words as a space does.
 fn blank(b: u8) -> u8 {
-    if b == b'\t' {
-        b' '
-    } else if b == b'\r' {
-        b' '
-    } else {
-        b
-    }
+    if matches!(b, b'\t' | b'\r') { b' ' } else { b }
 }
 
-fn next_byte<R: Read>(from: &mut R) -> io::Result<Next> {
+fn next_byte<R: Read>(from: &mut R) -> io::Result<Option<u8>> {
     let mut one = [0u8; 1];
     let got = from.read(&mut one)?;
     if got == 1 {
-        Ok(Next::Byte(blank(one[0])))
+        Ok(Some(blank(one[0])))
     } else {
-        Ok(Next::End)
+        Ok(None)
     }
 }
 
@@ -51,13 +38,13 @@ pub fn read_line<R: Read>(from: &mut R, buf: &mut [u8]) -> io::Result<Line>
     let mut n: usize = 0;
     while n < buf.len() {
         match next_byte(from)? {
-            Next::End => {
+            None => {
                 return Ok(Line {
                     size: n,
                     more: false,
                 });
             }
-            Next::Byte(b) => {
+            Some(b) => {
                 if b == b'\n' {
                     return Ok(Line {
                         size: n,
@@ -75,84 +62,48 @@ pub fn read_line<R: Read>(from: &mut R, buf: &mut [u8]) -> io::Result<Line>
     })
 }
 
-// The place of the next word.
-fn past_white(s: &[u8], at: usize) -> usize
-    requires { at ≤ length s.now }
-    ensures { result ≤ length s.now }
-{
-    scan::white_end(s, at)
-}
-
 // Word k of a line, the first being 0: empty where there are fewer.
-pub fn word(s: &[u8], k: usize) -> &[u8] {
-    let mut from = past_white(s, 0);
-    let mut left = k;
-    while 0 < left {
-        from = past_white(s, casebook::find(s, from, s.len(), b' '));
-        left -= 1;
-    }
-    let to = casebook::find(s, from, s.len(), b' ');
-    &s[from..to]
-}
-
-// One digit more, as long as the number fits: what is larger is no number that anything has.
-fn more(v: u64, b: u8) -> u64 {
-    if 1000000000000000000 < v {
-        return v;
-    }
-    v * 10 + (b as u64) % 16
+pub fn word(line: &[u8], k: usize) -> &[u8] {
+    line.split(|&b| b == b' ')
+        .filter(|w| !w.is_empty())
+        .nth(k)
+        .unwrap_or(b"")
 }
 
 // The number that a word writes in decimal digits; 0, which nothing has, where it writes none.
 pub fn value_of(w: &[u8]) -> u64 {
     let mut v: u64 = 0;
-    let mut i: usize = 0;
-    while i < w.len() {
-        if !scan::is_digit(w[i]) {
+    for &b in w {
+        if !b.is_ascii_digit() {
             return 0;
         }
-        v = more(v, w[i]);
-        i += 1;
+        v = casebook::more(v, b);
     }
     v
 }
 
 // An order's kind, by its name or its number.
 pub fn kind_of(w: &[u8]) -> u64 {
-    if scan::same(w, b"mandato") {
-        return 1;
-    }
-    if scan::same(w, b"reversale") {
-        return 2;
-    }
-    value_of(w)
-}
-
-fn part_value(w: &[u8], from: usize, to: usize) -> u64
-    requires { (from ≤ to) × (to ≤ length w.now) }
-{
-    value_of(&w[from..to])
-}
-
-fn no_date() -> Date {
-    Date {
-        year: 0,
-        month: 0,
-        day: 0,
+    match w {
+        b"mandato" => 1,
+        b"reversale" => 2,
+        _ => value_of(w),
     }
 }
 
 // The date that a word writes as YYYY-MM-DD; day 0 of no month where it writes none.
 pub fn date_of(w: &[u8]) -> Date {
-    if w.len() != 10 {
-        return no_date();
-    }
-    if w[4] != b'-' || w[7] != b'-' {
-        return no_date();
-    }
-    Date {
-        year: part_value(w, 0, 4),
-        month: part_value(w, 5, 7),
-        day: part_value(w, 8, 10),
+    if w.len() == 10 && w[4] == b'-' && w[7] == b'-' {
+        Date {
+            year: value_of(&w[..4]),
+            month: value_of(&w[5..7]),
+            day: value_of(&w[8..]),
+        }
+    } else {
+        Date {
+            year: 0,
+            month: 0,
+            day: 0,
+        }
     }
 }

@@ -1,4 +1,5 @@
 -- WHAT LATER CALLS ANSWER FOR A CLOSED YEAR: no record of it is there, so no search finds one.
+use Rattle.std.specs.Prelude.{Option, Result, Some, None, Ok, Err}
 use Prim.Native.Nat.{ℕ, ◌+◌, ◌≤◌, ◌<◌}
 use mathlib.Core.Path.{◌≡◌, refl, sym, ap, ◌∙◌, subst}
 use mathlib.Core.Bool.{Bool, true, false, ◌||◌, cond}
@@ -11,8 +12,6 @@ use lib.Dec.{eqb}
 use borrow.Author.Tests.{le-leb, eqb-true}
 use Rattle.scan.specs.Bytes.{text_is}
 use Rattle.bounds.specs.Bounds.{is_year, max_flow}
-use Rattle.ranges.specs.declared.Found.{Found}
-use Rattle.ranges.specs.declared.Found.TheVariants.{At, Nothing}
 use Rattle.calendar.specs.declared.Date.{Date}
 use Rattle.target_days.specs.Target.{target_code}
 use Rattle.record.specs.declared.Record.{Record}
@@ -23,13 +22,12 @@ use Rattle.body.proofs.Slots.{parts}
 use Rattle.entries.specs.Entry.{closed_of, closed_ok, slots_of, place_of, find_code}
 use Rattle.table.specs.Table.{table2, bodies, abi_of, records_of, contents_ok, table_ok, body_of, entry_of}
 use Rattle.table.proofs.Bodies.{body_at_lem, found_body}
-use Rattle.rules.specs.declared.Noticed.TheVariants.{Unmoved}
 use Rattle.rules.specs.Rules.{notice_at, judge_notice}
 use Rattle.rules.proofs.Listed.{found_has}
 use Rattle.service.specs.Service.{notice_comes, notice_stored}
 use Rattle.replacing.specs.declared.Naming.{Naming}
 use Rattle.replacing.specs.Replacing.{named_at, named_code}
-use Rattle.notices.specs.declared.NoticeAnswer.{NoticeAnswer}
+use Rattle.notices.specs.declared.NoticeRefusal.{NoticeRefusal}
 use Rattle.notices.specs.Notices.{noticed, notice_by, notice_table_by, notice_code_of, NoticePromise}
 use Rattle.notices.proofs.Laws.{only_target}
 use Rattle.journal.specs.declared.Movement.{Movement}
@@ -38,16 +36,14 @@ use Rattle.journal.specs.Told.{NoneOf, Right}
 use Rattle.journal.proofs.Laws.{call_at}
 use Rattle.journal.proofs.Told.{journal_told}
 use Rattle.editions.specs.declared.Edition.{Edition}
-use Rattle.editions.specs.declared.Edited.TheVariants.{By}
 use Rattle.editions.specs.Editions.{edition_of}
-use Rattle.flow.specs.declared.Verdict.TheVariants.{Stands}
 use Rattle.flow.specs.Flow.{verdict_of, header_of}
-use Rattle.desk.specs.declared.FlowAnswer.TheVariants.{ClosedYear}
+use Rattle.desk.specs.declared.FlowRefusal.TheVariants.{ClosedYear}
 use Rattle.desk.specs.Desk.{refused, flow_reads, flow_code}
 use Rattle.desk.proofs.Refusals.{refused_keeps}
 use Rattle.salvage.specs.Salvage.{kept_of, repaired}
 use Rattle.salvage.proofs.All.{repairs}
-use Rattle.year_end.specs.declared.CloseAnswer.{CloseAnswer}
+use Rattle.year_end.specs.declared.CloseRefusal.{CloseRefusal}
 use Rattle.year_end.specs.YearEnd.{ClosePromise, close_code}
 use Rattle.closed_years.specs.Told.{CloseApplies, no_year, not_later, earlier, waiting, close_turn}
 use Rattle.closed_years.specs.Afterwards.{IsClosed, Afterwards}
@@ -89,12 +85,12 @@ module _ (t : List ℕ) (ok : table_ok t ≡ true) (b : ℕ) (l : b < bodies t) 
   none_closed = later_each (closed_of t (entry_of b)) (records_of t (entry_of b)) (body_at_lem t ok b l).holds.later
 
   -- so no search finds one
-  none_found : (k : Key) → IsClosed t b k.esercizio → find_in (records_of t (entry_of b)) 0 k ≡ Nothing
+  none_found : (k : Key) → IsClosed t b k.esercizio → find_in (records_of t (entry_of b)) 0 k ≡ None
   none_found k c = go (find_in (records_of t (entry_of b)) 0 k) refl
     where
-      go : (f : Found) → find_in (records_of t (entry_of b)) 0 k ≡ f → find_in (records_of t (entry_of b)) 0 k ≡ Nothing
-      go Nothing e = e
-      go (At i) e =
+      go : (f : Option ℕ) → find_in (records_of t (entry_of b)) 0 k ≡ f → find_in (records_of t (entry_of b)) 0 k ≡ None
+      go None e = e
+      go (Some i) e =
           let h = found_has (records_of t (entry_of b)) k i e in
           absurd (omega (arith, none_closed (nth (records_of t (entry_of b)) i) h.among, ap (λ (x : Key). x.esercizio) h.key))
 
@@ -106,17 +102,17 @@ module _ (t : List ℕ) (ok : table_ok t ≡ true) (b : ℕ) (l : b < bodies t) 
   no_line_closed m c x i o = let w = lines_year x (records_of t (entry_of b)) i in omega (arith, o.esercizio, w.2, none_closed w.0 w.1)
 
 -- A NOTICE for such an order
-module _ (t : List ℕ) (ok : table_ok t ≡ true) (code : List ℕ) (b : ℕ) (f : body_of t code ≡ At b) where
+module _ (t : List ℕ) (ok : table_ok t ≡ true) (code : List ℕ) (b : ℕ) (f : body_of t code ≡ Some b) where
   low : b < bodies t
   low = found_body t ok code b f
 
   notice_closed : (executing : Bool) (k : Key) (line : ℕ) (d : Date) → target_code d ≡ 0 → IsClosed t b k.esercizio
-      → (a : NoticeAnswer) (t' : List ℕ) → NoticePromise t executing code k line d a t' → (notice_code_of a ≡ 16) × (t' ≡ t)
+      → (a : Result ℕ NoticeRefusal) (t' : List ℕ) → NoticePromise t executing code k line d a t' → (notice_code_of a ≡ 16) × (t' ≡ t)
   unfolding notice_by notice_table_by notice_comes judge_notice notice_at notice_stored
   notice_closed executing k line d o c a t' p =
       let w = only_target t code executing k line d o p in
       let q = addressed_at t code ok b f in
-      let j : notice_comes t (place_of t (entry_of b)) (slots_of t (entry_of b)) executing k line ≡ Unmoved 16 = ap (notice_at executing line (records_of t (entry_of b))) (none_found t ok b low k c) in (
+      let j : notice_comes t (place_of t (entry_of b)) (slots_of t (entry_of b)) executing k line ≡ Err 16 = ap (notice_at executing line (records_of t (entry_of b))) (none_found t ok b low k c) in (
         ap notice_code_of (w.0 ∙ ap (notice_by t executing k line) q ∙ ap noticed j),
         w.1 ∙ ap (notice_table_by t executing k line) q ∙ ap (notice_stored t (entry_of b) (place_of t (entry_of b)) (slots_of t (entry_of b)) executing line) j,
       )
@@ -131,9 +127,9 @@ module _ (t : List ℕ) (ok : table_ok t ≡ true) (code : List ℕ) (b : ℕ) (
       p ∙ sym (call_at t code s (addressed_at t code ok b f)) ∙ ap (λ (x : Bool). cond x (journal_code (executed_lines (records_of t (entry_of b))) [] (movements_in s)) 29) whole ∙ w
 
 -- A FLOW for such a year
-flow_reads_lem : (t : List ℕ) → table_ok t ≡ true → (ed : ℕ) (e : Edition) → edition_of ed ≡ By e → (f : List ℕ) → length f ≤ max_flow → (at : ℕ) → verdict_of e f ≡ Stands at
-    → text_is (abi_of t) (header_of e f at).abi ≡ true → (b : ℕ) → body_of t (header_of e f at).ente ≡ At b → IsClosed t b (header_of e f at).esercizio
-    → (room : ℕ) → flow_reads t ed f room ≡ refused ClosedYear
+flow_reads_lem : (t : List ℕ) → table_ok t ≡ true → (ed : ℕ) (e : Edition) → edition_of ed ≡ Some e → (f : List ℕ) → length f ≤ max_flow → (at : ℕ) → verdict_of e f ≡ Ok at
+    → text_is (abi_of t) (header_of e f at).abi ≡ true → (b : ℕ) → body_of t (header_of e f at).ente ≡ Some b → IsClosed t b (header_of e f at).esercizio
+    → (room : ℕ) → flow_reads t ed f room ≡ refused (Err ClosedYear)
 unfolding flow_reads
 flow_reads_lem t ok ed e n f l at v a b w c room =
     rw (ok, n, le-leb (length f) max_flow l, v, a, w, le-leb (header_of e f at).esercizio (closed_of t (entry_of b)) c)
@@ -146,8 +142,8 @@ last_year y e = go (eqb y 0) refl e
     go true q w = omega (arith, eqb-true y 0 q)
     go false q w = (year_is y w).1
 
-module _ (t : List ℕ) (ok : table_ok t ≡ true) (code : List ℕ) (b : ℕ) (f : body_of t code ≡ At b) where
-  close_closed : (year : ℕ) → 2000 ≤ year → IsClosed t b year → (a : CloseAnswer) (t' : List ℕ) → ClosePromise t code year a t' → (close_code a ≡ 36) × (t' ≡ t)
+module _ (t : List ℕ) (ok : table_ok t ≡ true) (code : List ℕ) (b : ℕ) (f : body_of t code ≡ Some b) where
+  close_closed : (year : ℕ) → 2000 ≤ year → IsClosed t b year → (a : Result ℕ CloseRefusal) (t' : List ℕ) → ClosePromise t code year a t' → (close_code a ≡ 36) × (t' ≡ t)
   close_closed year lo c a t' p =
       let h : close_code a ≡ 36 = ((close_told t code year a t' p).refused ok b f 36 (λ n. omega arith)).1 (not_later c, λ n s. turn s) in
       (h, ((close_leaves t code year a t' p).refused (λ n. omega arith)).0)
@@ -161,12 +157,12 @@ module _ (t : List ℕ) (ok : table_ok t ≡ true) (code : List ℕ) (b : ℕ) (
       turn (earlier r m n) = omega arith
       turn (waiting r m i j k n) = omega arith
 
-again : (t code : List ℕ) (year : ℕ) (a : CloseAnswer) (t' : List ℕ) → ClosePromise t code year a t' → close_code a ≡ 0
-    → (y : ℕ) → 2000 ≤ y → y ≤ year → (x : CloseAnswer) (t'' : List ℕ) → ClosePromise t' code y x t'' → (close_code x ≡ 36) × (t'' ≡ t')
+again : (t code : List ℕ) (year : ℕ) (a : Result ℕ CloseRefusal) (t' : List ℕ) → ClosePromise t code year a t' → close_code a ≡ 0
+    → (y : ℕ) → 2000 ≤ y → y ≤ year → (x : Result ℕ CloseRefusal) (t'' : List ℕ) → ClosePromise t' code y x t'' → (close_code x ≡ 36) × (t'' ≡ t')
 again t code year a t' p z y lo hi x t'' q =
     let w = (close_leaves t code year a t' p).taken z in
     let k = w.2 in
-    let f : body_of t' code ≡ At w.0 = ap (λ (xs : List (List ℕ)). find_code xs 0 code) k.codes ∙ w.1 in
+    let f : body_of t' code ≡ Some w.0 = ap (λ (xs : List (List ℕ)). find_code xs 0 code) k.codes ∙ w.1 in
     close_closed t' k.valid code w.0 f y lo (omega (arith, k.closed)) x t'' q
 
 -- SALVAGE: the repaired table is valid, with the kept records and the same closed year

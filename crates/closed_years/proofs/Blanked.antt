@@ -7,7 +7,7 @@ use mathlib.Core.List.{List, [], ◌∷◌, ◌++◌, Memᴰ}
 use native.Mathlib.Omega.{arith}
 use native.Mathlib.Nat.{not-suc-le-zero}
 use lib.ListN.{length, get_or}
-use borrow.Author.Tests.{ne_eqb}
+use borrow.Author.Tests.{ne_eqb, le-ltb}
 use Rattle.ranges.specs.Ranges.{zeros}
 use Rattle.ranges.proofs.Laws.{zeros_get}
 use Rattle.record.specs.declared.Record.{Record}
@@ -15,10 +15,15 @@ use Rattle.record.specs.Slot.{slot_size, record_at}
 use Rattle.body.specs.Body.{slot_ok}
 use Rattle.entries.specs.Entry.{entry_size, closed_of, slots_of, place_of}
 use Rattle.table.specs.Table.{head_size, bodies, entry_of}
+use Rattle.packing.specs.Packing.{flag}
 use Rattle.keeping.specs.Keeping.{keeps, keeps_from, blanks, blanked_from}
-use Rattle.keeping.proofs.Laws.{flag_closed}
 use Rattle.keeping.proofs.Repaired.{keeps_length, valid_used}
 use Rattle.salvage.specs.Salvage.{keeps_of, blanked_in, blanked}
+
+-- a slot whose record is of a closed year isn't kept
+flag_closed : (closed : ℕ) (t : List ℕ) (at : ℕ) (seen : List Record) → slot_ok t at ≡ true → (record_at t at).esercizio ≤ closed → 0 ≡ flag (keeps closed t at seen)
+unfolding keeps
+flag_closed closed t at seen e l = rw (e, le-ltb closed (record_at t at).esercizio l)
 
 -- the flag of a slot whose record is of a closed year
 not_kept : (closed : ℕ) (t : List ℕ) (at n : ℕ) (seen : List Record) (i : ℕ) → i < n → slot_ok t (at + slot_size * i) ≡ true
@@ -27,7 +32,7 @@ unfolding keeps_from
 not_kept closed t at zero seen i h v c = absurd (not-suc-le-zero h)
 not_kept closed t at (suc n) seen zero h v c =
     let q : at + slot_size * 0 ≡ at = omega arith in
-    sym (flag_closed closed t at seen (sym (rw q at v)) refl refl (rw q at c))
+    sym (flag_closed closed t at seen (rw q at v) (rw q at c))
 not_kept closed t at (suc n) seen (suc i) h v c =
     let q : at + slot_size * suc i ≡ at + slot_size + slot_size * i = omega arith in
     not_kept closed t (at + slot_size) n (seen ++ cond (keeps closed t at seen) (record_at t at ∷ []) []) i (omega arith) (rw q at v) (rw q at c)

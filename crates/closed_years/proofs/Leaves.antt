@@ -1,4 +1,5 @@
 -- WHAT A CLOSE LEAVES: of its body, of the others and of every byte beside; and that this is all of it.
+use Rattle.std.specs.Prelude.{Option, Result, Some, None, Ok, Err}
 use Prim.Native.Nat.{ℕ, ◌+◌, ◌-◌, ◌*◌, ◌≤◌, ◌<◌}
 use mathlib.Core.Path.{◌≡◌, refl, sym, ap, ◌∙◌}
 use mathlib.Core.Bool.{Bool, true, false, ◌||◌}
@@ -9,8 +10,6 @@ use lib.ListN.{length, get_or}
 use lib.Dec.{eqb}
 use borrow.Author.Tests.{eqb-true, eqb-false}
 use Rattle.words.proofs.Laws.{Agree, on, at_it}
-use Rattle.ranges.specs.declared.Found.{Found}
-use Rattle.ranges.specs.declared.Found.TheVariants.{At, Nothing}
 use Rattle.record.specs.declared.Record.{Record}
 use Rattle.record.specs.Slot.{slot_size}
 use Rattle.valid.proofs.Moved.{split}
@@ -33,8 +32,8 @@ use Rattle.address.proofs.Laws.{slots}
 use Rattle.closing.specs.Closing.{keep, of_year, staying, removed}
 use Rattle.closing.proofs.Removed.{removed_rest}
 use Rattle.one_table.proofs.One.{one_table}
-use Rattle.year_end.specs.declared.CloseAnswer.{CloseAnswer}
-use Rattle.year_end.specs.declared.CloseAnswer.TheVariants.{InvalidTable, UnknownBody, NotAYear, AlreadyClosed, EarlierRemains, LineWaits, Closed}
+use Rattle.year_end.specs.declared.CloseRefusal.{CloseRefusal}
+use Rattle.year_end.specs.declared.CloseRefusal.TheVariants.{InvalidTable, UnknownBody, NotAYear, AlreadyClosed, EarlierRemains, LineWaits}
 use Rattle.year_end.specs.YearEnd.{close_of, body_closed, close_stored, close_code, close_reply}
 use Rattle.year_end.specs.Inner.{Fits}
 use Rattle.year_end.proofs.Laws.{slots_fit, May, closed_when}
@@ -49,7 +48,7 @@ or_true true e = refl
 or_true false e = e
 
 -- THE YEAR CLOSED in body b of a valid table, where nothing stands against it
-module _ (t code : List ℕ) (ok : table_ok t ≡ true) (b : ℕ) (f : body_of t code ≡ At b) (year k : ℕ)
+module _ (t code : List ℕ) (ok : table_ok t ≡ true) (b : ℕ) (f : body_of t code ≡ Some b) (year k : ℕ)
     (m : May (closed_of t (entry_of b)) year (records_of t (entry_of b)) k) where
   abbrev e : ℕ
   e = entry_of b
@@ -213,39 +212,39 @@ module _ (t code : List ℕ) (ok : table_ok t ≡ true) (b : ℕ) (f : body_of t
   }
 
 -- OF EVERY CLOSE
-abbrev stored_by : List ℕ → ℕ → ℕ → CloseAnswer → List ℕ
+abbrev stored_by : List ℕ → ℕ → ℕ → Result ℕ CloseRefusal → List ℕ
 stored_by t b year a = close_stored t (entry_of b) (place_of t (entry_of b)) (slots_of t (entry_of b)) year a
 
-not_taken : (t : List ℕ) (b year : ℕ) (a : CloseAnswer) → (close_code a ≡ 0 → ⊥) → (stored_by t b year a ≡ t) × ((close_reply a).removed ≡ 0)
-not_taken t b year (Closed k) h = absurd (h refl)
-not_taken t b year InvalidTable h = (refl, refl)
-not_taken t b year UnknownBody h = (refl, refl)
-not_taken t b year NotAYear h = (refl, refl)
-not_taken t b year AlreadyClosed h = (refl, refl)
-not_taken t b year EarlierRemains h = (refl, refl)
-not_taken t b year LineWaits h = (refl, refl)
+not_taken : (t : List ℕ) (b year : ℕ) (a : Result ℕ CloseRefusal) → (close_code a ≡ 0 → ⊥) → (stored_by t b year a ≡ t) × ((close_reply a).removed ≡ 0)
+not_taken t b year (Ok k) h = absurd (h refl)
+not_taken t b year (Err InvalidTable) h = (refl, refl)
+not_taken t b year (Err UnknownBody) h = (refl, refl)
+not_taken t b year (Err NotAYear) h = (refl, refl)
+not_taken t b year (Err AlreadyClosed) h = (refl, refl)
+not_taken t b year (Err EarlierRemains) h = (refl, refl)
+not_taken t b year (Err LineWaits) h = (refl, refl)
 
-is_taken : (t code : List ℕ) → table_ok t ≡ true → (b : ℕ) → body_of t code ≡ At b → (year : ℕ) (a : CloseAnswer)
+is_taken : (t code : List ℕ) → table_ok t ≡ true → (b : ℕ) → body_of t code ≡ Some b → (year : ℕ) (a : Result ℕ CloseRefusal)
     → close_of (closed_of t (entry_of b)) year (records_of t (entry_of b)) ≡ a → close_code a ≡ 0 → Closes t b year (close_reply a).removed (stored_by t b year a)
-is_taken t code ok b f year (Closed k) q z = closes t code ok b f year k (closed_when (closed_of t (entry_of b)) year (records_of t (entry_of b)) k q)
-is_taken t code ok b f year InvalidTable q z = absurd (omega arith)
-is_taken t code ok b f year UnknownBody q z = absurd (omega arith)
-is_taken t code ok b f year NotAYear q z = absurd (omega arith)
-is_taken t code ok b f year AlreadyClosed q z = absurd (omega arith)
-is_taken t code ok b f year EarlierRemains q z = absurd (omega arith)
-is_taken t code ok b f year LineWaits q z = absurd (omega arith)
+is_taken t code ok b f year (Ok k) q z = closes t code ok b f year k (closed_when (closed_of t (entry_of b)) year (records_of t (entry_of b)) k q)
+is_taken t code ok b f year (Err InvalidTable) q z = absurd (omega arith)
+is_taken t code ok b f year (Err UnknownBody) q z = absurd (omega arith)
+is_taken t code ok b f year (Err NotAYear) q z = absurd (omega arith)
+is_taken t code ok b f year (Err AlreadyClosed) q z = absurd (omega arith)
+is_taken t code ok b f year (Err EarlierRemains) q z = absurd (omega arith)
+is_taken t code ok b f year (Err LineWaits) q z = absurd (omega arith)
 
 pub close_leaves : CloseLeaves
 close_leaves t code year a t' w = go (table_ok t) refl (body_of t code) refl
   where
-    go : (x : Bool) → table_ok t ≡ x → (f : Found) → body_of t code ≡ f → Left t code year a t'
+    go : (x : Bool) → table_ok t ≡ x → (f : Option ℕ) → body_of t code ≡ f → Left t code year a t'
     go false o f q =
         let y = on_invalid t code year w o in
-        record { taken = λ z. absurd (omega (arith, ap close_code y.0)); refused = λ h. (y.1, ap (λ (c : CloseAnswer). (close_reply c).removed) y.0) }
-    go true o Nothing q =
+        record { taken = λ z. absurd (omega (arith, ap close_code y.0)); refused = λ h. (y.1, ap (λ (c : Result ℕ CloseRefusal). (close_reply c).removed) y.0) }
+    go true o None q =
         let y = on_unknown t code year w o q in
-        record { taken = λ z. absurd (omega (arith, ap close_code y.0)); refused = λ h. (y.1, ap (λ (c : CloseAnswer). (close_reply c).removed) y.0) }
-    go true o (At b) q =
+        record { taken = λ z. absurd (omega (arith, ap close_code y.0)); refused = λ h. (y.1, ap (λ (c : Result ℕ CloseRefusal). (close_reply c).removed) y.0) }
+    go true o (Some b) q =
         let y = on_body t code year w o b q in
         let s : t' ≡ stored_by t b year a = y.1 ∙ ap (stored_by t b year) (sym y.0) in
         record {

@@ -1,4 +1,5 @@
 -- A CLOSE IS REFUSED as document 02 says: exactly when a listed refusal applies, and with the code of the first in turn.
+use Rattle.std.specs.Prelude.{Option, Result, Some, None as Nothing, Ok, Err}
 use Prim.Native.Nat.{ℕ, ◌≤◌, ◌<◌}
 use mathlib.Core.Path.{◌≡◌, refl, sym, ap, ◌∙◌, subst}
 use mathlib.Core.Bool.{Bool, true, false, cond}
@@ -10,15 +11,13 @@ use borrow.Author.Tests.{le-leb, leb-true, leb-false, eqb-true, eqb-false}
 use Rattle.journal.specs.Told.{Exactly}
 use Rattle.scan.proofs.Laws.{both}
 use Rattle.bounds.specs.Bounds.{is_year}
-use Rattle.ranges.specs.declared.Found.{Found}
-use Rattle.ranges.specs.declared.Found.TheVariants.{At, Nothing}
 use Rattle.record.specs.declared.Record.{Record}
 use Rattle.packing.proofs.Packed.{clash}
 use Rattle.entries.specs.Entry.{closed_of}
 use Rattle.table.specs.Table.{table_ok, records_of, body_of, entry_of}
 use Rattle.closing.specs.Closing.{earlier_remains, line_waits, removed}
-use Rattle.year_end.specs.declared.CloseAnswer.{CloseAnswer}
-use Rattle.year_end.specs.declared.CloseAnswer.TheVariants.{NotAYear, AlreadyClosed, EarlierRemains, LineWaits, Closed}
+use Rattle.year_end.specs.declared.CloseRefusal.{CloseRefusal}
+use Rattle.year_end.specs.declared.CloseRefusal.TheVariants.{NotAYear, AlreadyClosed, EarlierRemains, LineWaits}
 use Rattle.year_end.specs.YearEnd.{close_of, ClosePromise, close_code}
 use Rattle.closed_years.specs.Told.{CloseApplies, no_year, not_later, earlier, waiting, close_turn, None, FirstOf, CloseTold, OneCode}
 use Rattle.closed_years.proofs.Records.{earlier_is, is_earlier, line_is, is_line}
@@ -51,7 +50,7 @@ module _ (last year : ℕ) (rs : List Record) where
   over (earlier r m h) = omega arith
   over (waiting r m p q k h) = omega arith
 
-  abbrev Says : CloseAnswer → Type 0
+  abbrev Says : Result ℕ CloseRefusal → Type 0
   Says a = ((close_code a ≡ 0) × None A) ⊎ FirstOf A (close_code a)
 
   -- what a refusal that applies comes to, where those of earlier turns don't
@@ -93,7 +92,7 @@ module _ (last year : ℕ) (rs : List Record) where
   says = go (is_year year) (leb year last) (earlier_remains year rs) (line_waits year rs) refl refl refl refl
     where
       go : (w x y z : Bool) → is_year year ≡ w → leb year last ≡ x → earlier_remains year rs ≡ y → line_waits year rs ≡ z
-          → Says (cond w (cond x AlreadyClosed (cond y EarlierRemains (cond z LineWaits (Closed (removed year rs))))) NotAYear)
+          → Says (cond w (cond x (Err AlreadyClosed) (cond y (Err EarlierRemains) (cond z (Err LineWaits) (Ok (removed year rs))))) (Err NotAYear))
       go false x y z e f g h = inr (no_year (λ q. clash (sym e ∙ is_year_lem year q)), λ c a. past_none a)
       go true true y z e f g h = inr (not_later (leb-true year last f), λ c a. past_year e a)
       go true false true z e f g h = let r = earlier_is year rs g in inr (earlier r.0 r.1 r.2, λ c a. past_last e f a)
@@ -103,7 +102,7 @@ module _ (last year : ℕ) (rs : List Record) where
       go true false false false e f g h = inl (refl, λ c a. past_all e f g h a)
 
   -- of an answer that says so
-  module _ (a : CloseAnswer) (s : Says a) where
+  module _ (a : Result ℕ CloseRefusal) (s : Says a) where
     pub says_closed : Exactly (close_code a ≡ 0) (None A)
     says_closed = (λ z. to s z, λ n. from s n)
       where
@@ -136,29 +135,29 @@ module _ (last year : ℕ) (rs : List Record) where
         go (inr x) = absurd (omega (arith, over x.0))
 
 -- A TABLE
-module _ (t code : List ℕ) (year : ℕ) (a : CloseAnswer) (t' : List ℕ) (p : ClosePromise t code year a t') where
-  says_at : table_ok t ≡ true → (b : ℕ) → body_of t code ≡ At b → Says (closed_of t (entry_of b)) year (records_of t (entry_of b)) a
+module _ (t code : List ℕ) (year : ℕ) (a : Result ℕ CloseRefusal) (t' : List ℕ) (p : ClosePromise t code year a t') where
+  says_at : table_ok t ≡ true → (b : ℕ) → body_of t code ≡ Some b → Says (closed_of t (entry_of b)) year (records_of t (entry_of b)) a
   says_at ok b f =
       subst (Says (closed_of t (entry_of b)) year (records_of t (entry_of b))) (sym (on_body t code year p ok b f).0) (says (closed_of t (entry_of b)) year (records_of t (entry_of b)))
 
-  at_low : table_ok t ≡ true → (b : ℕ) → body_of t code ≡ At b → close_code a < 36 → close_code a ≡ 0
+  at_low : table_ok t ≡ true → (b : ℕ) → body_of t code ≡ Some b → close_code a < 36 → close_code a ≡ 0
   at_low ok b f = says_low (closed_of t (entry_of b)) year (records_of t (entry_of b)) a (says_at ok b f)
 
   to_invalid : close_code a ≡ 1 → table_ok t ≡ false
   to_invalid e = go (table_ok t) refl (body_of t code) refl
     where
-      go : (x : Bool) → table_ok t ≡ x → (f : Found) → body_of t code ≡ f → table_ok t ≡ false
+      go : (x : Bool) → table_ok t ≡ x → (f : Option ℕ) → body_of t code ≡ f → table_ok t ≡ false
       go false o f q = o
       go true o Nothing q = absurd (omega (arith, ap close_code (on_unknown t code year p o q).0))
-      go true o (At b) q = absurd (omega (arith, at_low o b q (omega arith)))
+      go true o (Some b) q = absurd (omega (arith, at_low o b q (omega arith)))
 
   to_unknown : close_code a ≡ 7 → (table_ok t ≡ true) × (body_of t code ≡ Nothing)
   to_unknown e = go (table_ok t) refl (body_of t code) refl
     where
-      go : (x : Bool) → table_ok t ≡ x → (f : Found) → body_of t code ≡ f → (table_ok t ≡ true) × (body_of t code ≡ Nothing)
+      go : (x : Bool) → table_ok t ≡ x → (f : Option ℕ) → body_of t code ≡ f → (table_ok t ≡ true) × (body_of t code ≡ Nothing)
       go false o f q = absurd (omega (arith, ap close_code (on_invalid t code year p o).0))
       go true o Nothing q = (o, q)
-      go true o (At b) q = absurd (omega (arith, at_low o b q (omega arith)))
+      go true o (Some b) q = absurd (omega (arith, at_low o b q (omega arith)))
 
 pub close_told : CloseTold
 close_told t code year a t' p = record {
@@ -172,10 +171,10 @@ close_told t code year a t' p = record {
 pub one_code : OneCode
 one_code t code year a x p q = go (table_ok t) refl (body_of t code) refl
   where
-    go : (y : Bool) → table_ok t ≡ y → (f : Found) → body_of t code ≡ f → close_code a ≡ close_code x
+    go : (y : Bool) → table_ok t ≡ y → (f : Option ℕ) → body_of t code ≡ f → close_code a ≡ close_code x
     go false o f w = p.invalid.1 o ∙ sym (q.invalid.1 o)
     go true o Nothing w = p.unknown.1 (o, w) ∙ sym (q.unknown.1 (o, w))
-    go true o (At b) w = at (eqb (close_code a) 0) refl
+    go true o (Some b) w = at (eqb (close_code a) 0) refl
       where
         at : (y : Bool) → eqb (close_code a) 0 ≡ y → close_code a ≡ close_code x
         at true e = let z = eqb-true (close_code a) 0 e in z ∙ sym ((q.closed o b w).1 ((p.closed o b w).0 z))

@@ -1,15 +1,14 @@
 -- WHAT A CLOSE LEAVES (document 02, Req 14): "A body's call closes an esercizio: its records are removed, the rest move up, and the freed slots are used by later
 -- orders. Entry bytes 40-41 hold the year". Proved: `close-leaves : CloseLeaves`, and that this leaves no byte open, `one-close : OneClose`.
-use Rattle.std.specs.Prelude.{ℕ, ◌+◌, ◌*◌, ◌≤◌, ◌<◌, ◌≡◌, true, List, [], ◌∷◌, length, get_or}
+use Rattle.std.specs.Prelude.{ℕ, ◌+◌, ◌*◌, ◌≤◌, ◌<◌, ◌≡◌, true, List, [], ◌∷◌, length, get_or, Result, Some}
 use Rattle.ranges.specs.Ranges.{zeros}
-use Rattle.ranges.specs.declared.Found.TheVariants.{At}
 use Rattle.record.specs.declared.Record.{Record}
 use Rattle.record.specs.Slot.{slot_size, mandato_kind, reversale_kind}
 use Rattle.body.specs.Body.{cents_of}
 use Rattle.entries.specs.Entry.{entry_fixed, entry_rest, kept, closed_of, slots_of, place_of}
 use Rattle.table.specs.Table.{bodies, abi_of, codes_of, records_of, table_ok, body_of, entry_of}
 use Rattle.one_table.specs.One.{are_bytes}
-use Rattle.year_end.specs.declared.CloseAnswer.{CloseAnswer}
+use Rattle.year_end.specs.declared.CloseRefusal.{CloseRefusal}
 use Rattle.year_end.specs.YearEnd.{ClosePromise, close_code, close_reply}
 
 -- RECORDS PARTED by a year, whatever their state: those of the year, and the rest, both in the order that they had
@@ -56,12 +55,12 @@ pub record Closes (t : List ℕ) (b year k : ℕ) (t' : List ℕ) : Type 0 where
   pub beside : (i : ℕ) → Beside t b i → get_or t' i 0 ≡ get_or t i 0
 
 -- of every close: a code 0 is for a body with that code; "a refusal removes 0 and changes nothing"
-pub record Left (t code : List ℕ) (year : ℕ) (a : CloseAnswer) (t' : List ℕ) : Type 0 where
-  pub taken : close_code a ≡ 0 → (b : ℕ) × (body_of t code ≡ At b) × Closes t b year (close_reply a).removed t'
+pub record Left (t code : List ℕ) (year : ℕ) (a : Result ℕ CloseRefusal) (t' : List ℕ) : Type 0 where
+  pub taken : close_code a ≡ 0 → (b : ℕ) × (body_of t code ≡ Some b) × Closes t b year (close_reply a).removed t'
   pub refused : (close_code a ≡ 0 → ⊥) → (t' ≡ t) × ((close_reply a).removed ≡ 0)
 
 abbrev pub CloseLeaves : Type 0
-CloseLeaves = (t code : List ℕ) (year : ℕ) (a : CloseAnswer) (t' : List ℕ) → ClosePromise t code year a t' → Left t code year a t'
+CloseLeaves = (t code : List ℕ) (year : ℕ) (a : Result ℕ CloseRefusal) (t' : List ℕ) → ClosePromise t code year a t' → Left t code year a t'
 
 -- two buffers of bytes of which all that holds, with the numbers removed, are one, byte by byte
 abbrev pub OneClose : Type 0

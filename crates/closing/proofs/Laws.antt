@@ -5,17 +5,18 @@ use mathlib.Core.List.{List, [], ◌∷◌, ◌++◌}
 use mathlib.Core.Path.{◌≡◌, refl, sym, ap, ◌∙◌}
 use native.Mathlib.Omega.{arith}
 use native.Mathlib.Numerals.{add-one}
-use lib.ListN.{length, get_or, take, drop, set, drop_of_length-le}
-use lib.Seq.{take-suc-set, take_all, drop-cons}
-use borrow.Author.Tests.{eq-eqb, ne_eqb, lt-ltb, le-ltb}
+use lib.ListN.{length, take, set}
+use lib.Seq.{take-suc-set, take_all}
+use borrow.Author.Tests.{lt-ltb, le-ltb}
 use Rattle.packing.specs.Packing.{flag}
+use lib.Dec.{eqb}
+use Rattle.std.specs.List.{list_any}
 use Rattle.words.specs.Numbers.{be2}
 use Rattle.record.specs.declared.Record.{Record}
-use Rattle.record.specs.Slot.{slot_size, states_offset, eight_at, record_at}
-use Rattle.record.proofs.Back.{eight_at_lem}
+use Rattle.record.specs.Slot.{slot_size, record_at}
 use Rattle.slots.specs.Slots.{slots_at}
 use Rattle.slots.proofs.Index.{slots_snoc}
-use Rattle.closing.specs.Closing.{any, of_earlier, any_waiting, waits, stays, flags_by, stays_at}
+use Rattle.closing.specs.Closing.{any, of_earlier, any_waiting, stays, flags_by, stays_at}
 
 -- A WALK over a body's records for one that passes a test
 
@@ -43,53 +44,13 @@ module _ (t : List ℕ) (at year : ℕ) {y : ℕ} (q : y ≡ be2 t (at + 4)) whe
   unfolding record_at
   year_later h = rw q at (le-ltb y year (omega arith))
 
--- its waiting lines
-
-module _ (t : List ℕ) (at k : ℕ) (h : k < 8) where
-  here : drop k (eight_at t at) ≡ get_or t (at + k) 0 ∷ drop (k + 1) (eight_at t at)
-  here = drop-cons (eight_at t at) k 0 h ∙ (λ i. eight_at_lem t at k h i ∷ drop (sym (add-one k) i) (eight_at t at))
-
-  pub waits_here : get_or t (at + k) 0 ≡ 1 → any_waiting (drop k (eight_at t at)) ≡ true
-  unfolding any_waiting
-  waits_here e = rw (here, eq-eqb (get_or t (at + k) 0) 1 e)
-
-  pub waits_later : (get_or t (at + k) 0 ≡ 1 → ⊥) → any_waiting (drop k (eight_at t at)) ≡ any_waiting (drop (k + 1) (eight_at t at))
-  unfolding any_waiting
-  waits_later e = rw (here, ne_eqb (get_or t (at + k) 0) 1 e)
-
-pub waits_none : (t : List ℕ) (at k : ℕ) → 8 ≤ k → any_waiting (drop k (eight_at t at)) ≡ false
+-- its waiting lines: std's test of a list, and the specification's
+pub waiting_is : (s : List ℕ) → list_any (λ x. eqb x 1) s ≡ any_waiting s
 unfolding any_waiting
-waits_none t at k h = rw (drop_of_length-le (eight_at t at) h)
-
-module _ (t : List ℕ) (at year : ℕ) {y : ℕ} (q : y ≡ be2 t (at + 4)) where
-  pub not_of_year : (y ≡ year → ⊥) → false ≡ waits year (record_at t at)
-  unfolding waits record_at
-  not_of_year n = rw (ne_eqb (be2 t (at + 4)) year (λ z. n (q ∙ z)))
-
-  module _ (e : y ≡ year) where
-    pub not_acquired : (get_or t (at + 1) 0 ≡ 1 → ⊥) → false ≡ waits year (record_at t at)
-    unfolding waits record_at
-    not_acquired n = rw (eq-eqb (be2 t (at + 4)) year (sym q ∙ e), ne_eqb (get_or t (at + 1) 0) 1 n)
-
-    pub by_lines : get_or t (at + 1) 0 ≡ 1 → any_waiting (eight_at t (at + states_offset)) ≡ waits year (record_at t at)
-    unfolding waits record_at
-    by_lines a = rw (eq-eqb (be2 t (at + 4)) year (sym q ∙ e), eq-eqb (get_or t (at + 1) 0) 1 a)
+waiting_is [] = refl
+waiting_is (x ∷ s) = rw (waiting_is s)
 
 -- THE FLAGS
-
-module _ (t : List ℕ) (at year : ℕ) where
-  pub flag_empty : get_or t at 0 ≡ 0 → 0 ≡ flag (stays year (record_at t at))
-  unfolding stays record_at
-  flag_empty e = rw (eq-eqb (get_or t at 0) 0 e)
-
-  module _ (u : get_or t at 0 ≡ 0 → ⊥) {y : ℕ} (q : y ≡ be2 t (at + 4)) where
-    pub flag_year : y ≡ year → 0 ≡ flag (stays year (record_at t at))
-    unfolding stays record_at
-    flag_year e = rw (ne_eqb (get_or t at 0) 0 u, eq-eqb (be2 t (at + 4)) year (sym q ∙ e))
-
-    pub flag_stays : (y ≡ year → ⊥) → 1 ≡ flag (stays year (record_at t at))
-    unfolding stays record_at
-    flag_stays e = rw (ne_eqb (get_or t at 0) 0 u, ne_eqb (be2 t (at + 4)) year (λ z. e (q ∙ z)))
 
 flags_append : (p : Record → Bool) (xs ys : List Record) → flags_by p (xs ++ ys) ≡ flags_by p xs ++ flags_by p ys
 unfolding flags_by

@@ -19,17 +19,14 @@ pub fn earlier_remains(t: &[u8], base: usize, n: usize, year: u64) -> bool
     requires { base + slot_size * n ≤ length t.now }
     ensures { result ≡ earlier_remains year (records_at t.now base n) }
 {
-    let mut at = base;
-    let mut left = n;
-    while 0 < left {
+    for i in 0..n {
+        let at = base + record::SLOT * i;
         if t[at] == 0 {
             return false;
         }
         if words::read2(t, at + YEAR) < year {
             return true;
         }
-        at += record::SLOT;
-        left -= 1;
     }
     false
 }
@@ -39,28 +36,18 @@ fn any_waiting(t: &[u8], at: usize) -> bool
     requires { at + 8 ≤ length t.now }
     ensures { result ≡ any_waiting (eight_at t.now at) }
 {
-    let mut k = 0;
-    while k < 8 {
-        if t[at + k] == record::WAITING {
-            return true;
-        }
-        k += 1;
-    }
-    false
+    t[at..at + 8].contains(&record::WAITING)
 }
 
 // Whether the record in the slot at a place is an acquired order of the year with a waiting line.
+#[tactic(auto, unfolding(crate::specs::Closing::waits, record::specs::Slot::record_at))]
 fn waits_at(t: &[u8], at: usize, year: u64) -> bool
     requires { at + slot_size ≤ length t.now }
     ensures { result ≡ waits year (record_at t.now at) }
 {
-    if words::read2(t, at + YEAR) != year {
-        return false;
-    }
-    if t[at + STATE] != record::ACQUIRED {
-        return false;
-    }
-    any_waiting(t, at + record::STATES)
+    words::read2(t, at + YEAR) == year
+        && t[at + STATE] == record::ACQUIRED
+        && any_waiting(t, at + record::STATES)
 }
 
 // Whether an acquired order of the year has a waiting line.
@@ -68,33 +55,25 @@ pub fn line_waits(t: &[u8], base: usize, n: usize, year: u64) -> bool
     requires { base + slot_size * n ≤ length t.now }
     ensures { result ≡ line_waits year (records_at t.now base n) }
 {
-    let mut at = base;
-    let mut left = n;
-    while 0 < left {
+    for i in 0..n {
+        let at = base + record::SLOT * i;
         if t[at] == 0 {
             return false;
         }
         if waits_at(t, at, year) {
             return true;
         }
-        at += record::SLOT;
-        left -= 1;
     }
     false
 }
 
 // The flag of the slot at a place: 1 where it stays.
+#[tactic(auto, unfolding(crate::specs::Closing::stays, record::specs::Slot::record_at))]
 fn flag_of(t: &[u8], at: usize, year: u64) -> u8
     requires { at + slot_size ≤ length t.now }
     ensures { result ≡ flag (stays year (record_at t.now at)) }
 {
-    if t[at] == 0 {
-        return 0;
-    }
-    if words::read2(t, at + YEAR) == year {
-        return 0;
-    }
-    1
+    u8::from(t[at] != 0 && words::read2(t, at + YEAR) != year)
 }
 
 // The flags of a body's slots, as many as there is room for flags.
@@ -102,23 +81,9 @@ fn flags_of(t: &[u8], base: usize, year: u64, flags: &mut [u8])
     requires { base + slot_size * length flags.old ≤ length t.now }
     ensures { flags.new ≡ stays_at t.now base (length flags.old) year }
 {
-    let mut i = 0;
-    while i < flags.len() {
+    for i in 0..flags.len() {
         flags[i] = flag_of(t, base + record::SLOT * i, year);
-        i += 1;
     }
-}
-
-// Removes a year's records from a body that is valid, by flags that the caller lends; how many they were.
-fn remove_by(t: &mut [u8], base: usize, year: u64, flags: &mut [u8]) -> usize
-    requires { (base + slot_size * length flags.old ≤ length t.old) × (body_ok t.old base (length flags.old) ≡ true) }
-    ensures { (result ≡ removed year (records_at t.old base (length flags.old)))
-        × (t.new ≡ year_removed t.old base (length flags.old) year) }
-{
-    let used = slots::used_slots(t, base, flags.len());
-    flags_of(t, base, year, flags);
-    let stay = packing::pack(t, base, flags);
-    used - stay
 }
 
 // Removes a year's records from a valid body of n slots; how many they were.
@@ -126,6 +91,9 @@ pub fn remove_year(t: &mut [u8], base: usize, n: usize, year: u64) -> usize
     requires { (base + slot_size * n ≤ length t.old) × (n ≤ max_slots) × (body_ok t.old base n ≡ true) }
     ensures { (result ≡ removed year (records_at t.old base n)) × (t.new ≡ year_removed t.old base n year) }
 {
-    let mut flags = [0u8; 512];
-    remove_by(t, base, year, &mut flags[0..n])
+    let mut room = [0u8; 512];
+    let flags = &mut room[..n];
+    let used = slots::used_slots(t, base, n);
+    flags_of(t, base, year, flags);
+    used - packing::pack(t, base, flags)
 }

@@ -2,8 +2,9 @@
 // a number.
 #![tactic(auto)]
 
-ghost use Rattle.std.specs.Prelude.{◌≡◌};
-ghost use Rattle.codes.specs.Codes.{codice_abi, identificativo, codice_ente, tipo_operazione, is_asked, operation_number, length_in, accepted_word, refused_word, refused_by, esito_by, esito_operazione, is_word};
+ghost use Rattle.std.specs.Prelude.{◌≡◌, map};
+ghost use Rattle.codes.specs.Inner.{operation_by};
+ghost use Rattle.codes.specs.Codes.{codice_abi, identificativo, codice_ente, tipo_operazione, is_asked, operation_number, length_in, accepted_word, refused_word, esito_operazione, is_word};
 
 use ranges::Class;
 
@@ -15,18 +16,11 @@ pub enum Operation {
     Sostituzione,
 }
 
-#[derive(Clone, Copy)]
-pub enum Asked {
-    Operazione(Operation),
-    NoOperation,
-}
-
 // The outcome of an operation, as an outcome message says it.
 #[derive(Clone, Copy)]
 pub enum Esito {
     Accepted(Operation),
     Refused(Operation),
-    NoEsito,
 }
 
 // An operation's number in the outcome bytes.
@@ -42,144 +36,108 @@ pub fn operation_number(o: Operation) -> u8
 }
 
 // codice_ABI_BT
+#[tactic(auto, using(crate::proofs::Laws::all_whole), unfolding(crate::specs::Codes::codice_abi))]
 pub fn codice_abi(t: &[u8]) -> bool
     ensures { result ≡ codice_abi t.now }
 {
-    if t.len() != bounds::ABI {
-        return false;
-    }
-    ranges::are_of(t, 0, t.len(), Class::Digits)
+    t.len() == bounds::ABI && ranges::are_of(t, 0, t.len(), Class::Digits)
 }
 
 // identificativo_flusso
+#[tactic(auto, using(crate::proofs::Laws::all_whole), unfolding(crate::specs::Codes::identificativo))]
 pub fn identificativo_flusso(t: &[u8]) -> bool
     ensures { result ≡ identificativo t.now }
 {
-    if t.len() < 1 {
-        return false;
-    }
-    if 35 < t.len() {
-        return false;
-    }
-    ranges::are_of(t, 0, t.len(), Class::Identifying)
+    matches!(t.len(), 1..=35) && ranges::are_of(t, 0, t.len(), Class::Identifying)
 }
 
 // codice_ente_BT
+#[tactic(auto, using(crate::proofs::Laws::all_whole), unfolding(crate::specs::Codes::codice_ente))]
 pub fn codice_ente(t: &[u8]) -> bool
     ensures { result ≡ codice_ente t.now }
 {
-    if t.len() < 1 {
-        return false;
-    }
-    if bounds::MAX_CODE < t.len() {
-        return false;
-    }
-    ranges::are_of(t, 0, t.len(), Class::Alphanumeric)
+    matches!(t.len(), 1..=bounds::MAX_CODE) && ranges::are_of(t, 0, t.len(), Class::Alphanumeric)
 }
 
-pub fn tipo_operazione(t: &[u8]) -> Asked
+// The operation whose word t is, of the words for INSERIMENTO, VARIAZIONE, ANNULLO and SOSTITUZIONE. It is inlined so that each comparison is with a
+// constant: each order is read through it.
+#[inline(always)]
+#[tactic(auto, unfolding(crate::specs::Inner::operation_by))]
+fn operation_of(t: &[u8], words: &[&[u8]; 4]) -> Option<Operation>
+    ensures { result ≡ operation_by (map (λ w. w.now) words.now) t.now }
+{
+    let [inserimento, variazione, annullo, sostituzione] = *words;
+    if scan::same(t, inserimento) {
+        Some(Operation::Inserimento)
+    } else if scan::same(t, variazione) {
+        Some(Operation::Variazione)
+    } else if scan::same(t, annullo) {
+        Some(Operation::Annullo)
+    } else if scan::same(t, sostituzione) {
+        Some(Operation::Sostituzione)
+    } else {
+        None
+    }
+}
+
+#[tactic(auto, unfolding(crate::specs::Inner::operation_by, crate::specs::Codes::tipo_operazione))]
+pub fn tipo_operazione(t: &[u8]) -> Option<Operation>
     ensures { result ≡ tipo_operazione t.now }
 {
-    if scan::same(t, b"INSERIMENTO") {
-        return Asked::Operazione(Operation::Inserimento);
-    }
-    if scan::same(t, b"VARIAZIONE") {
-        return Asked::Operazione(Operation::Variazione);
-    }
-    if scan::same(t, b"ANNULLO") {
-        return Asked::Operazione(Operation::Annullo);
-    }
-    if scan::same(t, b"SOSTITUZIONE") {
-        return Asked::Operazione(Operation::Sostituzione);
-    }
-    Asked::NoOperation
+    operation_of(
+        t,
+        &[b"INSERIMENTO", b"VARIAZIONE", b"ANNULLO", b"SOSTITUZIONE"],
+    )
 }
 
-pub fn is_asked(a: Asked) -> bool
+pub fn is_asked(a: Option<Operation>) -> bool
     ensures { result ≡ is_asked a }
 {
-    match a {
-        Asked::Operazione(_) => true,
-        Asked::NoOperation => false,
-    }
+    a.is_some()
 }
+
 // A text of lo to hi bytes.
+#[tactic(auto, unfolding(crate::specs::Codes::length_in))]
 pub fn sized_text(t: &[u8], lo: usize, hi: usize) -> bool
     ensures { result ≡ length_in lo hi t.now }
 {
-    if t.len() < lo {
-        return false;
-    }
-    t.len() <= hi
+    (lo..=hi).contains(&t.len())
 }
 
-fn accepted_word(t: &[u8]) -> Asked
+#[tactic(auto, unfolding(crate::specs::Inner::operation_by, crate::specs::Codes::accepted_word))]
+fn accepted_word(t: &[u8]) -> Option<Operation>
     ensures { result ≡ accepted_word t.now }
 {
-    if scan::same(t, b"ACQUISITO") {
-        return Asked::Operazione(Operation::Inserimento);
-    }
-    if scan::same(t, b"VARIATO") {
-        return Asked::Operazione(Operation::Variazione);
-    }
-    if scan::same(t, b"ANNULLATO") {
-        return Asked::Operazione(Operation::Annullo);
-    }
-    if scan::same(t, b"SOSTITUITO") {
-        return Asked::Operazione(Operation::Sostituzione);
-    }
-    Asked::NoOperation
+    operation_of(t, &[b"ACQUISITO", b"VARIATO", b"ANNULLATO", b"SOSTITUITO"])
 }
 
-fn refused_word(t: &[u8]) -> Asked
+#[tactic(auto, unfolding(crate::specs::Inner::operation_by, crate::specs::Codes::refused_word))]
+fn refused_word(t: &[u8]) -> Option<Operation>
     ensures { result ≡ refused_word t.now }
 {
-    if scan::same(t, b"NON ACQUISITO") {
-        return Asked::Operazione(Operation::Inserimento);
-    }
-    if scan::same(t, b"NON VARIATO") {
-        return Asked::Operazione(Operation::Variazione);
-    }
-    if scan::same(t, b"NON ANNULLATO") {
-        return Asked::Operazione(Operation::Annullo);
-    }
-    if scan::same(t, b"NON SOSTITUITO") {
-        return Asked::Operazione(Operation::Sostituzione);
-    }
-    Asked::NoOperation
-}
-
-fn refused_esito(refused: Asked) -> Esito
-    ensures { result ≡ refused_by refused }
-{
-    match refused {
-        Asked::Operazione(o) => Esito::Refused(o),
-        Asked::NoOperation => Esito::NoEsito,
-    }
-}
-
-fn esito_of(accepted: Asked, others: Esito) -> Esito
-    ensures { result ≡ esito_by accepted others }
-{
-    match accepted {
-        Asked::Operazione(o) => Esito::Accepted(o),
-        Asked::NoOperation => others,
-    }
+    operation_of(
+        t,
+        &[
+            b"NON ACQUISITO",
+            b"NON VARIATO",
+            b"NON ANNULLATO",
+            b"NON SOSTITUITO",
+        ],
+    )
 }
 
 // esito_operazione
-pub fn esito_operazione(t: &[u8]) -> Esito
+#[tactic(auto, unfolding(crate::specs::Codes::esito_operazione))]
+pub fn esito_operazione(t: &[u8]) -> Option<Esito>
     ensures { result ≡ esito_operazione t.now }
 {
-    esito_of(accepted_word(t), refused_esito(refused_word(t)))
+    accepted_word(t)
+        .map(Esito::Accepted)
+        .or_else(|| refused_word(t).map(Esito::Refused))
 }
 
-pub fn is_word(e: Esito) -> bool
+pub fn is_word(e: Option<Esito>) -> bool
     ensures { result ≡ is_word e }
 {
-    match e {
-        Esito::Accepted(_) => true,
-        Esito::Refused(_) => true,
-        Esito::NoEsito => false,
-    }
+    e.is_some()
 }

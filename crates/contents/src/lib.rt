@@ -17,8 +17,7 @@ pub fn put_head(t: &mut [u8], n: usize, len: usize, abi: &[u8])
     words::write2(t, 2, 2);
     words::write4(t, 4, len as u64);
     words::copy_in(t, table::ABI, abi);
-    let rest = [0u8; 3];
-    words::copy_in(t, table::REST, &rest);
+    words::copy_in(t, table::REST, &[0; 3]);
 }
 
 // Writes the entry at a place: its bytes 0 to 19, the place of the first slot, the cents paid and collected, no closed year, and zeros.
@@ -29,6 +28,5 @@ pub fn put_entry(t: &mut [u8], to: usize, form: &[u8], p: usize, paid: u64, coll
     words::copy_in(t, to, form);
     words::write4(t, to + entries::REQUEST, p as u64);
     entries::settle(t, to, paid, collected);
-    let rest = [0u8; 8];
-    words::copy_in(t, to + entries::CLOSED, &rest);
+    words::copy_in(t, to + entries::CLOSED, &[0; 8]);
 }

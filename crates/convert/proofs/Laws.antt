@@ -1,5 +1,8 @@
 -- Laws of the bytes that conversion writes, and of its answer.
-use mathlib.Core.Path.{◌≡◌, refl, ap, ◌∙◌, subst}
+use Rattle.std.proofs.lemmas.Option.{some_pair_parts}
+use Rattle.std.specs.Prelude.{Option, Some, None, Ok, Err}
+use Rattle.std.specs.Option.{unwrap_or}
+use mathlib.Core.Path.{◌≡◌, refl, sym, ap, ◌∙◌, subst}
 use mathlib.Core.List.{List, [], ◌++◌, append-nil}
 use mathlib.Core.Bool.{Bool, true, false}
 use Prim.Native.Nat.{ℕ, zero, suc, ◌+◌, ◌-◌, ◌*◌, ◌≤◌, ◌<◌}
@@ -14,7 +17,6 @@ use Rattle.record.specs.Slot.{slot_size}
 use Rattle.slots.specs.Slots.{records_at}
 use Rattle.body.specs.Body.{body_ok}
 use Rattle.body.specs.Inner.{summed}
-use Rattle.body.specs.declared.Sums.TheVariants.{Broken, Right}
 use Rattle.entries.specs.Entry.{entry_size, request_size, slots_of, place_of, slots_from}
 use Rattle.entries.proofs.Laws.{put_next}
 use Rattle.table.specs.declared.Layout.{Layout}
@@ -23,18 +25,24 @@ use Rattle.table.proofs.Laws.{known_1, lay_split, head, table}
 use Rattle.table.proofs.Bodies.{body_of_lem}
 use Rattle.contents.specs.Contents.{head_bytes, entry_bytes, entries_bytes}
 use Rattle.contents.proofs.Laws.{length_part, length_head, length_entries}
-use Rattle.convert.specs.declared.Converted.TheVariants.{Converts, InvalidTable, WrongLength}
+use Rattle.convert.specs.declared.ConvertRefusal.TheVariants.{InvalidTable, WrongLength}
 use Rattle.convert.specs.Convert.{grown_length, cents_at, converted, convert_of}
 
 -- THE TOTALS of a valid body, as its judge tells them
 module _ (o : List ℕ) (at : ℕ) {p n : ℕ} (e : p ≡ place_of o at) (f : n ≡ slots_of o at) (ok : body_ok o (place_of o at) (slots_of o at) ≡ true) where
-  its : summed (body_ok o p n) (records_at o p n) ≡ Right (cents_at o 1 at) (cents_at o 2 at)
+  its : summed (body_ok o p n) (records_at o p n) ≡ Some ((cents_at o 1 at), (cents_at o 2 at))
   its = (λ i. summed (body_ok o (e i) (f i)) (records_at o (e i) (f i))) ∙ ap (λ (b : Bool). summed b (records_of o at)) ok
 
-  pub totals_right : {a b : ℕ} → summed (body_ok o p n) (records_at o p n) ≡ Right a b → (a ≡ cents_at o 1 at) × (b ≡ cents_at o 2 at)
-  totals_right g = let h = its in (cc, cc)
+  pub totals_right : {a b : ℕ} → summed (body_ok o p n) (records_at o p n) ≡ Some (a, b) → (a ≡ cents_at o 1 at) × (b ≡ cents_at o 2 at)
+  totals_right {a} {b} g = some_pair_parts a (cents_at o 1 at) b (cents_at o 2 at) (sym g ∙ its)
 
-  pub totals_broken : summed (body_ok o p n) (records_at o p n) ≡ Broken → ⊥
+  pub totals_told : {x : Option (ℕ × ℕ)} {r : ℕ × ℕ} → x ≡ summed (body_ok o p n) (records_at o p n) → r ≡ unwrap_or x (0, 0)
+      → (r.0 ≡ cents_at o 1 at) × (r.1 ≡ cents_at o 2 at)
+  totals_told g h =
+      let q = h ∙ ap (λ (s : Option (ℕ × ℕ)). unwrap_or s (0, 0)) (g ∙ its) in
+      (ap (λ (w : ℕ × ℕ). w.0) q, ap (λ (w : ℕ × ℕ). w.1) q)
+
+  pub totals_broken : summed (body_ok o p n) (records_at o p n) ≡ None → ⊥
   totals_broken g = let h = its in let z : ◌≡◌ {A = ℕ} 0 1 = cc in omega arith
 
 -- THE LAYOUT of a valid table: its slots end it
@@ -137,15 +145,15 @@ put_same t to o at p e f i = put t to (entry_bytes (part o at (at + request_size
 
 -- THE ANSWER
 module _ (o : List ℕ) (n : ℕ) where
-  pub convert_not : valid_as table1 o ≡ false → InvalidTable ≡ convert_of o n
+  pub convert_not : valid_as table1 o ≡ false → Err InvalidTable ≡ convert_of o n
   unfolding convert_of
   convert_not h = rw h
 
   module _ (g : valid_as table1 o ≡ true) {m : ℕ} (e : m ≡ bodies o) where
-    pub convert_other : (n ≡ length o + 16 * m → ⊥) → WrongLength ≡ convert_of o n
+    pub convert_other : (n ≡ length o + 16 * m → ⊥) → Err WrongLength ≡ convert_of o n
     unfolding convert_of
     convert_other h = rw (g, ← e, ne_eqb n (length o + 16 * m) h)
 
-    pub convert_done : n ≡ length o + 16 * m → Converts ≡ convert_of o n
+    pub convert_done : n ≡ length o + 16 * m → Ok tt ≡ convert_of o n
     unfolding convert_of
     convert_done h = rw (g, ← e, eq-eqb n (length o + 16 * m) h)

@@ -1,13 +1,13 @@
 -- Conversion (document 02, Req 04): "A conversion from table 1 is wanted; it gives the same totals and answers. .. Refusals: conversion answers 1, then 10,
 -- and then leaves both buffers untouched." A table 1 is valid by document 01's rules; it is lent to read only.
-use Rattle.std.specs.Prelude.{ℕ, ◌+◌, ◌-◌, ◌*◌, ◌≡◌, cond, List, ◌++◌, length, eqb}
+use Rattle.std.specs.Prelude.{ℕ, ◌+◌, ◌-◌, ◌*◌, ◌≡◌, cond, List, ◌++◌, length, eqb, Result, Ok, Err}
 use Rattle.scan.specs.Bytes.{part}
 use Rattle.body.specs.Body.{cents_of}
 use Rattle.entries.specs.Entry.{entry_size}
 use Rattle.table.specs.Table.{table1, head_size, bodies, abi_of, records_of, valid_as}
 use Rattle.contents.specs.Contents.{head_bytes, entries_bytes}
-use Rattle.convert.specs.declared.Converted.{Converted}
-use Rattle.convert.specs.declared.Converted.TheVariants.{Converts, InvalidTable, WrongLength}
+use Rattle.convert.specs.declared.ConvertRefusal.{ConvertRefusal}
+use Rattle.convert.specs.declared.ConvertRefusal.TheVariants.{InvalidTable, WrongLength}
 
 -- "Entries grow to 48 bytes": how long the table 2 of a table 1 is
 abbrev pub grown_length : List ℕ → ℕ
@@ -26,25 +26,25 @@ converted o =
     ++ part o (head_size + table1.entry * bodies o) (length o)
 
 -- what conversion answers for a table 1 and a buffer of n bytes
-unfoldable pub convert_of : List ℕ → ℕ → Converted
-convert_of o n = cond (valid_as table1 o) (cond (eqb n (grown_length o)) Converts WrongLength) InvalidTable
+unfoldable pub convert_of : List ℕ → ℕ → Result Unit ConvertRefusal
+convert_of o n = cond (valid_as table1 o) (cond (eqb n (grown_length o)) (Ok tt) (Err WrongLength)) (Err InvalidTable)
 
 -- document 01's code
-abbrev pub convert_code : Converted → ℕ
-convert_code Converts = 0
-convert_code InvalidTable = 1
-convert_code WrongLength = 10
+abbrev pub convert_code : Result Unit ConvertRefusal → ℕ
+convert_code (Ok tt) = 0
+convert_code (Err InvalidTable) = 1
+convert_code (Err WrongLength) = 10
 
 -- the buffer afterwards: filled, or as it was
-abbrev pub convert_table : Converted → List ℕ → List ℕ → List ℕ
-convert_table Converts o t = converted o
-convert_table InvalidTable o t = t
-convert_table WrongLength o t = t
+abbrev pub convert_table : Result Unit ConvertRefusal → List ℕ → List ℕ → List ℕ
+convert_table (Ok tt) o t = converted o
+convert_table (Err InvalidTable) o t = t
+convert_table (Err WrongLength) o t = t
 
 -- THE PROMISE of conversion, of the table 1 o and the lent buffer t
-abbrev pub ConvertPromise : List ℕ → List ℕ → Converted → List ℕ → Type 0
+abbrev pub ConvertPromise : List ℕ → List ℕ → Result Unit ConvertRefusal → List ℕ → Type 0
 ConvertPromise o t a t' = (a ≡ convert_of o (length t)) × (t' ≡ convert_table a o t)
 
 -- the promise in document 01's number
 abbrev pub ConvertReplies : List ℕ → List ℕ → ℕ → List ℕ → Type 0
-ConvertReplies o t n t' = (a : Converted) × ConvertPromise o t a t' × (n ≡ convert_code a)
+ConvertReplies o t n t' = (a : Result Unit ConvertRefusal) × ConvertPromise o t a t' × (n ≡ convert_code a)

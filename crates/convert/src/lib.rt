@@ -11,18 +11,18 @@ ghost use Rattle.table.specs.Table.{table1, head_size, bodies, valid_as};
 ghost use Rattle.contents.specs.Contents.{entries_bytes};
 ghost use Rattle.convert.specs.Convert.{cents_at, grown_length, converted, convert_code, ConvertPromise};
 
-use body::Sums;
-
 // How much longer an entry of table 2 is than one of table 1.
 const MORE: usize = entries::ENTRY - table::OLD_ENTRY;
 
-// What conversion answers.
+// Why a table is not converted.
 #[derive(Clone, Copy)]
-pub enum Converted {
-    Converts,
+pub enum ConvertRefusal {
     InvalidTable,
     WrongLength,
 }
+
+// What conversion answers.
+pub type Converted = Result<(), ConvertRefusal>;
 
 // The cents that a body's executed lines paid and collected.
 #[derive(Clone, Copy)]
@@ -39,13 +39,8 @@ fn totals_at(o: &[u8], at: usize) -> Totals
 {
     let base = entries::place_of(o, at);
     let n = entries::slots_of(o, at);
-    match body::judge(o, base, n) {
-        Sums::Right(paid, collected) => Totals { paid, collected },
-        Sums::Broken => Totals {
-            paid: 0,
-            collected: 0,
-        },
-    }
+    let (paid, collected) = body::judge(o, base, n).unwrap_or((0, 0));
+    Totals { paid, collected }
 }
 
 // Writes the entries of n bodies, after the head.
@@ -54,18 +49,14 @@ fn put_entries(t: &mut [u8], o: &[u8], n: usize)
     ensures { t.new ≡ put t.old head_size
         (entries_bytes table1.entry (cents_at o.now) o.now head_size n (head_size + entry_size * n)) }
 {
-    let mut to = table::HEAD;
-    let mut at = table::HEAD;
     let mut p = table::HEAD + entries::ENTRY * n;
-    let mut left = n;
-    while 0 < left {
+    for i in 0..n {
+        let at = table::HEAD + table::OLD_ENTRY * i;
+        let to = table::HEAD + entries::ENTRY * i;
+        let form = &o[at..at + entries::REQUEST];
         let sums = totals_at(o, at);
-        let e = at + entries::REQUEST;
-        contents::put_entry(t, to, &o[at..e], p, sums.paid, sums.collected);
+        contents::put_entry(t, to, form, p, sums.paid, sums.collected);
         p += record::SLOT * entries::slots_of(o, at);
-        to += entries::ENTRY;
-        at += table::OLD_ENTRY;
-        left -= 1;
     }
 }
 
@@ -87,14 +78,14 @@ pub fn convert(o: &[u8], t: &mut [u8]) -> Converted
     ensures { ConvertPromise o.now t.old result t.new }
 {
     if !table::valid_as(o, table::table_1()) {
-        return Converted::InvalidTable;
+        return Err(ConvertRefusal::InvalidTable);
     }
     let n = table::body_count(o);
     if t.len() != o.len() + MORE * n {
-        return Converted::WrongLength;
+        return Err(ConvertRefusal::WrongLength);
     }
     fill(t, o, n);
-    Converted::Converts
+    Ok(())
 }
 
 // Document 01's code of an answer.
@@ -102,8 +93,8 @@ pub fn code_of(c: Converted) -> u64
     ensures { result ≡ convert_code c }
 {
     match c {
-        Converted::Converts => 0,
-        Converted::InvalidTable => 1,
-        Converted::WrongLength => 10,
+        Ok(()) => 0,
+        Err(ConvertRefusal::InvalidTable) => 1,
+        Err(ConvertRefusal::WrongLength) => 10,
     }
 }

@@ -1,57 +1,30 @@
--- Laws of dates and times, a way out of the code at a time.
-use mathlib.Core.Path.{◌≡◌, refl, sym, ◌∙◌}
+-- Laws of dates and times.
+use Rattle.std.specs.Prelude.{Option, Some, None}
+use mathlib.Core.Path.{◌≡◌, refl}
 use mathlib.Core.List.{List}
-use mathlib.Core.Bool.{Bool, true, false, cond, not, ◌&&◌, ◌||◌}
+use mathlib.Core.Bool.{Bool, true, false, cond, ◌&&◌, ◌||◌}
 use Prim.Native.Nat.{ℕ, ◌-◌, ◌≤◌, ◌<◌}
 use native.Mathlib.Omega.{arith}
 use lib.ListN.{length, drop, length-take, length-drop}
 use lib.Dec.{eqb}
-use borrow.Author.Tests.{eq-eqb, ne_eqb, eqb-true, not-false}
+use borrow.Author.Tests.{eq-eqb, ne_eqb, eqb-true}
 use Rattle.scan.specs.Bytes.{bytes, byte_at, part, has_at, text_is}
 use Rattle.scan.proofs.Laws.{both}
 use Rattle.calendar.specs.declared.Date.{Date}
 use Rattle.calendar.specs.Calendar.{is_date}
-use Rattle.digits.specs.declared.Number.{Number}
-use Rattle.digits.specs.declared.Number.TheVariants.{Value, NoNumber}
 use Rattle.digits.specs.Digits.{digits}
-use Rattle.dates.specs.declared.Day.{Day}
-use Rattle.dates.specs.declared.Day.TheVariants.{On, NoDay}
-use Rattle.dates.specs.Dates.{data_written, data_of, day_of, real, clock, is_on, signs, date_in, time_in, are_numbers, data_ora_written, data_ora_within, data_ora, is_sign, zone_signs, zona_by, before_zone, zone_in, data_ora_zona, data_ora_zona_written, data_ora_zona_within}
+use Rattle.dates.specs.Inner.{ora_by, ora_zona_by}
+use Rattle.dates.specs.Dates.{data_written, data_of, day_of, real, clock, is_on, signs, date_in, time_in, are_numbers, data_ora_written, data_ora_within, data_ora, zone_signs, zona_by, before_zone, zone_in, data_ora_zona, data_ora_zona_written, data_ora_zona_within}
 
-module _ (t : List ℕ) where
-  pub data_length : (length t ≡ 10 → ⊥) → data_written t ≡ NoDay
-  data_length h = rw (ne_eqb (length t) 10 h)
-
-  module _ (l : length t ≡ 10) where
-    pub data_no_first : (byte_at t 4 ≡ 45 → ⊥) → data_written t ≡ NoDay
-    data_no_first h = rw (eq-eqb (length t) 10 l, ne_eqb (byte_at t 4) 45 h)
-
-    module _ (a : byte_at t 4 ≡ 45) where
-      pub data_no_second : (byte_at t 7 ≡ 45 → ⊥) → data_written t ≡ NoDay
-      data_no_second h = rw (eq-eqb (length t) 10 l, eq-eqb (byte_at t 4) 45 a, ne_eqb (byte_at t 7) 45 h)
-
-      pub data_day : {y m d : Number} → byte_at t 7 ≡ 45 → y ≡ digits 4 4 (part t 0 4) → m ≡ digits 2 2 (part t 5 7) → d ≡ digits 2 2 (part t 8 10) → data_written t ≡ day_of y m d
-      data_day b ey em ed = rw (eq-eqb (length t) 10 l, eq-eqb (byte_at t 4) 45 a, eq-eqb (byte_at t 7) 45 b, ey, em, ed)
+-- a date
+module _ (t : List ℕ) (l : length t ≡ 10) (a : byte_at t 4 ≡ 45) where
+  pub data_day : {y m d : Option ℕ} → byte_at t 7 ≡ 45 → y ≡ digits 4 4 (part t 0 4) → m ≡ digits 2 2 (part t 5 7) → d ≡ digits 2 2 (part t 8 10) → data_written t ≡ day_of y m d
+  data_day b ey em ed = rw (eq-eqb (length t) 10 l, eq-eqb (byte_at t 4) 45 a, eq-eqb (byte_at t 7) 45 b, ey, em, ed)
 
 -- a date and a time
-module _ (t : List ℕ) where
-  pub signs_length : (length t ≡ 19 → ⊥) → signs t ≡ false
-  unfolding signs
-  signs_length h = rw (ne_eqb (length t) 19 h)
-
-  module _ (l : length t ≡ 19) where
-    pub signs_no_t : (byte_at t 10 ≡ 84 → ⊥) → signs t ≡ false
-    unfolding signs
-    signs_no_t h = rw (eq-eqb (length t) 19 l, ne_eqb (byte_at t 10) 84 h)
-
-    module _ (a : byte_at t 10 ≡ 84) where
-      pub signs_no_colon : (byte_at t 13 ≡ 58 → ⊥) → signs t ≡ false
-      unfolding signs
-      signs_no_colon h = rw (eq-eqb (length t) 19 l, eq-eqb (byte_at t 10) 84 a, ne_eqb (byte_at t 13) 58 h)
-
-      pub signs_last : byte_at t 13 ≡ 58 → signs t ≡ eqb (byte_at t 16) 58
-      unfolding signs
-      signs_last b = rw (eq-eqb (length t) 19 l, eq-eqb (byte_at t 10) 84 a, eq-eqb (byte_at t 13) 58 b)
+pub signs_length : (t : List ℕ) → (length t ≡ 19 → ⊥) → signs t ≡ false
+unfolding signs
+signs_length t h = rw (ne_eqb (length t) 19 h)
 
 pub signs_19 : (t : List ℕ) → signs t ≡ true → length t ≡ 19
 unfolding signs
@@ -61,39 +34,21 @@ signs_19 t e = go (eqb (length t) 19) _ refl e
     go true x f e = eqb-true (length t) 19 f
     go false x f e = let z : ◌≡◌ {A = ℕ} 0 1 = cc in absurd (omega arith)
 
--- .. as the code has it
-pub seen_19 : (t : List ℕ) {x : Bool} → x ≡ signs t → not x ≡ false → length t ≡ 19
-seen_19 t e f = signs_19 t (sym e ∙ not-false _ f)
-
-module _ (t : List ℕ) where
-  pub written_no_signs : signs t ≡ false → data_ora_written t ≡ false
-  unfolding data_ora_written
-  written_no_signs e = rw e
-
-  module _ (s : signs t ≡ true) where
-    pub written_no_day : is_on (data_written (date_in t)) ≡ false → data_ora_written t ≡ false
-    unfolding data_ora_written
-    written_no_day e = rw (s, e)
-
-    pub written_time : is_on (data_written (date_in t)) ≡ true → data_ora_written t ≡ time_in are_numbers t
-    unfolding data_ora_written
-    written_time e = rw (s, e)
-
 -- what is real is written
-real_written : (d : Day) → is_on (real d) ≡ true → is_on d ≡ true
-real_written (On d) e = refl
-real_written NoDay e = e
+real_written : (d : Option Date) → is_on (real d) ≡ true → is_on d ≡ true
+real_written (Some d) e = refl
+real_written None e = e
 
 data_written_lem : (t : List ℕ) → is_on (data_of t) ≡ true → is_on (data_written t) ≡ true
 unfolding data_of
 data_written_lem t = real_written (data_written t)
 
-clock_written : (h m s : Number) → clock h m s ≡ true → are_numbers h m s ≡ true
+clock_written : (h m s : Option ℕ) → clock h m s ≡ true → are_numbers h m s ≡ true
 unfolding clock
-clock_written (Value h) (Value m) (Value s) e = refl
-clock_written (Value h) (Value m) NoNumber e = e
-clock_written (Value h) NoNumber s e = e
-clock_written NoNumber m s e = e
+clock_written (Some h) (Some m) (Some s) e = refl
+clock_written (Some h) (Some m) None e = e
+clock_written (Some h) None s e = e
+clock_written None m s e = e
 
 -- form and range together: the range says that the numbers are there
 both_ways : (s w n r c : Bool) → (r ≡ true → w ≡ true) → (c ≡ true → n ≡ true) → (s && (w && n)) && (r && c) ≡ s && (r && c)
@@ -109,22 +64,11 @@ pub ora_both : (t : List ℕ) → data_ora t ≡ signs t && (is_on (data_of (dat
 unfolding data_ora data_ora_written data_ora_within
 ora_both t = both_ways (signs t) _ _ _ _ (data_written_lem (date_in t)) (clock_written _ _ _)
 
-module _ (t : List ℕ) where
-  pub ora_no_signs : signs t ≡ false → data_ora t ≡ false
-  ora_no_signs e = ora_both t ∙ rw e
-
-  module _ (s : signs t ≡ true) where
-    pub ora_no_day : is_on (data_of (date_in t)) ≡ false → data_ora t ≡ false
-    ora_no_day e = ora_both t ∙ rw (s, e)
-
-    pub ora_time : is_on (data_of (date_in t)) ≡ true → data_ora t ≡ time_in clock t
-    ora_time e = ora_both t ∙ rw (s, e)
-
 -- how long a text of a form is
 pub data_10 : (t : List ℕ) → is_on (data_written t) ≡ true → length t ≡ 10
 data_10 t e = go (eqb (length t) 10) _ _ refl e
   where
-    go : (b x : Bool) (d : Day) → eqb (length t) 10 ≡ b → is_on (cond (b && x) d NoDay) ≡ true → length t ≡ 10
+    go : (b x : Bool) (d : Option Date) → eqb (length t) 10 ≡ b → is_on (cond (b && x) d None) ≡ true → length t ≡ 10
     go true x d f e = eqb-true (length t) 10 f
     go false x d f e = let z : ◌≡◌ {A = ℕ} 0 1 = cc in absurd (omega arith)
 
@@ -133,61 +77,30 @@ unfolding data_ora_written
 ora_19 t e = signs_19 t (both (signs t) _ e).0
 
 -- a date that a field gives is a real one
-pub data_real : (t : List ℕ) {d : Date} → data_of t ≡ On d → is_date d ≡ true
+pub data_real : (t : List ℕ) {d : Date} → data_of t ≡ Some d → is_date d ≡ true
 unfolding data_of
 data_real t {d} = go (data_written t)
   where
-    no : {A : Type 0} → NoDay ≡ On d → A
+    no : {A : Type 0} → ◌≡◌ {A = Option Date} (None) (Some d) → A
     no e = let z : ◌≡◌ {A = ℕ} 0 1 = cc in absurd (omega arith)
 
-    on : (x : Date) (b : Bool) → is_date x ≡ b → cond b (On x) NoDay ≡ On d → is_date d ≡ true
+    on : (x : Date) (b : Bool) → is_date x ≡ b → cond b (Some x) None ≡ Some d → is_date d ≡ true
     on x true f e = let z : x ≡ d = cc in rw z at f
     on x false f e = no e
 
-    go : (x : Day) → real x ≡ On d → is_date d ≡ true
-    go (On x) e = on x (is_date x) refl e
-    go NoDay e = no e
+    go : (x : Option Date) → real x ≡ Some d → is_date d ≡ true
+    go (Some x) e = on x (is_date x) refl e
+    go None e = no e
 
 -- a zone
-module _ (z : List ℕ) where
-  pub zone_length : (length z ≡ 6 → ⊥) → zone_signs z ≡ false
-  unfolding zone_signs
-  zone_length h = rw (ne_eqb (length z) 6 h)
-
-  module _ (l : length z ≡ 6) where
-    pub zone_no_sign : is_sign (byte_at z 0) ≡ false → zone_signs z ≡ false
-    unfolding zone_signs
-    zone_no_sign h = rw (eq-eqb (length z) 6 l, h)
-
-    pub zone_colon : is_sign (byte_at z 0) ≡ true → zone_signs z ≡ eqb (byte_at z 3) 58
-    unfolding zone_signs
-    zone_colon h = rw (eq-eqb (length z) 6 l, h)
-
 pub zone_6 : (z : List ℕ) → zone_signs z ≡ true → length z ≡ 6
 unfolding zone_signs
 zone_6 z e = eqb-true (length z) 6 (both (eqb (length z) 6) _ e).0
 
-pub seen_6 : (z : List ℕ) {x : Bool} → x ≡ zone_signs z → not x ≡ false → length z ≡ 6
-seen_6 z e f = zone_6 z (sym e ∙ not-false _ f)
-
-module _ (f : Number → Number → Number → Bool) (z : List ℕ) where
-  pub zona_z : text_is (bytes "Z") z ≡ true → zona_by f z ≡ true
-  unfolding zona_by
-  zona_z e = rw e
-
-  module _ (e : text_is (bytes "Z") z ≡ false) where
-    pub zona_no_signs : zone_signs z ≡ false → zona_by f z ≡ false
-    unfolding zona_by
-    zona_no_signs h = rw (e, h)
-
-    pub zona_time : zone_signs z ≡ true → zona_by f z ≡ f (digits 2 2 (part z 1 3)) (digits 2 2 (part z 4 6)) (Value 0)
-    unfolding zona_by
-    zona_time h = rw (e, h)
-
 -- a zone of numbers in their range is one of numbers
 zona_written : (z : List ℕ) → zona_by clock z ≡ true → zona_by are_numbers z ≡ true
 unfolding zona_by
-zona_written z = go (text_is (bytes "Z") z) (zone_signs z) _ _ (clock_written (digits 2 2 (part z 1 3)) (digits 2 2 (part z 4 6)) (Value 0))
+zona_written z = go (text_is (bytes "Z") z) (zone_signs z) _ _ (clock_written (digits 2 2 (part z 1 3)) (digits 2 2 (part z 4 6)) (Some 0))
   where
     go : (b s c n : Bool) → (c ≡ true → n ≡ true) → b || (s && c) ≡ true → b || (s && n) ≡ true
     go true s c n h e = refl
@@ -207,11 +120,11 @@ unfolding data_ora data_ora_zona data_ora_zona_written data_ora_zona_within
 zona_both t = zoned (data_ora_written (before_zone t)) (data_ora_within (before_zone t)) _ _ (zona_written (zone_in t))
 
 -- how long a zone is, and a time with one
-pub zone_long : (f : Number → Number → Number → Bool) (z : List ℕ) → zona_by f z ≡ true → length z ≤ 6
+pub zone_long : (f : Option ℕ → Option ℕ → Option ℕ → Bool) (z : List ℕ) → zona_by f z ≡ true → length z ≤ 6
 unfolding zona_by text_is
 zone_long f z = go (text_is (bytes "Z") z) refl
   where
-    go : (b : Bool) → text_is (bytes "Z") z ≡ b → b || (zone_signs z && f (digits 2 2 (part z 1 3)) (digits 2 2 (part z 4 6)) (Value 0)) ≡ true → length z ≤ 6
+    go : (b : Bool) → text_is (bytes "Z") z ≡ b → b || (zone_signs z && f (digits 2 2 (part z 1 3)) (digits 2 2 (part z 4 6)) (Some 0)) ≡ true → length z ≤ 6
     go true e h = let l = eqb-true (length z) 1 (both (eqb (length z) 1) (has_at (bytes "Z") z 0) e).0 in omega arith
     go false e h = let l = zone_6 z (both (zone_signs z) _ h).0 in omega arith
 
@@ -227,11 +140,11 @@ ora_zona_long t e =
     (omega arith, omega arith)
 
 -- a text too short for a time
-module _ (t : List ℕ) (h : length t < 19) where
-  pub short_ora : data_ora_zona t ≡ false
-  unfolding data_ora_zona
-  short_ora = let l = length-take 19 t in rw (ora_no_signs (before_zone t) (signs_length (before_zone t) (λ e. omega arith)))
+pub short : (real : Bool) (t : List ℕ) → length t < 19 → ora_zona_by real t ≡ false
+unfolding ora_by ora_zona_by
+short real t h = let l = length-take 19 t in rw (signs_length (before_zone t) (λ e. omega arith))
 
-  pub short_written : data_ora_zona_written t ≡ false
-  unfolding data_ora_zona_written
-  short_written = let l = length-take 19 t in rw (written_no_signs (before_zone t) (signs_length (before_zone t) (λ e. omega arith)))
+-- a time with a zone, both real
+pub zona_real : (t : List ℕ) → data_ora_zona t ≡ ora_zona_by true t
+unfolding data_ora_zona ora_by ora_zona_by
+zona_real t = rw (ora_both (before_zone t))

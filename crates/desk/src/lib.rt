@@ -6,23 +6,22 @@ ghost use Rattle.std.specs.Prelude.{◌≡◌, true, ℕ, ◌+◌, ◌*◌, ◌�
 ghost use Rattle.markup.specs.Noted.{Noted};
 ghost use Rattle.bounds.specs.Bounds.{max_flow};
 ghost use Rattle.table.specs.Table.{table_ok};
-ghost use Rattle.flow.specs.declared.Verdict.TheVariants.{Stands};
 ghost use Rattle.header.specs.Heading.{header_by, Within};
 ghost use Rattle.flow.specs.Flow.{verdict_of, header_of, flow_orders};
 ghost use Rattle.desk.specs.Desk.{with_room, for_bank, for_flow, Gives, FlowPromise, SameReply, flow_reply};
 ghost use Rattle.serving.specs.Served.{orders_from, Rooted, Storable, Servable};
 ghost use Rattle.desk.specs.Steps.{body_for};
 
-use address::Addressed;
-use editions::{Edited, Edition};
+use address::NoBody;
+use editions::Edition;
 use fields::Cause;
-use flow::Verdict;
+use flow::Breakage;
 use header::Heading;
 use schema::Parent;
 
-// What a flow's call answers.
+// Why a flow is refused.
 #[derive(Clone, Copy)]
-pub enum FlowAnswer {
+pub enum FlowRefusal {
     InvalidTable,
     UnknownEdition,
     TooLong,
@@ -33,10 +32,13 @@ pub enum FlowAnswer {
     UnknownBody,
     ClosedYear,
     NoRoom,
-    Taken(usize, usize, usize),
 }
 
+// What a flow's call answers: its orders, how many were accepted, and the steps of their searches; or why it is refused.
+pub type FlowAnswer = Result<(usize, usize, usize), FlowRefusal>;
+
 // Document 01's numbers of an answer, and the cause and steps that document 02 adds.
+// Code and values stand side by side, since C takes them one by one (`hondivole_flow`).
 #[derive(Clone, Copy)]
 pub struct FlowReply {
     pub code: u64,
@@ -65,10 +67,10 @@ fn with_room(
 {
     let count = orders::count_orders(f, from, root, past);
     if out.len() < service::OUTCOME * count {
-        return FlowAnswer::NoRoom;
+        return Err(FlowRefusal::NoRoom);
     }
     let s = serving::serve_all(t, f, from, root, base, n, year, out, past, count);
-    FlowAnswer::Taken(count, s.accepted, s.steps)
+    Ok((count, s.accepted, s.steps))
 }
 
 // The orders of a flow, for the body with the flow's code: 7, 36 where it has closed the flow's year or a later one, or as the room says.
@@ -86,18 +88,17 @@ fn for_body(
         (body_for t.old (length out.old) (header_by f.now h) (orders_from root f.now h.orders)) result
         t.new out.new }
 {
-    let w = h.ente;
-    let ente = header::part_at(f, w);
+    let ente = header::part_at(f, h.ente);
     match address::body_named(t, ente) {
-        Addressed::Body(e, base, n) => {
+        Ok((e, base, n)) => {
             let year = h.esercizio;
             if year <= entries::closed_of(t, e) {
-                return FlowAnswer::ClosedYear;
+                return Err(FlowRefusal::ClosedYear);
             }
             with_room(t, f, root, h.orders, year, base, n, out, past)
         }
-        Addressed::Unknown => FlowAnswer::UnknownBody,
-        Addressed::Invalid => FlowAnswer::InvalidTable,
+        Err(NoBody::Unknown) => Err(FlowRefusal::UnknownBody),
+        Err(NoBody::Invalid) => Err(FlowRefusal::InvalidTable),
     }
 }
 
@@ -110,17 +111,16 @@ fn for_bank(
     out: &mut [u8],
     past: &[u32],
 ) -> FlowAnswer
-    requires { (table_ok t.old ≡ true) × (verdict_of e f.now ≡ Stands at) × Noted f.now past.now × (length f.now ≤ max_flow) }
+    requires { (table_ok t.old ≡ true) × (verdict_of e f.now ≡ Ok at) × Noted f.now past.now × (length f.now ≤ max_flow) }
     ensures { Gives t.old out.old
         (for_bank t.old (length out.old) (header_of e f.now at) (flow_orders e f.now at)) result t.new
         out.new }
 {
     let from = scan::white_end(f, at);
     let h = header::header_from(f, e, from, past);
-    let w = h.abi;
-    let abi = header::part_at(f, w);
+    let abi = header::part_at(f, h.abi);
     if !scan::same(abi, &t[8..13]) {
-        return FlowAnswer::OtherBank;
+        return Err(FlowRefusal::OtherBank);
     }
     let root = header::root_of(e);
     for_body(t, f, root, h, out, past)
@@ -133,10 +133,10 @@ fn take_noted(t: &mut [u8], e: Edition, f: &[u8], out: &mut [u8], past: &mut [u3
         (for_flow e t.old f.now (length out.old) (verdict_of e f.now)) result t.new out.new }
 {
     match flow::verdict_of(f, e, past) {
-        Verdict::MarkupBreaks(_) => FlowAnswer::BrokenMarkup,
-        Verdict::StructureBreaks => FlowAnswer::BrokenStructure,
-        Verdict::FieldBreaks(p, x) => FlowAnswer::BrokenField(p, x),
-        Verdict::Stands(at) => for_bank(t, e, f, at, out, past),
+        Err(Breakage::MarkupBreaks(_)) => Err(FlowRefusal::BrokenMarkup),
+        Err(Breakage::StructureBreaks) => Err(FlowRefusal::BrokenStructure),
+        Err(Breakage::FieldBreaks(p, x)) => Err(FlowRefusal::BrokenField(p, x)),
+        Ok(at) => for_bank(t, e, f, at, out, past),
     }
 }
 
@@ -146,13 +146,13 @@ pub fn take_flow(t: &mut [u8], edition: u64, f: &[u8], out: &mut [u8]) -> FlowAn
     ensures { FlowPromise t.old edition f.now out.old result t.new out.new }
 {
     if !table::table_ok(t) {
-        return FlowAnswer::InvalidTable;
+        return Err(FlowRefusal::InvalidTable);
     }
-    let Edited::By(e) = editions::edition_of(edition) else {
-        return FlowAnswer::UnknownEdition;
+    let Some(e) = editions::edition_of(edition) else {
+        return Err(FlowRefusal::UnknownEdition);
     };
     if 32768 < f.len() {
-        return FlowAnswer::TooLong;
+        return Err(FlowRefusal::TooLong);
     }
     if f.len() < 4096 {
         let mut few = [0u32; 1024];
@@ -180,12 +180,12 @@ pub fn reply_of(a: FlowAnswer) -> FlowReply
     ensures { SameReply result (flow_reply a) }
 {
     match a {
-        FlowAnswer::InvalidTable => refusal(1),
-        FlowAnswer::UnknownEdition => refusal(23),
-        FlowAnswer::TooLong => refusal(2),
-        FlowAnswer::BrokenMarkup => refusal(3),
-        FlowAnswer::BrokenStructure => refusal(4),
-        FlowAnswer::BrokenField(p, x) => FlowReply {
+        Err(FlowRefusal::InvalidTable) => refusal(1),
+        Err(FlowRefusal::UnknownEdition) => refusal(23),
+        Err(FlowRefusal::TooLong) => refusal(2),
+        Err(FlowRefusal::BrokenMarkup) => refusal(3),
+        Err(FlowRefusal::BrokenStructure) => refusal(4),
+        Err(FlowRefusal::BrokenField(p, x)) => FlowReply {
             code: 5,
             place: p as u64,
             orders: 0,
@@ -193,11 +193,11 @@ pub fn reply_of(a: FlowAnswer) -> FlowReply
             cause: fields::cause_number(x),
             steps: 0,
         },
-        FlowAnswer::OtherBank => refusal(6),
-        FlowAnswer::UnknownBody => refusal(7),
-        FlowAnswer::ClosedYear => refusal(36),
-        FlowAnswer::NoRoom => refusal(8),
-        FlowAnswer::Taken(n, k, s) => FlowReply {
+        Err(FlowRefusal::OtherBank) => refusal(6),
+        Err(FlowRefusal::UnknownBody) => refusal(7),
+        Err(FlowRefusal::ClosedYear) => refusal(36),
+        Err(FlowRefusal::NoRoom) => refusal(8),
+        Ok((n, k, s)) => FlowReply {
             code: 0,
             place: 0,
             orders: n as u64,

@@ -9,39 +9,29 @@
 ghost use Rattle.std.specs.Prelude.{◌+◌, ◌*◌, ◌≤◌, ◌<◌, length, IfOk};
 
 use calendar::Date;
-use casebook::{number, say, say_next, say_number};
-use desk::FlowAnswer;
-use notices::NoticeAnswer;
-use opening::Opened;
+use casebook::{column, number, say};
+use desk::{FlowAnswer, FlowRefusal};
+use notices::{NoticeAnswer, NoticeRefusal};
+use opening::{OpenRefusal, Opened};
 use record::Key;
 use std::io;
 use std::io::{Read, Write};
 
 const ALL_SLOTS: usize = 49216;
 
-// Says so if out, which was all zero, has something else from a place on.
-fn say_touched<W: Write>(to: &mut W, out: &[u8], from: usize) -> io::Result<()> {
-    let mut i = from;
-    while i < out.len() {
-        if out[i] != 0 {
-            return say(to, b", touched");
-        }
-        i += 1;
-    }
-    Ok(())
-}
-
-// A flow's answer: code, place, orders, accepted, cause, steps, and the outcomes.
+// A flow's answer: code, place, orders, accepted, cause, steps, and the outcomes. Says so if out, which was all zero, has something else past them.
 fn say_flow<W: Write>(to: &mut W, a: FlowAnswer, out: &[u8]) -> io::Result<()> {
     let r = desk::reply_of(a);
-    say_number(to, r.code)?;
-    say_next(to, r.place)?;
-    say_next(to, r.orders)?;
-    say_next(to, r.accepted)?;
-    say_next(to, r.cause)?;
-    say_next(to, r.steps)?;
-    let past = casebook::say_outcomes(to, out, r.orders, b",", b"")?;
-    say_touched(to, out, past)
+    write!(
+        to,
+        "{} {} {} {} {} {}",
+        r.code, r.place, r.orders, r.accepted, r.cause, r.steps,
+    )?;
+    let rest = casebook::say_outcomes(to, out, r.orders)?;
+    if rest.iter().any(|&b| b != 0) {
+        say(to, b", touched")?;
+    }
+    Ok(())
 }
 
 // A flow's call with at most so many bytes of out for its outcomes.
@@ -52,12 +42,8 @@ fn run_within<W: Write>(
     room: u64,
     out: &mut [u8],
 ) -> io::Result<()> {
-    let all = out.len() as u64;
-    if all <= room {
-        let a = desk::take_flow(t, 1, flow, out);
-        return say_flow(to, a, out);
-    }
-    let a = desk::take_flow(t, 1, flow, &mut out[..room as usize]);
+    let n = (room as usize).min(out.len());
+    let a = desk::take_flow(t, 1, flow, &mut out[..n]);
     say_flow(to, a, out)
 }
 
@@ -68,137 +54,96 @@ fn run_flow<W: Write>(to: &mut W, t: &mut [u8], flow: &[u8], room: u64) -> io::R
 }
 
 fn say_opened<W: Write>(to: &mut W, o: Opened) -> io::Result<()> {
-    say_number(to, opening::code_of(o))
+    write!(to, "{}", opening::code_of(o))
 }
 
 // Opens a table in the first bytes of t: the length that it was given.
-fn run_open<W: Write>(to: &mut W, t: &mut [u8], request: &[u8], n: u64) -> io::Result<usize>
+fn run_open<W: Write>(to: &mut W, t: &mut [u8], request: &[u8], n: usize) -> io::Result<usize>
     ensures { IfOk result (λ len. len ≤ length t.new) }
 {
-    if 65800 < n {
+    if t.len() < n {
         return Ok(0);
     }
-    let k = n as usize;
-    if t.len() < k {
-        return Ok(0);
-    }
-    say_opened(to, opening::open_table(request, &mut t[..k]))?;
-    Ok(k)
+    say_opened(to, opening::open_table(request, &mut t[..n]))?;
+    Ok(n)
 }
 
 // Damages the table: a byte at a place.
-fn run_poke<W: Write>(to: &mut W, t: &mut [u8], at: u64, b: u64) -> io::Result<()> {
-    let n = t.len() as u64;
-    if n <= at {
+fn run_poke<W: Write>(to: &mut W, t: &mut [u8], at: usize, b: u64) -> io::Result<()> {
+    if t.len() <= at {
         return say(to, b"none");
     }
-    t[at as usize] = (b % 256) as u8;
+    t[at] = (b % 256) as u8;
     say(to, b"done")
 }
 
-// A flow of the first n bytes of f.
-fn run_front<W: Write>(to: &mut W, t: &mut [u8], f: &[u8], n: u64) -> io::Result<()> {
-    let all = f.len() as u64;
-    if all <= n {
-        return run_flow(to, t, f, 1024);
-    }
-    run_flow(to, t, &f[..n as usize], 1024)
-}
-
 // A flow of so many zero bytes.
-fn run_long<W: Write>(to: &mut W, t: &mut [u8], n: u64) -> io::Result<()> {
+fn run_long<W: Write>(to: &mut W, t: &mut [u8], n: usize) -> io::Result<()> {
     let f = [0u8; 32769];
-    run_front(to, t, &f, n)
+    run_flow(to, t, f.get(..n).unwrap_or(&f), 1024)
 }
 
 fn say_notice<W: Write>(to: &mut W, a: NoticeAnswer) -> io::Result<()> {
     let r = notices::reply_of(a);
-    say_number(to, r.code)?;
-    say_next(to, r.cents)
+    write!(to, "{} {}", r.code, r.cents)
 }
 
 // Collected less paid, which may be below zero.
 fn say_balance<W: Write>(to: &mut W, paid: u64, collected: u64, balance: i64) -> io::Result<()> {
-    say(to, b" ")?;
-    if balance < 0 {
-        say(to, b"-")?;
-    }
-    if paid <= collected {
-        say_number(to, collected - paid)
-    } else {
-        say_number(to, paid - collected)
-    }
+    let sign = if balance < 0 { "-" } else { "" };
+    write!(to, " {sign}{}", collected.abs_diff(paid))
 }
 
 fn run_totals<W: Write>(to: &mut W, t: &[u8], body: &[u8]) -> io::Result<()> {
     let a = notices::totals(t, body);
-    say_number(to, a.code)?;
-    say_next(to, a.used)?;
-    say_next(to, a.paid)?;
-    say_next(to, a.collected)?;
+    write!(to, "{} {} {} {}", a.code, a.used, a.paid, a.collected)?;
     say_balance(to, a.paid, a.collected, a.balance)
 }
 
 // The date in column k and the two after it.
-fn date_at(s: &[u8], a: usize, e: usize, k: usize) -> Date
-    requires { (a ≤ e) × (e ≤ length s.now) × (k ≤ 7) }
+fn date_at(line: &[u8], k: usize) -> Date
+    requires { k ≤ 7 }
 {
     Date {
-        year: number(s, a, e, k),
-        month: number(s, a, e, k + 1),
-        day: number(s, a, e, k + 2),
+        year: number(line, k),
+        month: number(line, k + 1),
+        day: number(line, k + 2),
     }
 }
 
 // The first TARGET day on or after the date in columns 2 to 4: code, year, month, day.
 fn run_first<W: Write>(to: &mut W, d: Date) -> io::Result<()> {
     let r = target_days::first_target_day(d.year, d.month, d.day);
-    say_number(to, r.code)?;
-    say_next(to, r.date.year)?;
-    say_next(to, r.date.month)?;
-    say_next(to, r.date.day)
+    write!(
+        to,
+        "{} {} {} {}",
+        r.code, r.date.year, r.date.month, r.date.day,
+    )
 }
 
-// The calls that name a body, its code being column 2.
-fn run_body<W: Write>(
-    to: &mut W,
-    s: &[u8],
-    a: usize,
-    e: usize,
-    kind: &[u8],
-    t: &mut [u8],
-) -> io::Result<()>
-    requires { (a ≤ e) × (e ≤ length s.now) × (length s.now ≤ 262144) }
-{
+// The notices, which name a body by its code in column 2.
+fn run_notice<W: Write>(to: &mut W, line: &[u8], t: &mut [u8], executing: bool) -> io::Result<()> {
     let mut code = [0u8; 64];
-    let n = casebook::bytes(s, a, e, 2, &mut code);
-    if scan::same(kind, b"totals") {
-        return run_totals(to, t, &code[..n]);
-    }
+    let n = casebook::bytes(line, 2, &mut code);
     let key = Key {
-        kind: number(s, a, e, 3),
-        esercizio: number(s, a, e, 4),
-        number: number(s, a, e, 5),
+        kind: number(line, 3),
+        esercizio: number(line, 4),
+        number: number(line, 5),
     };
-    let line = number(s, a, e, 6);
-    let day = date_at(s, a, e, 7);
-    if scan::same(kind, b"execute") {
-        return say_notice(to, notices::execute(t, &code[..n], key, line, day));
+    let order_line = number(line, 6);
+    let day = date_at(line, 7);
+    if executing {
+        say_notice(to, notices::execute(t, &code[..n], key, order_line, day))
+    } else {
+        say_notice(to, notices::reverse(t, &code[..n], key, order_line, day))
     }
-    say_notice(to, notices::reverse(t, &code[..n], key, line, day))
 }
 
-fn run_put<W: Write>(to: &mut W, t: &mut [u8], at: u64, v: &[u8]) -> io::Result<()> {
-    if 65800 < at {
+fn run_put<W: Write>(to: &mut W, t: &mut [u8], at: usize, v: &[u8]) -> io::Result<()> {
+    if t.len() < at || t.len() - at < v.len() {
         return say(to, b"none");
     }
-    if 4096 < v.len() {
-        return say(to, b"none");
-    }
-    if t.len() < at as usize + v.len() {
-        return say(to, b"none");
-    }
-    words::copy_in(t, at as usize, v);
+    words::copy_in(t, at, v);
     say(to, b"done")
 }
 
@@ -206,163 +151,107 @@ fn run_put<W: Write>(to: &mut W, t: &mut [u8], at: u64, v: &[u8]) -> io::Result<
 fn fill(t: &mut [u8], slot: &[u8; 96])
     requires { 49216 ≤ length t.old }
 {
-    let mut i = 0;
-    while i < 512 {
+    for i in 0..512 {
         let at = 64 + 96 * i;
         words::copy_in(t, at, slot);
         words::write4(t, at + 8, i as u64 + 1);
-        i += 1;
     }
-}
-
-fn put_byte(m: &mut [u8], at: usize, b: u8)
-    requires { at < length m.old }
-{
-    m[at] = b;
 }
 
 // Lists so many lines.
 fn list(m: &mut [u8], movement: &[u8; 16], count: usize)
     requires { (16 * count ≤ length m.old) × (count ≤ 4200) }
 {
-    let mut j = 0;
-    while j < count {
+    for j in 0..count {
         let at = 16 * j;
         words::copy_in(m, at, movement);
-        put_byte(m, at + 1, (j % 8) as u8 + 1);
+        m[at + 1] = (j % 8) as u8 + 1;
         words::write4(m, at + 4, (j / 8 % 512) as u64 + 1);
-        j += 1;
     }
 }
 
 fn say_journal<W: Write>(to: &mut W, t: &[u8], body: &[u8], m: &[u8]) -> io::Result<()> {
-    say_number(to, journal::check(t, body, m))
-}
-
-// A journal of the first n bytes of m.
-fn run_listed<W: Write>(to: &mut W, t: &[u8], m: &[u8], n: u64) -> io::Result<()> {
-    let all = m.len() as u64;
-    if all <= n {
-        return say_journal(to, t, b"000471", m);
-    }
-    say_journal(to, t, b"000471", &m[..n as usize])
+    write!(to, "{}", journal::check(t, body, m))
 }
 
 fn run_full<W: Write>(
     to: &mut W,
     t: &mut [u8],
-    count: u64,
+    count: usize,
     slot: &[u8; 96],
     movement: &[u8; 16],
 ) -> io::Result<()> {
-    if t.len() < ALL_SLOTS {
+    if t.len() < ALL_SLOTS || 4200 < count {
         return say(to, b"none");
     }
-    if 4200 < count {
-        return say(to, b"none");
-    }
-    let n = count as usize;
     let mut m = [0u8; 67200];
     fill(t, slot);
-    list(&mut m, movement, n);
-    run_listed(to, t, &m, 16 * count)
+    list(&mut m, movement, count);
+    say_journal(to, t, b"000471", &m[..16 * count])
 }
 
-// The calls of a journal: put, journal and full.
-fn run_journal<W: Write>(
-    to: &mut W,
-    s: &[u8],
-    a: usize,
-    e: usize,
-    kind: &[u8],
-    t: &mut [u8],
-) -> io::Result<()>
-    requires { (a ≤ e) × (e ≤ length s.now) × (length s.now ≤ 262144) }
-{
+// A call on the table, by its name in column 0.
+fn run_call<W: Write>(to: &mut W, line: &[u8], t: &mut [u8]) -> io::Result<()> {
     let mut v = [0u8; 4096];
-    if scan::same(kind, b"put") {
-        let n = casebook::bytes(s, a, e, 3, &mut v);
-        return run_put(to, t, number(s, a, e, 2), &v[..n]);
+    let mut code = [0u8; 64];
+    match column(line, 0) {
+        b"poke" => run_poke(to, t, number(line, 2) as usize, number(line, 3)),
+        b"long" => run_long(to, t, number(line, 2) as usize),
+        b"first" => run_first(to, date_at(line, 2)),
+        b"put" => {
+            let n = casebook::bytes(line, 3, &mut v);
+            run_put(to, t, number(line, 2) as usize, &v[..n])
+        }
+        b"journal" => {
+            let k = casebook::bytes(line, 2, &mut code);
+            let n = casebook::bytes(line, 3, &mut v);
+            say_journal(to, t, &code[..k], &v[..n])
+        }
+        b"full" => {
+            let mut slot = [0u8; 96];
+            let mut movement = [0u8; 16];
+            casebook::bytes(line, 3, &mut slot);
+            casebook::bytes(line, 4, &mut movement);
+            run_full(to, t, number(line, 2) as usize, &slot, &movement)
+        }
+        b"flow" => {
+            let n = casebook::bytes(line, 2, &mut v);
+            run_flow(to, t, &v[..n], number(line, 3))
+        }
+        b"totals" => {
+            let k = casebook::bytes(line, 2, &mut code);
+            run_totals(to, t, &code[..k])
+        }
+        b"execute" => run_notice(to, line, t, true),
+        _ => run_notice(to, line, t, false),
     }
-    if scan::same(kind, b"journal") {
-        let mut code = [0u8; 64];
-        let k = casebook::bytes(s, a, e, 2, &mut code);
-        let n = casebook::bytes(s, a, e, 3, &mut v);
-        return say_journal(to, t, &code[..k], &v[..n]);
-    }
-    let mut slot = [0u8; 96];
-    casebook::bytes(s, a, e, 3, &mut slot);
-    let mut movement = [0u8; 16];
-    casebook::bytes(s, a, e, 4, &mut movement);
-    run_full(to, t, number(s, a, e, 2), &slot, &movement)
-}
-
-// The calls on the table whose argument is column 2.
-fn run_call<W: Write>(
-    to: &mut W,
-    s: &[u8],
-    a: usize,
-    e: usize,
-    kind: &[u8],
-    t: &mut [u8],
-) -> io::Result<()>
-    requires { (a ≤ e) × (e ≤ length s.now) × (length s.now ≤ 262144) }
-{
-    if scan::same(kind, b"poke") {
-        return run_poke(to, t, number(s, a, e, 2), number(s, a, e, 3));
-    }
-    if scan::same(kind, b"long") {
-        return run_long(to, t, number(s, a, e, 2));
-    }
-    if scan::same(kind, b"first") {
-        return run_first(to, date_at(s, a, e, 2));
-    }
-    if scan::same(kind, b"put") || scan::same(kind, b"journal") || scan::same(kind, b"full") {
-        return run_journal(to, s, a, e, kind, t);
-    }
-    if !scan::same(kind, b"flow") {
-        return run_body(to, s, a, e, kind, t);
-    }
-    let mut f = [0u8; 4096];
-    let n = casebook::bytes(s, a, e, 2, &mut f);
-    run_flow(to, t, &f[..n], number(s, a, e, 3))
 }
 
 // One line: the length of the table from there on.
-fn run_line<W: Write>(
-    to: &mut W,
-    s: &[u8],
-    a: usize,
-    e: usize,
-    t: &mut [u8],
-    len: usize,
-) -> io::Result<usize>
-    requires { (a ≤ e) × (e ≤ length s.now) × (length s.now ≤ 262144) × (len ≤ length t.old) }
+fn run_line<W: Write>(to: &mut W, line: &[u8], t: &mut [u8], len: usize) -> io::Result<usize>
+    requires { len ≤ length t.old }
     ensures { IfOk result (λ k. k ≤ length t.new) }
 {
-    let b = casebook::find(s, a, e, b'\t');
-    if !scan::same(&s[a..b], b"open") {
-        run_call(to, s, a, e, &s[a..b], &mut t[..len])?;
-        return Ok(len);
+    match column(line, 0) {
+        b"open" => {
+            let mut request = [0u8; 512];
+            let n = casebook::bytes(line, 2, &mut request);
+            run_open(to, t, &request[..n], number(line, 3) as usize)
+        }
+        _ => {
+            run_call(to, line, &mut t[..len])?;
+            Ok(len)
+        }
     }
-    let mut request = [0u8; 512];
-    let n = casebook::bytes(s, a, e, 2, &mut request);
-    let k = number(s, a, e, 3);
-    run_open(to, t, &request[..n], k)
 }
 
-fn run_lines<W: Write>(to: &mut W, s: &[u8], t: &mut [u8]) -> io::Result<()>
-    requires { length s.now ≤ 262144 }
-{
-    let mut at = 0;
+fn run_lines<W: Write>(to: &mut W, text: &[u8], t: &mut [u8]) -> io::Result<()> {
     let mut len: usize = 0;
-    while at < s.len() {
-        let e = casebook::line_end(s, at);
-        casebook::say_column(to, s, at, e, 1)?;
+    for line in casebook::lines_of(text) {
+        say(to, column(line, 1))?;
         say(to, b": ")?;
-        len = run_line(to, s, at, e, t, len)?;
-        casebook::say_expected(to, s, at, e)?;
-        at = casebook::next_line(s, at);
+        len = run_line(to, line, t, len)?;
+        casebook::say_expected(to, line)?;
     }
     Ok(())
 }

@@ -1,4 +1,5 @@
 -- Laws of numbers in digits: one for each way out of the code, and the ranges that the crates above rely on.
+use Rattle.std.specs.Prelude.{Option, Some, None}
 use mathlib.Core.Path.{◌≡◌, refl, sym, ap, ◌∙◌}
 use mathlib.Core.List.{List, [], ◌∷◌}
 use mathlib.Core.Bool.{Bool, true, false, cond, not, ◌&&◌}
@@ -9,19 +10,17 @@ use native.Mathlib.Omega.{arith}
 use lib.ListN.{length, get_or, take, drop, drop_of_length-le, length-drop}
 use lib.Seq.{drop-cons, drop-drop, length-take-le, take_all, get_or-take, get_or-drop}
 use lib.Dec.{eqb, leb}
-use borrow.Author.Tests.{eqb-true, eqb-false, eq-eqb, ne_eqb, le-leb, lt-leb, leb-true, leb-false}
+use borrow.Author.Tests.{eqb-true, eqb-false, eq-eqb, ne_eqb, le-leb, leb-true, leb-false}
 use Rattle.scan.specs.Bytes.{byte_at, part, between, is_digit, run}
 use Rattle.scan.proofs.Laws.{both, in_range}
-use Rattle.digits.specs.declared.Number.{Number}
-use Rattle.digits.specs.declared.Number.TheVariants.{Value, NoNumber}
 use Rattle.digits.specs.Digits.{is_value, within, digits_after, digits, esercizio, numero, in_cents, zero_in_front, importo, progressivo, is_refusal}
 use Rattle.digits.specs.Inner.{zero_first, importo_back}
 
 -- INVERSIONS: what a number says of the tests that led to it
-never : {n : ℕ} {A : Type 0} → NoNumber ≡ Value n → A
+never : {n : ℕ} {A : Type 0} → ◌≡◌ {A = Option ℕ} (None) (Some n) → A
 never e = let z : ◌≡◌ {A = ℕ} 0 1 = cc in absurd (omega arith)
 
-cond_value : (b : Bool) (x : Number) {n : ℕ} → cond b x NoNumber ≡ Value n → (b ≡ true) × (x ≡ Value n)
+cond_value : (b : Bool) (x : Option ℕ) {n : ℕ} → cond b x None ≡ Some n → (b ≡ true) × (x ≡ Some n)
 cond_value true x e = (refl, e)
 cond_value false x e = never e
 
@@ -59,6 +58,13 @@ digit_range : (b : ℕ) → is_digit b ≡ true → (48 ≤ b) × (b ≤ 57)
 unfolding is_digit
 digit_range b = in_range 48 57 b
 
+pub digit_low : (b : ℕ) → is_digit b ≡ true → 48 ≤ b
+digit_low b d = (digit_range b d).0
+
+pub p10_small : (i : ℕ) → i < 9 → p10 i ≤ 100000000
+unfolding p10
+p10_small i h = p10_le i 8 (omega arith)
+
 -- one digit more keeps a number of i digits below 1 followed by i zeros, and in a word while there are at most nine
 pub record OneMore (b i v : ℕ) : Type 0 where
   pub low : 48 ≤ b
@@ -79,35 +85,26 @@ module _ (t : List ℕ) (i v : ℕ) where
   unfolding digits_after
   digits_more h e = rw (drop-cons t i 0 h, e, add-one)
 
-  pub digits_not : i < length t → is_digit (get_or t i 0) ≡ false → digits_after v (drop i t) ≡ NoNumber
+  pub digits_not : i < length t → is_digit (get_or t i 0) ≡ false → digits_after v (drop i t) ≡ None
   unfolding digits_after
   digits_not h e = rw (drop-cons t i 0 h, e)
 
-  pub digits_end : length t ≤ i → digits_after v (drop i t) ≡ Value v
+  pub digits_end : length t ≤ i → digits_after v (drop i t) ≡ Some v
   unfolding digits_after
   digits_end h = rw (drop_of_length-le t h)
 
-module _ (lo hi : ℕ) (t : List ℕ) where
-  pub digits_short : length t < lo → digits lo hi t ≡ NoNumber
-  unfolding digits
-  digits_short h = rw (lt-leb lo (length t) h)
-
-  pub digits_long : lo ≤ length t → hi < length t → digits lo hi t ≡ NoNumber
-  unfolding digits
-  digits_long h k = rw (le-leb lo (length t) h, lt-leb (length t) hi k)
-
-  pub digits_within : lo ≤ length t → length t ≤ hi → digits lo hi t ≡ digits_after 0 t
-  unfolding digits
-  digits_within h k = rw (le-leb lo (length t) h, le-leb (length t) hi k)
+pub digits_within : (lo hi : ℕ) (t : List ℕ) → lo ≤ length t → length t ≤ hi → digits lo hi t ≡ digits_after 0 t
+unfolding digits
+digits_within lo hi t h k = rw (le-leb lo (length t) h, le-leb (length t) hi k)
 
 -- n digits write less than 1 followed by n zeros
-digits_below : (t : List ℕ) (i v n : ℕ) → v < p10 i → digits_after v t ≡ Value n → n < p10 (i + length t)
+digits_below : (t : List ℕ) (i v n : ℕ) → v < p10 i → digits_after v t ≡ Some n → n < p10 (i + length t)
 unfolding digits_after
 digits_below [] i v n h e = let z : v ≡ n = cc in let y : i + 0 ≡ i = omega arith in rw (y, ← z) h
 digits_below (b ∷ t) i v n h e = go (is_digit b) refl e (digits_below t (i + 1))
   where
-    go : (k : Bool) → is_digit b ≡ k → cond k (digits_after (v * 10 + (b - 48)) t) NoNumber ≡ Value n
-        → ((v n : ℕ) → v < p10 (i + 1) → digits_after v t ≡ Value n → n < p10 (i + 1 + length t)) → n < p10 (i + suc (length t))
+    go : (k : Bool) → is_digit b ≡ k → cond k (digits_after (v * 10 + (b - 48)) t) None ≡ Some n
+        → ((v n : ℕ) → v < p10 (i + 1) → digits_after v t ≡ Some n → n < p10 (i + 1 + length t)) → n < p10 (i + suc (length t))
     go true d f ih =
         let r = digit_range b d in
         let q = p10_one i in
@@ -115,7 +112,7 @@ digits_below (b ∷ t) i v n h e = go (is_digit b) refl e (digits_below t (i + 1
         rw y at (ih (v * 10 + (b - 48)) n (omega arith) f)
     go false d f ih = never f
 
-pub digits_under : (lo hi : ℕ) (t : List ℕ) (n : ℕ) → digits lo hi t ≡ Value n → n < p10 hi
+pub digits_under : (lo hi : ℕ) (t : List ℕ) (n : ℕ) → digits lo hi t ≡ Some n → n < p10 hi
 unfolding digits
 digits_under lo hi t n e =
     let h = cond_value (between lo hi (length t)) (digits_after 0 t) e in
@@ -125,39 +122,39 @@ digits_under lo hi t n e =
     let l = p10_le (0 + length t) hi (omega arith) in
     omega arith
 
-pub digits_small : (lo hi : ℕ) (t : List ℕ) (n : ℕ) → hi ≤ 9 → digits lo hi t ≡ Value n → n < 1000000000
+pub digits_small : (lo hi : ℕ) (t : List ℕ) (n : ℕ) → hi ≤ 9 → digits lo hi t ≡ Some n → n < 1000000000
 digits_small lo hi t n h e = omega (arith, digits_under lo hi t n e, p10_le hi 9 h, p10_9)
 
 -- AMOUNTS
 
 -- what an amount's digits are asked for, once its length, its point and its first digit stand
-abbrev pub whole : List ℕ → Number
+abbrev pub whole : List ℕ → Option ℕ
 whole t = digits 1 9 (part t 0 (length t - 3))
 
-abbrev pub cents : List ℕ → Number
+abbrev pub cents : List ℕ → Option ℕ
 cents t = digits 2 2 (part t (length t - 2) (length t))
 
 -- BOTH WAYS TO TAKE AN AMOUNT APART are one: by the digits at its front, and from its end
 
-no_cents : (b : Bool) (w c : Number) → c ≡ NoNumber → cond b (in_cents w c) NoNumber ≡ NoNumber
-no_cents true (Value w) c e = rw e
-no_cents true NoNumber c e = refl
+no_cents : (b : Bool) (w c : Option ℕ) → c ≡ None → cond b (in_cents w c) None ≡ None
+no_cents true (Some w) c e = rw e
+no_cents true None c e = refl
 no_cents false w c e = refl
 
-no_whole : (b : Bool) (w c : Number) → w ≡ NoNumber → cond b (in_cents w c) NoNumber ≡ NoNumber
+no_whole : (b : Bool) (w c : Option ℕ) → w ≡ None → cond b (in_cents w c) None ≡ None
 no_whole true w c e = rw e
 no_whole false w c e = refl
 
 -- a text of another length than lo to hi is no number
-digits_sized : (lo hi : ℕ) (t : List ℕ) → between lo hi (length t) ≡ false → digits lo hi t ≡ NoNumber
+digits_sized : (lo hi : ℕ) (t : List ℕ) → between lo hi (length t) ≡ false → digits lo hi t ≡ None
 unfolding digits
 digits_sized lo hi t e = rw e
 
-digits_broken : (lo hi : ℕ) (t : List ℕ) → digits_after 0 t ≡ NoNumber → digits lo hi t ≡ NoNumber
+digits_broken : (lo hi : ℕ) (t : List ℕ) → digits_after 0 t ≡ None → digits lo hi t ≡ None
 unfolding digits
 digits_broken lo hi t e = go (between lo hi (length t))
   where
-    go : (b : Bool) → cond b (digits_after 0 t) NoNumber ≡ NoNumber
+    go : (b : Bool) → cond b (digits_after 0 t) None ≡ None
     go true = e
     go false = refl
 
@@ -180,14 +177,14 @@ run_digit (b ∷ t) p h = go (is_digit b) refl p h (run_digit t)
     go true e (suc p) h ih = ih p (omega arith)
     go false e p h ih = absurd (omega arith)
 
-past_run : (t : List ℕ) (p v : ℕ) → run is_digit t < p → p ≤ length t → digits_after v (take p t) ≡ NoNumber
+past_run : (t : List ℕ) (p v : ℕ) → run is_digit t < p → p ≤ length t → digits_after v (take p t) ≡ None
 unfolding run digits_after
 past_run t zero v h l = absurd (omega arith)
 past_run [] (suc p) v h l = absurd (omega arith)
 past_run (b ∷ t) (suc p) v h l = go (is_digit b) h (past_run t p (v * 10 + (b - 48)))
   where
-    go : (x : Bool) → cond x (suc (run is_digit t)) 0 < suc p → (run is_digit t < p → p ≤ length t → digits_after (v * 10 + (b - 48)) (take p t) ≡ NoNumber)
-        → cond x (digits_after (v * 10 + (b - 48)) (take p t)) NoNumber ≡ NoNumber
+    go : (x : Bool) → cond x (suc (run is_digit t)) 0 < suc p → (run is_digit t < p → p ≤ length t → digits_after (v * 10 + (b - 48)) (take p t) ≡ None)
+        → cond x (digits_after (v * 10 + (b - 48)) (take p t)) None ≡ None
     go true h ih = ih (omega arith) (omega arith)
     go false h ih = refl
 
@@ -232,12 +229,12 @@ module _ (t : List ℕ) (n : ℕ) (r : run is_digit t ≡ n) where
   unfolding importo
   fits_not l h =
       let m : length (take n t) ≡ n = length-take-le n t (omega arith) in
-      let w : digits 1 9 (take n t) ≡ NoNumber = digits_sized 1 9 (take n t) (rw m (outside 1 9 n h)) in
+      let w : digits 1 9 (take n t) ≡ None = digits_sized 1 9 (take n t) (rw m (outside 1 9 n h)) in
       let b = outside 4 12 (length t) (λ k. h (omega arith, omega arith)) in
       rw (r, b) (no_whole (eqb (byte_at (drop n t) 0) 46 && not (zero_in_front (take n t))) (digits 1 9 (take n t)) (digits 2 2 (drop 1 (drop n t))) w)
 
   -- elsewhere
-  front_not : (length t ≡ n + 3 → ⊥) → importo t ≡ NoNumber
+  front_not : (length t ≡ n + 3 → ⊥) → importo t ≡ None
   unfolding importo
   front_not h =
       let k : length (drop 1 (drop n t)) ≡ length t - (n + 1) = ap length (drop-drop 1 n t) ∙ length-drop (n + 1) t in
@@ -245,12 +242,12 @@ module _ (t : List ℕ) (n : ℕ) (r : run is_digit t ≡ n) where
       rw r (no_cents (eqb (byte_at (drop n t) 0) 46 && not (zero_in_front (take n t))) (digits 1 9 (take n t)) (digits 2 2 (drop 1 (drop n t)))
       (digits_sized 2 2 (drop 1 (drop n t)) (outside 2 2 (length (drop 1 (drop n t))) (λ b. h (omega arith)))))
 
-  back_not : (length t ≡ n + 3 → ⊥) → (x : Bool) → between 4 12 (length t) ≡ x → (y : Bool) → leb n (length t - 3) ≡ y → importo_back t ≡ NoNumber
+  back_not : (length t ≡ n + 3 → ⊥) → (x : Bool) → between 4 12 (length t) ≡ x → (y : Bool) → leb n (length t - 3) ≡ y → importo_back t ≡ None
   back_not h false e y f = rw e
   back_not h true e true f =
       let k = in_range 4 12 (length t) e in
       let u : length t - 3 - 0 ≡ length t - 3 = omega arith in
-      let w : whole t ≡ NoNumber =
+      let w : whole t ≡ None =
       rw u (digits_broken 1 9 (take (length t - 3) t) (past_run t (length t - 3) 0 (omega (arith, leb-true n (length t - 3) f)) (omega arith))) in
       no_whole (between 4 12 (length t) && (eqb (byte_at t (length t - 3)) 46 && not (zero_first t))) (whole t) (cents t) w
   back_not h true e false f =
@@ -258,8 +255,8 @@ module _ (t : List ℕ) (n : ℕ) (r : run is_digit t ≡ n) where
       let c = digit_range (byte_at t (length t - 3)) d in
       rw (e, ne_eqb (byte_at t (length t - 3)) 46 (λ z. omega arith))
 
-importo_back_lem : (t : List ℕ) → importo t ≡ importo_back t
-importo_back_lem t = go (run is_digit t) refl (eqb (length t) (run is_digit t + 3)) refl (between 1 9 (run is_digit t)) refl
+pub importo_is_back : (t : List ℕ) → importo t ≡ importo_back t
+importo_is_back t = go (run is_digit t) refl (eqb (length t) (run is_digit t + 3)) refl (between 1 9 (run is_digit t)) refl
   where
     go : (n : ℕ) → run is_digit t ≡ n → (x : Bool) → eqb (length t) (run is_digit t + 3) ≡ x → (y : Bool) → between 1 9 (run is_digit t) ≡ y → importo t ≡ importo_back t
     go n r true e true f = let k = in_range 1 9 (run is_digit t) f in fits_front t n r (eqb-true (length t) (run is_digit t + 3) e ∙ ap (λ (i : ℕ). i + 3) r) (omega arith) (omega arith)
@@ -268,64 +265,49 @@ importo_back_lem t = go (run is_digit t) refl (eqb (length t) (run is_digit t + 
         let h : length t ≡ n + 3 → ⊥ = λ l. eqb-false (length t) (run is_digit t + 3) e (l ∙ ap (λ (i : ℕ). i + 3) (sym r)) in
         front_not t n r h ∙ sym (back_not t n r h (between 4 12 (length t)) refl (leb n (length t - 3)) refl)
 
-module _ (t : List ℕ) where
-  pub importo_short : length t < 4 → importo t ≡ NoNumber
-  importo_short h = importo_back_lem t ∙ rw (lt-leb 4 (length t) h)
-
-  module _ (a : 4 ≤ length t) where
-    pub importo_long : 12 < length t → importo t ≡ NoNumber
-    importo_long h = importo_back_lem t ∙ rw (le-leb 4 (length t) a, lt-leb (length t) 12 h)
-
-    module _ (b : length t ≤ 12) where
-      pub importo_no_point : (byte_at t (length t - 3) ≡ 46 → ⊥) → importo t ≡ NoNumber
-      importo_no_point h = importo_back_lem t ∙ rw (le-leb 4 (length t) a, le-leb (length t) 12 b, ne_eqb (byte_at t (length t - 3)) 46 h)
-
-      module _ (p : byte_at t (length t - 3) ≡ 46) where
-        pub importo_zero : zero_first t ≡ true → importo t ≡ NoNumber
-        importo_zero h = importo_back_lem t ∙ rw (le-leb 4 (length t) a, le-leb (length t) 12 b, eq-eqb (byte_at t (length t - 3)) 46 p, h)
-
-        pub importo_cents : {w c : Number} → zero_first t ≡ false → whole t ≡ w → cents t ≡ c → importo t ≡ in_cents w c
-        importo_cents h ew ec = importo_back_lem t ∙ rw (le-leb 4 (length t) a, le-leb (length t) 12 b, eq-eqb (byte_at t (length t - 3)) 46 p, h, ew, ec)
+module _ (t : List ℕ) (a : 4 ≤ length t) (b : length t ≤ 12) (p : byte_at t (length t - 3) ≡ 46) where
+  pub importo_cents : {w c : Option ℕ} → zero_first t ≡ false → whole t ≡ w → cents t ≡ c → importo t ≡ in_cents w c
+  importo_cents h ew ec = importo_is_back t ∙ rw (le-leb 4 (length t) a, le-leb (length t) 12 b, eq-eqb (byte_at t (length t - 3)) 46 p, h, ew, ec)
 
 -- RANGES of the values that fields give
 
-within_range : (lo hi : ℕ) (x : Number) {n : ℕ} → within (between lo hi) x ≡ Value n → (lo ≤ n) × (n ≤ hi)
-within_range lo hi (Value v) {n} e =
-    let h = cond_value (between lo hi v) (Value v) e in
+within_range : (lo hi : ℕ) (x : Option ℕ) {n : ℕ} → within (between lo hi) x ≡ Some n → (lo ≤ n) × (n ≤ hi)
+within_range lo hi (Some v) {n} e =
+    let h = cond_value (between lo hi v) (Some v) e in
     let z : v ≡ n = let f = h.1 in cc in
     rw z at (in_range lo hi v h.0)
-within_range lo hi NoNumber e = never e
+within_range lo hi None e = never e
 
-pub esercizio_range : (t : List ℕ) {n : ℕ} → esercizio t ≡ Value n → (2000 ≤ n) × (n ≤ 2099)
+pub esercizio_range : (t : List ℕ) {n : ℕ} → esercizio t ≡ Some n → (2000 ≤ n) × (n ≤ 2099)
 unfolding esercizio
 esercizio_range t = within_range 2000 2099 (digits 4 4 t)
 
-pub numero_range : (t : List ℕ) {n : ℕ} → numero t ≡ Value n → (1 ≤ n) × (n ≤ 9999999)
+pub numero_range : (t : List ℕ) {n : ℕ} → numero t ≡ Some n → (1 ≤ n) × (n ≤ 9999999)
 unfolding numero
 numero_range t = within_range 1 9999999 (digits 1 7 t)
 
-pub progressivo_range : (t : List ℕ) {n : ℕ} → progressivo t ≡ Value n → n < 1000
+pub progressivo_range : (t : List ℕ) {n : ℕ} → progressivo t ≡ Some n → n < 1000
 unfolding progressivo p10
 progressivo_range t {n} = digits_under 1 3 t n
 
-pub importo_range : (t : List ℕ) {n : ℕ} → importo t ≡ Value n → n < 100000000000
+pub importo_range : (t : List ℕ) {n : ℕ} → importo t ≡ Some n → n < 100000000000
 unfolding p10
 importo_range t {n} e =
     let stands = between 4 12 (length t) && (eqb (byte_at t (length t - 3)) 46 && not (zero_first t)) in
-    go (whole t) (cents t) (digits_under 1 9 _) (digits_under 2 2 _) (cond_value stands (in_cents (whole t) (cents t)) (sym (importo_back_lem t) ∙ e)).1
+    go (whole t) (cents t) (digits_under 1 9 _) (digits_under 2 2 _) (cond_value stands (in_cents (whole t) (cents t)) (sym (importo_is_back t) ∙ e)).1
   where
-    go : (w c : Number) → ((n : ℕ) → w ≡ Value n → n < p10 9) → ((n : ℕ) → c ≡ Value n → n < p10 2) → in_cents w c ≡ Value n → n < 100000000000
-    go (Value w) (Value c) f g e =
+    go : (w c : Option ℕ) → ((n : ℕ) → w ≡ Some n → n < p10 9) → ((n : ℕ) → c ≡ Some n → n < p10 2) → in_cents w c ≡ Some n → n < 100000000000
+    go (Some w) (Some c) f g e =
         let z : w * 100 + c ≡ n = cc in
         let a = f w refl in
         let b = g c refl in
         omega arith
-    go (Value w) NoNumber f g e = never e
-    go NoNumber c f g e = never e
+    go (Some w) None f g e = never e
+    go None c f g e = never e
 
 -- HOW LONG a text of a form is
 
-cond_is : (b : Bool) (x : Number) → is_value (cond b x NoNumber) ≡ true → b ≡ true
+cond_is : (b : Bool) (x : Option ℕ) → is_value (cond b x None) ≡ true → b ≡ true
 cond_is true x e = refl
 cond_is false x e = e
 
@@ -336,7 +318,7 @@ digits_length lo hi t e = in_range lo hi (length t) (cond_is (between lo hi (len
 pub importo_length : (t : List ℕ) → is_value (importo t) ≡ true → (4 ≤ length t) × (length t ≤ 12)
 importo_length t e =
     let stands = eqb (byte_at t (length t - 3)) 46 && not (zero_first t) in
-    let b = cond_is (between 4 12 (length t) && stands) (in_cents (whole t) (cents t)) (ap is_value (sym (importo_back_lem t)) ∙ e) in
+    let b = cond_is (between 4 12 (length t) && stands) (in_cents (whole t) (cents t)) (ap is_value (sym (importo_is_back t)) ∙ e) in
     in_range 4 12 (length t) (both (between 4 12 (length t)) stands b).0
 
 -- THE CODES OF A REFUSED ORDER

@@ -10,22 +10,13 @@ pub enum Edition {
     Opi,
 }
 
-// What a number names.
-#[derive(Clone, Copy)]
-pub enum Edited {
-    By(Edition),
-    NoEdition,
-}
-
 // The edition of a number of any size: nothing is cut before it is compared.
-pub fn edition_of(n: u64) -> Edited
+pub fn edition_of(n: u64) -> Option<Edition>
     ensures { result ≡ edition_of n }
 {
-    if n == 1 {
-        return Edited::By(Edition::Oil);
+    match n {
+        1 => Some(Edition::Oil),
+        2 => Some(Edition::Opi),
+        _ => None,
     }
-    if n == 2 {
-        return Edited::By(Edition::Opi);
-    }
-    Edited::NoEdition
 }

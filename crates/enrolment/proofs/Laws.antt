@@ -5,8 +5,8 @@ use mathlib.Core.List.{List, [], ◌∷◌, ◌++◌, map, map-append}
 use mathlib.Core.Path.{◌≡◌, refl, sym, ap, ◌∙◌}
 use native.Mathlib.Numerals.{add-one}
 use native.Mathlib.Omega.{arith}
-use lib.ListN.{length, get_or, take, drop, set, length-drop}
-use lib.Seq.{take-suc, take-suc-set, drop-cons, get_or-drop}
+use lib.ListN.{length, get_or, take, set}
+use lib.Seq.{take-suc-set, drop-cons}
 use lib.Dec.{leb}
 use borrow.Author.Tests.{leb-true, le-leb}
 use Rattle.scan.specs.Bytes.{part}
@@ -20,13 +20,10 @@ use Rattle.entries.specs.Entry.{entry_size, code_length, code_at, slots_of, plac
 use Rattle.table.specs.Table.{table2, head_size, bodies, abi_of, table_ok, entry_of}
 use Rattle.table.proofs.Laws.{Head, head, table}
 use Rattle.training.specs.Training.{places}
-use Rattle.plain.specs.Plain.{Listed, Plain}
-use Rattle.plain.specs.Says.{listed_at, listed_from, plain_of, each_entry, small, unclosed}
+use Rattle.plain.specs.Plain.{Listed}
+use Rattle.plain.specs.Says.{listed_at, listed_from, each_entry, small}
 use Rattle.room.specs.declared.Seat.{Seat}
 use Rattle.room.specs.Room.{listed}
-use Rattle.enrolment.specs.declared.Enrolled.{Enrolled}
-use Rattle.enrolment.specs.declared.Enrolled.TheVariants.{Ready, InvalidTable, TooLarge, YearClosed}
-use Rattle.enrolment.specs.Enrolment.{enrols, room_by, empty_room, EnrolPromise}
 
 -- FILLED FROM THE FRONT: one element more
 filled_more : {A : Type 0} (f : ℕ → List A) (l : List A) (i : ℕ) (x : A) → i < length l → take i l ≡ f i → f (suc i) ≡ f i ++ x ∷ [] → take (i + 1) (set l i x) ≡ f (i + 1)
@@ -52,18 +49,6 @@ module _ (t : List ℕ) (base : ℕ) where
 
   pub orders_few : (n u : ℕ) → u ≡ used_at t base n → u ≤ n
   orders_few n u q = omega (arith, used_le t base n)
-
--- ITS CODE
-module _ (t : List ℕ) (a : ℕ) where
-  pub code_more : (l : List ℕ) (i : ℕ) → i < length l → a + i < length t → take i l ≡ take i (drop a t) → take (i + 1) (set l i (get_or t (a + i) 0)) ≡ take (i + 1) (drop a t)
-  code_more l i h k e =
-      filled_more (λ n. take n (drop a t)) l i (get_or t (a + i) 0) h e
-      (take-suc (drop a t) i 0 (omega (arith, length-drop a t)) ∙ ap (λ (x : ℕ). take i (drop a t) ++ x ∷ []) (get_or-drop a t i 0))
-
-  pub code_all : (l : List ℕ) (i n : ℕ) → i ≤ n → n ≤ i → take i l ≡ take i (drop a t) → take n l ≡ part t a (a + n)
-  code_all l i n x y e =
-      let z : n ≡ a + n - a = omega arith in
-      filled_all (λ n. take n (drop a t)) l i n x y e ∙ ap (λ (k : ℕ). take k (drop a t)) z
 
 -- THE BODY of an entry: its size, slots and place are read
 pub seat_says : (t : List ℕ) (e : ℕ) (code : List ℕ) {size slots place : ℕ} {rs : List Record} → size ≡ code_length t e → slots ≡ slots_of t e → place ≡ place_of t e
@@ -161,22 +146,3 @@ seats_all t ps b n q x y e =
 -- THE BANK'S DIGITS
 pub abi_is : (t : List ℕ) → 13 ≤ length t → get_or t 8 0 ∷ get_or t 9 0 ∷ get_or t 10 0 ∷ get_or t 11 0 ∷ get_or t 12 0 ∷ [] ≡ abi_of t
 abi_is t h = sym (rw (drop-cons t 8 0 (omega arith), drop-cons t 9 0 (omega arith), drop-cons t 10 0 (omega arith), drop-cons t 11 0 (omega arith), drop-cons t 12 0 (omega arith)))
-
--- WHAT IS TOLD, a way out of the code at a time
-told_by : (t : List ℕ) {told : Enrolled} {s : Plain} → told ≡ enrols t → s ≡ room_by t told → EnrolPromise t told s
-told_by t q e = (q, e ∙ ap (room_by t) q)
-
-module _ (t : List ℕ) {s : Plain} where
-  pub enrol_invalid : table_ok t ≡ false → s ≡ empty_room → EnrolPromise t InvalidTable s
-  enrol_invalid h = told_by t (rw h)
-
-  module _ (ok : table_ok t ≡ true) where
-    pub enrol_large : small t ≡ false → s ≡ empty_room → EnrolPromise t TooLarge s
-    enrol_large h = told_by t (rw (ok, h))
-
-    module _ (few : small t ≡ true) where
-      pub enrol_closed : unclosed t ≡ false → s ≡ empty_room → EnrolPromise t YearClosed s
-      enrol_closed h = told_by t (rw (ok, few, h))
-
-      pub enrol_ready : unclosed t ≡ true → s ≡ plain_of t → EnrolPromise t Ready s
-      enrol_ready h = told_by t (rw (ok, few, h))

@@ -19,14 +19,16 @@ use record::Record;
 use room::{Room, Seat};
 use training::Book;
 
-// What is told of a table.
+// Why a table is not taken.
 #[derive(Clone, Copy)]
-pub enum Enrolled {
-    Ready,
+pub enum EnrolRefusal {
     InvalidTable,
     TooLarge,
     YearClosed,
 }
+
+// What is told of a table.
+pub type Enrolled = Result<(), EnrolRefusal>;
 
 // What is told, and the room; one without bodies where the table is refused.
 #[derive(Clone, Copy)]
@@ -36,18 +38,17 @@ pub struct Enrolment {
 }
 
 fn no_record() -> Record {
-    let date = Date {
-        year: 0,
-        month: 0,
-        day: 0,
-    };
     Record {
         kind: 0,
         state: 0,
         lines: 0,
         esercizio: 0,
         number: 0,
-        date,
+        date: Date {
+            year: 0,
+            month: 0,
+            day: 0,
+        },
         total: 0,
         states: [0; 8],
         amounts: [0; 8],
@@ -61,10 +62,8 @@ fn book_of(t: &[u8], base: usize, n: usize) -> Book
 {
     let used = slots::used_slots(t, base, n);
     let mut records = [no_record(); 32];
-    let mut i = 0;
-    while i < used {
+    for i in 0..used {
         records[i] = record::record_at(t, base + record::SLOT * i);
-        i += 1;
     }
     Book {
         count: used,
@@ -78,11 +77,7 @@ fn code_of(t: &[u8], e: usize, size: usize) -> [u8; 16]
     ensures { take size result ≡ part t.now (e + 1) (e + 1 + size) }
 {
     let mut code = [0u8; 16];
-    let mut i = 0;
-    while i < size {
-        code[i] = t[e + 1 + i];
-        i += 1;
-    }
+    code[..size].copy_from_slice(&t[e + 1..e + 1 + size]);
     code
 }
 
@@ -107,13 +102,10 @@ fn all_small(t: &[u8]) -> bool
     requires { table_ok t.now ≡ true }
     ensures { result ≡ small t.now }
 {
-    let n = table::body_count(t);
-    let mut b = 0;
-    while b < n {
+    for b in 0..table::body_count(t) {
         if training::PLACES < entries::slots_of(t, table::HEAD + entries::ENTRY * b) {
             return false;
         }
-        b += 1;
     }
     true
 }
@@ -123,13 +115,10 @@ fn none_closed(t: &[u8]) -> bool
     requires { table_ok t.now ≡ true }
     ensures { result ≡ unclosed t.now }
 {
-    let n = table::body_count(t);
-    let mut b = 0;
-    while b < n {
+    for b in 0..table::body_count(t) {
         if entries::closed_of(t, table::HEAD + entries::ENTRY * b) != 0 {
             return false;
         }
-        b += 1;
     }
     true
 }
@@ -169,12 +158,9 @@ fn seated(t: &[u8]) -> Room
     ensures { room_of result ≡ plain_of t.now }
 {
     let n = table::body_count(t);
-    let none = empty_room();
-    let mut seats = none.seats;
-    let mut b = 0;
-    while b < n {
+    let mut seats = empty_room().seats;
+    for b in 0..n {
         seats[b] = seat_of(t, table::HEAD + entries::ENTRY * b);
-        b += 1;
     }
     Room {
         abi: abi_of(t),
@@ -183,30 +169,30 @@ fn seated(t: &[u8]) -> Room
     }
 }
 
+fn refused(told: Enrolled) -> Enrolment
+    ensures { (result.told ≡ told) × (room_of result.room ≡ empty_room) }
+{
+    Enrolment {
+        told,
+        room: empty_room(),
+    }
+}
+
 // The room of a table, on any bytes at all.
 pub fn room_of(t: &[u8]) -> Enrolment
     ensures { EnrolPromise t.now result.told (room_of result.room) }
 {
     if !table::table_ok(t) {
-        return Enrolment {
-            told: Enrolled::InvalidTable,
-            room: empty_room(),
-        };
+        return refused(Err(EnrolRefusal::InvalidTable));
     }
     if !all_small(t) {
-        return Enrolment {
-            told: Enrolled::TooLarge,
-            room: empty_room(),
-        };
+        return refused(Err(EnrolRefusal::TooLarge));
     }
     if !none_closed(t) {
-        return Enrolment {
-            told: Enrolled::YearClosed,
-            room: empty_room(),
-        };
+        return refused(Err(EnrolRefusal::YearClosed));
     }
     Enrolment {
-        told: Enrolled::Ready,
+        told: Ok(()),
         room: seated(t),
     }
 }

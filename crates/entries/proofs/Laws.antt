@@ -1,25 +1,36 @@
 -- Laws of entries, an entry at a time.
+use Rattle.std.specs.Prelude.{Some, None}
 use mathlib.Core.Path.{◌≡◌, ap, ◌∙◌}
 use mathlib.Core.List.{List, ◌++◌}
 use mathlib.Core.Bool.{true, false, ◌&&◌}
 use Prim.Native.Nat.{ℕ, suc, ◌+◌, ◌-◌, ◌*◌, ◌≤◌, ◌<◌}
-use native.Mathlib.Nat.{mul-suc}
+use native.Mathlib.Nat.{mul-suc, mul-add}
+use native.Mathlib.Numerals.{add-one}
 use native.Mathlib.Omega.{arith}
 use lib.ListN.{length, get_or}
 use lib.Dec.{leb}
-use borrow.Author.Tests.{leb-true, le-leb, lt-leb, eq-eqb, ne_eqb}
+use borrow.Author.Tests.{leb-true, le-leb}
 use Rattle.scan.specs.Bytes.{between, part, all, is_alnum, text_is}
 use Rattle.scan.proofs.Laws.{both}
 use Rattle.words.specs.Numbers.{put, bytes8}
 use Rattle.words.proofs.Laws.{put_put}
 use Rattle.ranges.specs.Ranges.{zeros, is_nothing}
-use Rattle.ranges.specs.declared.Found.TheVariants.{At, Nothing}
 use Rattle.bounds.specs.Bounds.{max_code, is_code, max_slots}
-use Rattle.entries.specs.Entry.{entry_fixed, closed_place, kept_bytes, code_length, code_at, slots_of, closed_ok, form_ok, forms_ok, codes_from, slots_from, find_code, distinct_codes}
+use Rattle.entries.specs.Entry.{entry_fixed, closed_place, kept_bytes, code_length, code_at, slots_of, form_ok, forms_ok, codes_from, slots_from, find_code, distinct_codes}
 
 -- room for one entry more
 pub times : (size k m : ℕ) → k ≡ suc m → size * k ≡ size + size * m
 times size k m e = ap (λ (x : ℕ). size * x) e ∙ mul-suc size m ∙ omega arith
+
+-- the entry at an index, among n: where the next one stands, and what is left
+module _ (size first n i : ℕ) where
+  pub at_next : first + size * i + size ≡ first + size * (i + 1)
+  at_next = omega (arith, times size (i + 1) i (add-one i))
+
+  pub has_room : i < n → size * i + size + size * (n - (i + 1)) ≡ size * n
+  has_room h =
+      let q : i + 1 + (n - (i + 1)) ≡ n = omega arith in
+      omega (arith, times size (i + 1) i (add-one i), mul-add size (i + 1) (n - (i + 1)), ap (λ (k : ℕ). size * k) q)
 
 -- a neighbour is put after what was put
 pub put_next : (s : List ℕ) (at : ℕ) (v w : List ℕ) (n : ℕ) {t u : List ℕ} → at ≤ length s → at + length v ≡ n → t ≡ put s at v → u ≡ put t n w → u ≡ put s at (v ++ w)
@@ -31,17 +42,6 @@ unfolding kept_bytes
 settled_by s t u at paid collected h e f = put_next s (at + 24) (bytes8 paid) (bytes8 collected) (at + 32) (omega arith) (omega arith) e f
 
 -- A CLOSED YEAR, a way out of the code at a time
-module _ (year : ℕ) where
-  pub closed_none : year ≡ 0 → closed_ok year ≡ true
-  closed_none e = rw (eq-eqb year 0 e)
-
-  module _ (n : year ≡ 0 → ⊥) where
-    pub closed_early : year < 2000 → closed_ok year ≡ false
-    closed_early h = rw (ne_eqb year 0 n, lt-leb 2000 year h)
-
-    pub closed_late : 2000 ≤ year → closed_ok year ≡ leb year 2099
-    closed_late h = rw (ne_eqb year 0 n, le-leb 2000 year h)
-
 -- FORM: what the tests of a form say
 pub record Form (t : List ℕ) (at : ℕ) : Type 0 where
   pub some : 1 ≤ code_length t at
@@ -70,32 +70,10 @@ form t at e =
 
 -- form_ok, a way out of the code at a time: n is the length read
 module _ (t : List ℕ) (at n : ℕ) (e : n ≡ get_or t at 0) where
-  pub form_empty : n < 1 → form_ok t at ≡ false
-  unfolding form_ok
-  form_empty h = rw (← e, lt-leb 1 n h)
-
-  pub form_long : max_code < n → form_ok t at ≡ false
-  unfolding form_ok
-  form_long h = rw (← e, le-leb 1 n (omega arith), lt-leb n max_code h)
-
   module _ (lo : 1 ≤ n) (hi : n ≤ max_code) where
     pub form_code : all is_alnum (part t (at + 1) (at + 1 + n)) ≡ false → form_ok t at ≡ false
     unfolding form_ok code_at
     form_code h = rw (← e, le-leb 1 n lo, le-leb n max_code hi, h)
-
-    module _ (a : all is_alnum (part t (at + 1) (at + 1 + n)) ≡ true) where
-      pub form_pad : zeros t (at + 1 + n) (at + 18) ≡ false → form_ok t at ≡ false
-      unfolding form_ok code_at
-      form_pad h = rw (← e, le-leb 1 n lo, le-leb n max_code hi, a, h)
-
-      module _ (z : zeros t (at + 1 + n) (at + 18) ≡ true) (s : ℕ) (f : s ≡ slots_of t at) where
-        pub form_none : s < 1 → form_ok t at ≡ false
-        unfolding form_ok code_at
-        form_none h = rw (← e, ← f, le-leb 1 n lo, le-leb n max_code hi, a, z, lt-leb 1 s h)
-
-        pub form_slots : 1 ≤ s → form_ok t at ≡ leb s max_slots
-        unfolding form_ok code_at
-        form_slots h = rw (← e, ← f, le-leb 1 n lo, le-leb n max_code hi, a, z, le-leb 1 s h)
 
 -- FORMS, CODES: the first of k = m + 1
 module _ (size : ℕ) (t : List ℕ) (at k m : ℕ) (e : k ≡ suc m) where
@@ -115,7 +93,7 @@ module _ (size : ℕ) (t : List ℕ) (at k m : ℕ) (e : k ≡ suc m) where
   unfolding slots_from
   slots_more = rw e
 
-  pub find_hit : (i : ℕ) (c : List ℕ) → text_is (code_at t at) c ≡ true → find_code (codes_from size t at k) i c ≡ At i
+  pub find_hit : (i : ℕ) (c : List ℕ) → text_is (code_at t at) c ≡ true → find_code (codes_from size t at k) i c ≡ Some i
   unfolding find_code codes_from
   find_hit i c h = rw (e, h)
 
@@ -140,7 +118,7 @@ module _ (size : ℕ) (t : List ℕ) (at k : ℕ) (h : k ≤ 0) where
   unfolding slots_from
   slots_done = let e : k ≡ 0 = omega arith in rw e
 
-  pub find_done : (i : ℕ) (c : List ℕ) → find_code (codes_from size t at k) i c ≡ Nothing
+  pub find_done : (i : ℕ) (c : List ℕ) → find_code (codes_from size t at k) i c ≡ None
   unfolding find_code codes_from
   find_done i c = let e : k ≡ 0 = omega arith in rw e
 

@@ -1,12 +1,10 @@
 -- A body's entry (document 01, "The table", with document 02, Req 04 and 14), and bodies told apart by their codes. A request's 20 bytes per body are an
 -- entry's bytes 0 to 19.
-use Rattle.std.specs.Prelude.{ℕ, zero, suc, ◌+◌, ◌-◌, ◌*◌, Bool, true, ◌&&◌, ◌||◌, cond, List, [], ◌∷◌, ◌++◌, get_or, eqb}
+use Rattle.std.specs.Prelude.{ℕ, zero, suc, ◌+◌, ◌-◌, ◌*◌, Bool, true, ◌&&◌, ◌||◌, cond, List, [], ◌∷◌, ◌++◌, get_or, eqb, Option, Some, None}
 use Rattle.scan.specs.Bytes.{between, part, text_is}
 use Rattle.bounds.specs.Bounds.{is_year, is_code, max_slots}
 use Rattle.words.specs.Numbers.{be2, be4, be8, bytes8}
 use Rattle.ranges.specs.Ranges.{zeros, is_nothing}
-use Rattle.ranges.specs.declared.Found.{Found}
-use Rattle.ranges.specs.declared.Found.TheVariants.{At, Nothing}
 
 -- "Entries grow to 48 bytes" (02, Req 04)
 abbrev pub entry_size : ℕ
@@ -86,9 +84,9 @@ slots_from size t at zero = 0
 slots_from size t at (suc n) = slots_of t at + slots_from size t (at + size) n
 
 -- the first of the codes that is this one, byte by byte and of the same length; i is the first code's index
-unfoldable pub find_code : List (List ℕ) → ℕ → List ℕ → Found
-find_code [] i c = Nothing
-find_code (x ∷ xs) i c = cond (text_is x c) (At i) (find_code xs (i + 1) c)
+unfoldable pub find_code : List (List ℕ) → ℕ → List ℕ → Option ℕ
+find_code [] i c = None
+find_code (x ∷ xs) i c = cond (text_is x c) (Some i) (find_code xs (i + 1) c)
 
 -- "Codes are distinct"
 unfoldable pub distinct_codes : List (List ℕ) → Bool

@@ -1,4 +1,5 @@
 -- Document 02's sentences on causes, proved.
+use Rattle.std.specs.Prelude.{Some, None, Err}
 use Prim.Native.Nat.{ℕ, ◌≤◌, ◌<◌}
 use mathlib.Core.Path.{◌≡◌, refl, ap, ◌∙◌}
 use mathlib.Core.List.{List}
@@ -13,16 +14,12 @@ use Rattle.bounds.specs.Bounds.{is_numero}
 use Rattle.ranges.specs.Ranges.{is_identifying}
 use Rattle.calendar.specs.declared.Date.{Date}
 use Rattle.calendar.specs.Calendar.{leap, month_length, is_date}
-use Rattle.codes.specs.declared.Asked.TheVariants.{NoOperation}
 use Rattle.codes.specs.Codes.{codice_abi, identificativo, codice_ente, tipo_operazione, is_asked, length_in, accepted_word, refused_word, esito_operazione}
-use Rattle.digits.specs.declared.Number.TheVariants.{Value}
 use Rattle.digits.specs.Digits.{digits_after, digits, zero_in_front, is_value, value_is, esercizio, numero_written, numero, importo, progressivo, codice_errore}
-use Rattle.dates.specs.declared.Day.TheVariants.{On}
 use Rattle.dates.specs.Dates.{is_on, day_is, data_written, data_of, clock, signs, data_ora_written, data_ora_within, data_ora, zone_signs, zona_by, data_ora_zona}
 use Rattle.names.specs.Names.{replaced_after, characters_after, anagrafica}
 use Rattle.fields.specs.declared.Form.{Form}
 use Rattle.fields.specs.declared.Form.TheVariants.{CodiceAbi, Identificativo, DataOra, CodiceEnte, Esercizio, TipoOperazione, Numero, Data, Importo, Progressivo, Anagrafica, DataOraZona, Testo, EsitoOperazione, CodiceErrore, Descrizione, Elemento}
-use Rattle.fields.specs.declared.Reading.TheVariants.{Breaks}
 use Rattle.fields.specs.declared.Cause.{Cause}
 use Rattle.fields.specs.declared.Cause.TheVariants.{Empty, Long, Misformed, OutOfRange}
 use Rattle.fields.specs.Causes.{cause_number, formed, in_range, applies}
@@ -31,7 +28,7 @@ use Rattle.fields.specs.Sentences.{Reached, Sentences}
 use Rattle.fields.proofs.Told.{formed_sized, tells}
 
 -- a text of the right form whose value is out of range is told so
-out_of_range : (f : Form) (t : List ℕ) → formed f t ≡ true → in_range f t ≡ false → reading_of f t ≡ Breaks OutOfRange
+out_of_range : (f : Form) (t : List ℕ) → formed f t ≡ true → in_range f t ≡ false → reading_of f t ≡ Err OutOfRange
 out_of_range f t e r = (tells f t).first_told OutOfRange (record { it_applies = rw (e, r) refl; none_before = before })
   where
     before : (v : Cause) → cause_number v < 4 → applies v f t ≡ false
@@ -40,15 +37,15 @@ out_of_range f t e r = (tells f t).first_told OutOfRange (record { it_applies = 
     before Misformed h = ap not e
     before OutOfRange h = absurd (omega arith)
 
-unreal : (t : List ℕ) (d : Date) → data_written t ≡ On d → is_date d ≡ false → reading_of Data t ≡ Breaks OutOfRange
+unreal : (t : List ℕ) (d : Date) → data_written t ≡ Some d → is_date d ≡ false → reading_of Data t ≡ Err OutOfRange
 unfolding formed in_range
 unreal t d e r = out_of_range Data t (ap is_on e) (ap (day_is is_date) e ∙ r)
 
-nothing : (t : List ℕ) → numero_written t ≡ Value 0 → reading_of Numero t ≡ Breaks OutOfRange
+nothing : (t : List ℕ) → numero_written t ≡ Some 0 → reading_of Numero t ≡ Err OutOfRange
 unfolding formed in_range
 nothing t e = out_of_range Numero t (ap is_value e) (ap (value_is is_numero) e)
 
-unknown : (t : List ℕ) → tipo_operazione t ≡ NoOperation → 1 ≤ length t → length t ≤ 12 → reading_of TipoOperazione t ≡ Breaks Misformed
+unknown : (t : List ℕ) → tipo_operazione t ≡ None → 1 ≤ length t → length t ≤ 12 → reading_of TipoOperazione t ≡ Err Misformed
 unfolding formed
 unknown t e l m = (tells TipoOperazione t).first_told Misformed (record { it_applies = ap (λ a. not (is_asked a)) e; none_before = before })
   where

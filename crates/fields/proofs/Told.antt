@@ -1,4 +1,5 @@
 -- Every reading tells what specs/Told says.
+use Rattle.std.specs.Prelude.{Option, Some, None, Err}
 use mathlib.Core.Path.{◌≡◌, refl, sym, ap, subst, ◌∙◌}
 use mathlib.Core.List.{List}
 use mathlib.Core.Bool.{Bool, true, false, cond, not, ◌&&◌}
@@ -10,26 +11,17 @@ use borrow.Author.Tests.{ne_eqb, le-ltb, not-true, not-false}
 use Rattle.scan.proofs.Laws.{both}
 use Rattle.bounds.specs.Bounds.{is_year, is_numero}
 use Rattle.calendar.specs.Calendar.{is_date}
-use Rattle.codes.specs.declared.Asked.{Asked}
-use Rattle.codes.specs.declared.Asked.TheVariants.{Operazione, NoOperation}
 use Rattle.codes.specs.declared.Esito.{Esito}
-use Rattle.codes.specs.declared.Esito.TheVariants.{Accepted, Refused, NoEsito}
+use Rattle.codes.specs.declared.Esito.TheVariants.{Accepted, Refused}
 use Rattle.codes.specs.Codes.{codice_abi, identificativo, codice_ente, tipo_operazione, is_asked, testo, descrizione, elemento, esito_operazione, is_word}
 use Rattle.codes.proofs.Laws.{abi_length, identificativo_length, ente_length, operation_length, word_length, length_in_lem}
-use Rattle.digits.specs.declared.Number.{Number}
-use Rattle.digits.specs.declared.Number.TheVariants.{Value, NoNumber}
 use Rattle.digits.specs.Digits.{is_value, value_is, within, esercizio_written, esercizio, numero_written, numero, importo, progressivo, is_refusal, codice_errore_written, codice_errore}
 use Rattle.digits.proofs.Laws.{digits_length, importo_length}
-use Rattle.dates.specs.declared.Day.{Day}
-use Rattle.dates.specs.declared.Day.TheVariants.{On, NoDay}
 use Rattle.dates.specs.Dates.{data_written, real, is_on, day_is, data_of, data_ora}
 use Rattle.dates.proofs.Laws.{data_10, ora_19, zona_both, ora_zona_long}
 use Rattle.names.specs.Names.{anagrafica}
 use Rattle.names.proofs.Laws.{anagrafica_length}
 use Rattle.fields.specs.declared.Judged.TheVariants.{Breaks}
-use Rattle.fields.specs.declared.Reading.TheVariants as reading
-use Rattle.fields.specs.declared.Valued.{Valued}
-use Rattle.fields.specs.declared.Valued.TheVariants.{Some, None}
 use Rattle.fields.specs.declared.Form.{Form}
 use Rattle.fields.specs.declared.Form.TheVariants.{CodiceAbi, Identificativo, DataOra, CodiceEnte, Esercizio, TipoOperazione, Numero, Data, Importo, Progressivo, Anagrafica, DataOraZona, Testo, EsitoOperazione, CodiceErrore, Descrizione, Elemento}
 use Rattle.fields.specs.declared.Cause.{Cause}
@@ -37,6 +29,9 @@ use Rattle.fields.specs.declared.Cause.TheVariants.{Empty, Long, Misformed, OutO
 use Rattle.fields.specs.Causes.{cause_number, formed, in_range, applies, cause_of}
 use Rattle.fields.specs.Fields.{told, field_value, reading_of, stands_by, judged, is_number, is_day, is_operation, is_esito, field_stands}
 use Rattle.fields.specs.Told.{First, Told}
+use Rattle.codes.specs.declared.Operation.{Operation}
+use Rattle.calendar.specs.declared.Date.{Date}
+use Rattle.fields.specs.declared.Value.{Value}
 
 no : {A : Type 0} → ◌≡◌ {A = Bool} true false → A
 no e = let z : ◌≡◌ {A = ℕ} 0 1 = cc in absurd (omega arith)
@@ -47,34 +42,34 @@ text_whole : (b : Bool) → judged b ≡ judged (b && true)
 text_whole true = refl
 text_whole false = refl
 
-number_whole : (n : Number) → is_number n ≡ judged (is_value n && true)
-number_whole (Value v) = refl
-number_whole NoNumber = refl
+number_whole : (n : Option ℕ) → is_number n ≡ judged (is_value n && true)
+number_whole (Some v) = refl
+number_whole None = refl
 
-number_ranged : (f : ℕ → Bool) (n : Number) → is_number (within f n) ≡ judged (is_value n && value_is f n)
-number_ranged f (Value v) = go (f v)
+number_ranged : (f : ℕ → Bool) (n : Option ℕ) → is_number (within f n) ≡ judged (is_value n && value_is f n)
+number_ranged f (Some v) = go (f v)
   where
-    go : (b : Bool) → is_number (cond b (Value v) NoNumber) ≡ judged b
+    go : (b : Bool) → is_number (cond b (Some v) None) ≡ judged b
     go true = refl
     go false = refl
-number_ranged f NoNumber = refl
+number_ranged f None = refl
 
-day_ranged : (d : Day) → is_day (real d) ≡ judged (is_on d && day_is is_date d)
-day_ranged (On d) = go (is_date d)
+day_ranged : (d : Option Date) → is_day (real d) ≡ judged (is_on d && day_is is_date d)
+day_ranged (Some d) = go (is_date d)
   where
-    go : (b : Bool) → is_day (cond b (On d) NoDay) ≡ judged b
+    go : (b : Bool) → is_day (cond b (Some d) None) ≡ judged b
     go true = refl
     go false = refl
-day_ranged NoDay = refl
+day_ranged None = refl
 
-operation_whole : (a : Asked) → is_operation a ≡ judged (is_asked a && true)
-operation_whole (Operazione o) = refl
-operation_whole NoOperation = refl
+operation_whole : (a : Option Operation) → is_operation a ≡ judged (is_asked a && true)
+operation_whole (Some o) = refl
+operation_whole None = refl
 
-word_whole : (e : Esito) → is_esito e ≡ judged (is_word e && true)
-word_whole (Accepted o) = refl
-word_whole (Refused o) = refl
-word_whole NoEsito = refl
+word_whole : (e : Option Esito) → is_esito e ≡ judged (is_word e && true)
+word_whole (Some (Accepted o)) = refl
+word_whole (Some (Refused o)) = refl
+word_whole None = refl
 
 stands_ranged : (f : Form) (t : List ℕ) → field_stands f t ≡ judged (formed f t && in_range f t)
 unfolding field_stands formed in_range data_ora esercizio numero data_of codice_errore
@@ -155,19 +150,19 @@ module _ (f : Form) (t : List ℕ) where
     stands_by_lem : field_stands f t ≡ judged (not e && (not l && (b && r)))
     stands_by_lem = exact ∙ rw (x, y, z, u)
 
-  pub broken : (w : Cause) → cause_of f t ≡ w → field_stands f t ≡ Breaks → reading_of f t ≡ reading.Breaks w
+  pub broken : (w : Cause) → cause_of f t ≡ w → field_stands f t ≡ Breaks → reading_of f t ≡ Err w
   unfolding field_stands
   broken w c = go (field_value f t)
     where
-      go : (v : Valued) → stands_by v ≡ Breaks → told (cause_of f t) v ≡ reading.Breaks w
+      go : (v : Option Value) → stands_by v ≡ Breaks → told (cause_of f t) v ≡ Err w
       go (Some v) s = let q : ◌≡◌ {A = ℕ} 0 1 = cc in absurd (omega arith)
       go None s = rw c
 
-  pub breaks : (w : Cause) → reading_of f t ≡ reading.Breaks w → (cause_of f t ≡ w) × (field_stands f t ≡ Breaks)
+  pub breaks : (w : Cause) → reading_of f t ≡ Err w → (cause_of f t ≡ w) × (field_stands f t ≡ Breaks)
   unfolding field_stands
   breaks w = go (field_value f t)
     where
-      go : (v : Valued) → told (cause_of f t) v ≡ reading.Breaks w → (cause_of f t ≡ w) × (stands_by v ≡ Breaks)
+      go : (v : Option Value) → told (cause_of f t) v ≡ Err w → (cause_of f t ≡ w) × (stands_by v ≡ Breaks)
       go (Some v) s = let q : ◌≡◌ {A = ℕ} 0 1 = cc in absurd (omega arith)
       go None s = (cc, refl)
 
@@ -185,7 +180,7 @@ module _ (f : Form) (t : List ℕ) where
   first false false true false x y z u s = record { it_applies = rw (z, u); none_before = before 4 (λ h. x) (λ h. y) (λ h. ap not z) (omega arith) }
   first false false true true x y z u s = let k = stands_by_lem x y z u in let q : ◌≡◌ {A = ℕ} 0 1 = cc in absurd (omega arith)
 
-  first_told : (w : Cause) → First f t w → reading_of f t ≡ reading.Breaks w
+  first_told : (w : Cause) → First f t w → reading_of f t ≡ Err w
   first_told Empty p = let x = p.it_applies in broken Empty (cause_by x refl refl refl) (stands_by_lem x refl refl refl)
   first_told Long p =
       let x = p.none_before Empty (omega arith) in
@@ -203,7 +198,7 @@ module _ (f : Form) (t : List ℕ) where
       let u = not-true _ (both (formed f t) (not (in_range f t)) p.it_applies).1 in
       broken OutOfRange (cause_by x y z u) (stands_by_lem x y z u)
 
-  tells_first : (w : Cause) → reading_of f t ≡ reading.Breaks w → First f t w
+  tells_first : (w : Cause) → reading_of f t ≡ Err w → First f t w
   tells_first w h =
       let k = breaks w h in
       let c = cause_by {r = in_range f t} refl refl refl refl in

@@ -4,12 +4,10 @@
 
 ghost use Rattle.std.specs.Prelude.{◌≡◌};
 ghost use Rattle.fields.specs.Causes.{cause_number, longest, longer, formed, cause_of};
-ghost use Rattle.fields.specs.Fields.{of_text, of_number, of_day, of_operation, of_esito, field_value, reading_of, field_stands};
+ghost use Rattle.fields.specs.Fields.{of_esito, field_value, reading_of, field_stands};
 
 use calendar::Date;
-use codes::{Asked, Esito, Operation};
-use dates::Day;
-use digits::Number;
+use codes::{Esito, Operation};
 
 #[derive(Clone, Copy)]
 pub enum Judged {
@@ -50,13 +48,6 @@ pub enum Value {
     Refused(Operation),
 }
 
-// A value of a text, or none.
-#[derive(Clone, Copy)]
-pub enum Valued {
-    Some(Value),
-    None,
-}
-
 // The longest text that a form allows, in bytes or, of a name, in characters as its form counts them.
 #[derive(Clone, Copy)]
 pub enum Longest {
@@ -71,13 +62,6 @@ pub enum Cause {
     Long,
     Misformed,
     OutOfRange,
-}
-
-// A field's text read by its form.
-#[derive(Clone, Copy)]
-pub enum Reading {
-    Holds(Value),
-    Breaks(Cause),
 }
 
 // A cause's number in a flow's answer.
@@ -126,137 +110,90 @@ fn is_longer(l: Longest, t: &[u8]) -> bool
 }
 
 // Whether a text that breaks has the form, whatever value it writes: where document 01 gives no range, it has not.
+#[tactic(auto, using(crate::proofs::Told::broken_whole), unfolding(crate::specs::Causes::formed, crate::specs::Causes::in_range))]
 fn is_formed(f: Form, t: &[u8]) -> bool
     requires { field_stands f t.now ≡ Judged.Breaks }
     ensures { result ≡ formed f t.now }
 {
     match f {
-        Form::CodiceAbi => false,
-        Form::Identificativo => false,
         Form::DataOra => dates::data_ora_written(t),
-        Form::CodiceEnte => false,
-        Form::Esercizio => digits::is_value(digits::four_digits(t)),
-        Form::TipoOperazione => false,
-        Form::Numero => digits::is_value(digits::numero_written(t)),
-        Form::Data => dates::is_on(dates::data_written(t)),
-        Form::Importo => false,
-        Form::Progressivo => false,
-        Form::Anagrafica => false,
+        Form::Esercizio => digits::four_digits(t).is_some(),
+        Form::Numero => digits::numero_written(t).is_some(),
+        Form::Data => dates::data_written(t).is_some(),
         Form::DataOraZona => dates::data_ora_zona_written(t),
-        Form::Testo => false,
-        Form::EsitoOperazione => false,
-        Form::CodiceErrore => digits::is_value(digits::two_digits(t)),
-        Form::Descrizione => false,
-        Form::Elemento => false,
+        Form::CodiceErrore => digits::two_digits(t).is_some(),
+        _ => false,
     }
 }
 
 // What is wrong with a text that breaks: the first cause that applies.
+#[tactic(auto, unfolding(crate::specs::Causes::cause_of))]
 fn cause_of(f: Form, t: &[u8]) -> Cause
     requires { field_stands f t.now ≡ Judged.Breaks }
     ensures { result ≡ cause_of f t.now }
 {
-    if t.len() == 0 {
-        return Cause::Empty;
-    }
-    if is_longer(longest_of(f), t) {
-        return Cause::Long;
-    }
-    if !is_formed(f, t) {
-        return Cause::Misformed;
-    }
-    Cause::OutOfRange
-}
-
-fn of_text(has_form: bool) -> Valued
-    ensures { result ≡ of_text has_form }
-{
-    if has_form {
-        Valued::Some(Value::Text)
+    if t.is_empty() {
+        Cause::Empty
+    } else if is_longer(longest_of(f), t) {
+        Cause::Long
+    } else if !is_formed(f, t) {
+        Cause::Misformed
     } else {
-        Valued::None
+        Cause::OutOfRange
     }
 }
 
-fn of_number(n: Number) -> Valued
-    ensures { result ≡ of_number n }
-{
-    match n {
-        Number::Value(v) => Valued::Some(Value::Number(v)),
-        Number::NoNumber => Valued::None,
-    }
-}
-
-fn of_day(d: Day) -> Valued
-    ensures { result ≡ of_day d }
-{
-    match d {
-        Day::On(date) => Valued::Some(Value::Day(date)),
-        Day::NoDay => Valued::None,
-    }
-}
-
-fn of_operation(a: Asked) -> Valued
-    ensures { result ≡ of_operation a }
-{
-    match a {
-        Asked::Operazione(o) => Valued::Some(Value::Operation(o)),
-        Asked::NoOperation => Valued::None,
-    }
-}
-
-fn of_esito(e: Esito) -> Valued
+fn of_esito(e: Option<Esito>) -> Option<Value>
     ensures { result ≡ of_esito e }
 {
-    match e {
-        Esito::Accepted(o) => Valued::Some(Value::Accepted(o)),
-        Esito::Refused(o) => Valued::Some(Value::Refused(o)),
-        Esito::NoEsito => Valued::None,
-    }
+    e.map(|esito| match esito {
+        Esito::Accepted(o) => Value::Accepted(o),
+        Esito::Refused(o) => Value::Refused(o),
+    })
 }
 
 // The value that a field's text says by its form. A text that breaks is not asked for its cause here, so that the reading of texts that stand stays
 // short enough to be compiled in place.
-pub fn value_of(f: Form, t: &[u8]) -> Valued
+pub fn value_of(f: Form, t: &[u8]) -> Option<Value>
     ensures { result ≡ field_value f t.now }
 {
     match f {
-        Form::CodiceAbi => of_text(codes::codice_abi(t)),
-        Form::Identificativo => of_text(codes::identificativo_flusso(t)),
-        Form::DataOra => of_text(dates::data_ora(t)),
-        Form::CodiceEnte => of_text(codes::codice_ente(t)),
-        Form::Esercizio => of_number(digits::esercizio_of(t)),
-        Form::TipoOperazione => of_operation(codes::tipo_operazione(t)),
-        Form::Numero => of_number(digits::numero_of(t)),
-        Form::Data => of_day(dates::data_of(t)),
-        Form::Importo => of_number(digits::importo_of(t)),
-        Form::Progressivo => of_number(digits::progressivo_of(t)),
-        Form::Anagrafica => of_text(names::anagrafica_of(t)),
-        Form::DataOraZona => of_text(dates::data_ora_zona(t)),
-        Form::Testo => of_text(codes::sized_text(t, 1, 140)),
+        Form::CodiceAbi => codes::codice_abi(t).then_some(Value::Text),
+        Form::Identificativo => codes::identificativo_flusso(t).then_some(Value::Text),
+        Form::DataOra => dates::data_ora(t).then_some(Value::Text),
+        Form::CodiceEnte => codes::codice_ente(t).then_some(Value::Text),
+        Form::Esercizio => digits::esercizio_of(t).map(Value::Number),
+        Form::TipoOperazione => codes::tipo_operazione(t).map(Value::Operation),
+        Form::Numero => digits::numero_of(t).map(Value::Number),
+        Form::Data => dates::data_of(t).map(Value::Day),
+        Form::Importo => digits::importo_of(t).map(Value::Number),
+        Form::Progressivo => digits::progressivo_of(t).map(Value::Number),
+        Form::Anagrafica => names::anagrafica_of(t).then_some(Value::Text),
+        Form::DataOraZona => dates::data_ora_zona(t).then_some(Value::Text),
+        Form::Testo => codes::sized_text(t, 1, 140).then_some(Value::Text),
         Form::EsitoOperazione => of_esito(codes::esito_operazione(t)),
-        Form::CodiceErrore => of_number(digits::codice_errore(t)),
-        Form::Descrizione => of_text(codes::sized_text(t, 1, 2)),
-        Form::Elemento => of_text(codes::sized_text(t, 1, 24)),
+        Form::CodiceErrore => digits::codice_errore(t).map(Value::Number),
+        Form::Descrizione => codes::sized_text(t, 1, 2).then_some(Value::Text),
+        Form::Elemento => codes::sized_text(t, 1, 24).then_some(Value::Text),
     }
 }
 
 // A field's text, read by its form: its value, or what is wrong with it.
-pub fn field_of(f: Form, t: &[u8]) -> Reading
+#[tactic(auto, using(crate::proofs::Laws::none_breaks))]
+pub fn field_of(f: Form, t: &[u8]) -> Result<Value, Cause>
     ensures { result ≡ reading_of f t.now }
 {
-    match value_of(f, t) {
-        Valued::Some(v) => Reading::Holds(v),
-        Valued::None => Reading::Breaks(cause_of(f, t)),
-    }
+    value_of(f, t).ok_or_else(|| cause_of(f, t))
 }
 
 // Whether a field's text has its form: it says a value.
+#[tactic(auto, unfolding(crate::specs::Fields::field_stands))]
 pub fn field_stands(f: Form, t: &[u8]) -> Judged
     ensures { result ≡ field_stands f t.now }
 {
-    match value_of(f, t) {
-        Valued::Some(_) => Judged::Stands,
-        Valued::None => Judged::Breaks,
+    if value_of(f, t).is_some() {
+        Judged::Stands
+    } else {
+        Judged::Breaks
     }
 }

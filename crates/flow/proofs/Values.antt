@@ -1,4 +1,5 @@
 -- The values of a flow that stands: its header and its orders are within the bounds of their forms.
+use Rattle.std.specs.Prelude.{Option, Result, Some, None, Ok, Err}
 use mathlib.Core.Path.{◌≡◌, refl, sym, ap, subst, ◌∙◌}
 use mathlib.Core.Logic.{◌⊎◌, ⊎_elim}
 use mathlib.Core.List.{List, [], ◌∷◌, ◌++◌, map}
@@ -16,12 +17,6 @@ use Rattle.calendar.specs.Calendar.{is_date}
 use Rattle.fields.specs.declared.Form.{Form}
 use Rattle.fields.specs.declared.Form.TheVariants.{CodiceAbi, Identificativo, DataOra, CodiceEnte, Esercizio, TipoOperazione, Numero, Data, Importo, Progressivo, DataOraZona}
 use Rattle.fields.specs.declared.Judged.TheVariants.{Stands}
-use Rattle.fields.specs.declared.Reading.{Reading}
-use Rattle.fields.specs.declared.Reading.TheVariants as reading
-use Rattle.digits.specs.declared.Number.{Number}
-use Rattle.digits.specs.declared.Number.TheVariants.{Value, NoNumber}
-use Rattle.dates.specs.declared.Day.{Day}
-use Rattle.dates.specs.declared.Day.TheVariants.{On, NoDay}
 use Rattle.codes.specs.Codes.{codice_abi, codice_ente}
 use Rattle.digits.specs.Digits.{esercizio, numero, importo}
 use Rattle.dates.specs.Dates.{data_of}
@@ -34,8 +29,6 @@ use Rattle.schema.specs.declared.Parent.TheVariants.{FlussoOrdinativi, Mandato, 
 use Rattle.schema.specs.declared.Holds.{Holds}
 use Rattle.schema.specs.declared.Holds.TheVariants.{Text, Rows}
 use Rattle.rows.specs.declared.Kept.{Kept}
-use Rattle.rows.specs.declared.Next.{Next}
-use Rattle.rows.specs.declared.Next.TheVariants.{Named, Done}
 use Rattle.schema.specs.Table.{table}
 use Rattle.rows.specs.Kept.{kept_from, next_of}
 use Rattle.rows.specs.Replaces.{rows_for}
@@ -58,6 +51,9 @@ use Rattle.orders.proofs.Laws.{one, held_at, those_at, those_done, those_other, 
 use Rattle.flow.specs.Flow.{header_of, flow_orders}
 use Rattle.bounds.specs.Bounds.{max_cents}
 use Rattle.flow.proofs.Laws.{Stood}
+use Rattle.fields.specs.declared.Value.{Value}
+use Rattle.fields.specs.declared.Cause.{Cause}
+use Rattle.calendar.specs.declared.Date.{Date}
 
 -- AN ORDER AND A HEADER WITHIN BOUNDS
 pub record OrderOk (o : Ordinativo) : Type 0 where
@@ -78,13 +74,13 @@ judged_true : (b : Bool) → judged b ≡ Stands → b ≡ true
 judged_true true e = refl
 judged_true false e = let z : ◌≡◌ {A = ℕ} 0 1 = cc in absurd (omega arith)
 
-number_there : (n : Number) → is_number n ≡ Stands → n ≡ Value (value_of n)
-number_there (Value v) e = refl
-number_there NoNumber e = let z : ◌≡◌ {A = ℕ} 0 1 = cc in absurd (omega arith)
+number_there : (n : Option ℕ) → is_number n ≡ Stands → n ≡ Some (value_of n)
+number_there (Some v) e = refl
+number_there None e = let z : ◌≡◌ {A = ℕ} 0 1 = cc in absurd (omega arith)
 
-day_there : (d : Day) → is_day d ≡ Stands → d ≡ On (date_of d)
-day_there (On d) e = refl
-day_there NoDay e = let z : ◌≡◌ {A = ℕ} 0 1 = cc in absurd (omega arith)
+day_there : (d : Option Date) → is_day d ≡ Stands → d ≡ Some (date_of d)
+day_there (Some d) e = refl
+day_there None e = let z : ◌≡◌ {A = ℕ} 0 1 = cc in absurd (omega arith)
 
 abbrev is_nowhere : Bad → Bool
 is_nowhere (Place p c) = false
@@ -112,9 +108,9 @@ text_stands : (d : ℕ) (s : List ℕ) (k : Kept) (f : Form) → k.holds ≡ Tex
 unfolding first_bad
 text_stands d s k f h e = go (reading_of f (text_of s k)) refl (rw h at e)
   where
-    go : (r : Reading) → reading_of f (text_of s k) ≡ r → is_nowhere (bad_or k.child.lt Nowhere r) ≡ true → field_stands f (text_of s k) ≡ Stands
-    go (reading.Holds v) z e = sym (stands_holds f (text_of s k) (sym z))
-    go (reading.Breaks c) z e = let y : ◌≡◌ {A = ℕ} 0 1 = cc in absurd (omega arith)
+    go : (r : Result Value Cause) → reading_of f (text_of s k) ≡ r → is_nowhere (bad_or k.child.lt Nowhere r) ≡ true → field_stands f (text_of s k) ≡ Stands
+    go (Ok v) z e = sym (stands_holds f (text_of s k) (sym z))
+    go (Err c) z e = let y : ◌≡◌ {A = ℕ} 0 1 = cc in absurd (omega arith)
 
 -- ROWS IN ORDER whose fields stand
 record Well (rs : List Range) (d : ℕ) (p : Parent) (s : List ℕ) (n i : ℕ) : Type 0 where
@@ -138,9 +134,9 @@ only h w = ⊎_elim sym (λ e. absurd e) w
 field_at : {rs : List Range} (d : ℕ) (p : Parent) (s : List ℕ) (n i : ℕ) (f : Form) → IsText p n f → Well (one ∷ rs) d p s n i → (j : ℕ) × FieldAt f rs d p s n i j
 field_at {rs} d p s n i f t w = go (next_of (kept_from p s i)) refl
   where
-    go : (x : Next) → next_of (kept_from p s i) ≡ x → (j : ℕ) × FieldAt f rs d p s n i j
-    go Done e = absurd (found_some d p s n i w.filled e)
-    go (Named k) e =
+    go : (x : Option Kept) → next_of (kept_from p s i) ≡ x → (j : ℕ) × FieldAt f rs d p s n i j
+    go None e = absurd (found_some d p s n i w.filled e)
+    go (Some k) e =
         let o = found d p s n i w.filled k e in
         let a = all_next p s i k e (stands_in d s) w.fields in
         let r = o.row in
@@ -212,11 +208,11 @@ lines_ok (suc n) p q s i h t r f e j = go (next_of (kept_from p s i)) refl (line
     pick k ks zero a b = a
     pick k ks (suc j) a b = b j
 
-    go : (x : Next) → next_of (kept_from p s i) ≡ x
+    go : (x : Option Kept) → next_of (kept_from p s i) ≡ x
         → ((u : ℕ) → length s - u < n → OrderTable p q → all_kept (of_row 4) (kept_from p s u) ≡ true → all_kept (kept_holds (λ r a. fits_at 2 r s a) s) (kept_from p s u) ≡ true → all_kept (stands_in 2 s) (kept_from p s u) ≡ true → (m : ℕ) → LineOk (get_or (lines_of s (kept_from p s u)) m no_line))
         → LineOk (get_or (lines_of s (kept_from p s i)) j no_line)
-    go Done x ih = rw (next_done p s i x) (omega arith)
-    go (Named k) x ih =
+    go None x ih = rw (next_done p s i x) (omega arith)
+    go (Some k) x ih =
         let l = (next_at p s i k x).lies in
         let a = all_next p s i k x (of_row 4) r in
         let b = all_next p s i k x (kept_holds (λ r a. fits_at 2 r s a) s) f in
@@ -276,7 +272,7 @@ pub sound : (p : Parent) (s : List ℕ) (at : ℕ) → Stood p s at → Sound p 
 unfolding fields_at
 sound p s at h = record { standing = standing p s at h.fits; fields = each_stands 3 s (kept_from p s (white_at s at)) h.fields }
 
-pub sound_next : (p : Parent) (s : List ℕ) (i : ℕ) (k : Kept) → Sound p s i → next_of (those is_order (kept_from p s i)) ≡ Named k → OrderOk (ordinativo (order_of s k)) × Sound p s k.child.after
+pub sound_next : (p : Parent) (s : List ℕ) (i : ℕ) (k : Kept) → Sound p s i → next_of (those is_order (kept_from p s i)) ≡ Some k → OrderOk (ordinativo (order_of s k)) × Sound p s k.child.after
 sound_next p s i k h e =
     let a = order_at p s i k h.standing e in
     let r = those_at is_order p s i k e in
@@ -297,9 +293,9 @@ each_ok : (n : ℕ) (p : Parent) (s : List ℕ) (i : ℕ) → length s - i < n �
 each_ok zero p s i h w = absurd (omega arith)
 each_ok (suc n) p s i h w = go (next_of (those is_order (kept_from p s i))) refl (each_ok n p s)
   where
-    go : (x : Next) → next_of (those is_order (kept_from p s i)) ≡ x → ((j : ℕ) → length s - j < n → Sound p s j → Each OrderOk (map ordinativo (orders_in s (kept_from p s j)))) → Each OrderOk (map ordinativo (orders_in s (kept_from p s i)))
-    go Done e ih = rw (orders_end p s i e) tt
-    go (Named k) e ih =
+    go : (x : Option Kept) → next_of (those is_order (kept_from p s i)) ≡ x → ((j : ℕ) → length s - j < n → Sound p s j → Each OrderOk (map ordinativo (orders_in s (kept_from p s j)))) → Each OrderOk (map ordinativo (orders_in s (kept_from p s i)))
+    go None e ih = rw (orders_end p s i e) tt
+    go (Some k) e ih =
         let a = order_at p s i k w.standing e in
         let l = a.lies in
         let b = sound_next p s i k w e in
@@ -345,9 +341,9 @@ module _ (e : Edition) (s : List ℕ) where
   row_by zero i h = absurd (omega arith)
   row_by (suc n) i h = go (next_of (kids i)) refl (row_by n)
     where
-      go : (x : Next) → next_of (kids i) ≡ x → ((j : ℕ) → length s - j < n → those is_order (kids j) ≡ in_row last (kids j)) → those is_order (kids i) ≡ in_row last (kids i)
-      go Done z ih = those_done is_order root s i z ∙ sym (those_done (of_row last) root s i z)
-      go (Named k) z ih = at (of_row last k) refl
+      go : (x : Option Kept) → next_of (kids i) ≡ x → ((j : ℕ) → length s - j < n → those is_order (kids j) ≡ in_row last (kids j)) → those is_order (kids i) ≡ in_row last (kids i)
+      go None z ih = those_done is_order root s i z ∙ sym (those_done (of_row last) root s i z)
+      go (Some k) z ih = at (of_row last k) refl
         where
           l : Lies s i k.child
           l = (next_at root s i k z).lies
@@ -416,9 +412,9 @@ record NestAt (s : List ℕ) (i : ℕ) (k : Kept) : Type 0 where
 nest_at : (s : List ℕ) (i : ℕ) → Well (root_rows Opi) 3 FlussoOpi s 0 i → (k : Kept) × NestAt s i k
 nest_at s i w = go (next_of (kept_from FlussoOpi s i)) refl
   where
-    go : (x : Next) → next_of (kept_from FlussoOpi s i) ≡ x → (k : Kept) × NestAt s i k
-    go Done e = absurd (found_some 3 FlussoOpi s 0 i w.filled e)
-    go (Named k) e =
+    go : (x : Option Kept) → next_of (kept_from FlussoOpi s i) ≡ x → (k : Kept) × NestAt s i k
+    go None e = absurd (found_some 3 FlussoOpi s 0 i w.filled e)
+    go (Some k) e =
         let o = found 3 FlussoOpi s 0 i w.filled k e in
         let n = nested s i k w.filled e in
         let a = all_next FlussoOpi s i k e (stands_in 3 s) w.fields in (

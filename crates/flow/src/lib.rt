@@ -9,20 +9,21 @@ ghost use Rattle.flow.specs.Flow.{by_root, verdict_by, id_allowed, verdict_of};
 
 use editions::Edition;
 use fields::Cause;
-use markup::Markup;
 use onward::Reached;
 use scan::Walk;
 use schema::Parent;
-use standing::Standing;
+use standing::Flaw;
 
-// What a document's reading comes to: what breaks, with its place and a field's cause, or where the root's content begins.
+// What breaks of a document: its markup at a place, its structure, or a field at the `<` of its element, with its cause.
 #[derive(Clone, Copy)]
-pub enum Verdict {
+pub enum Breakage {
     MarkupBreaks(usize),
     StructureBreaks,
     FieldBreaks(usize, Cause),
-    Stands(usize),
 }
+
+// What a document's reading comes to: where the root's content begins, or what breaks.
+pub type Verdict = Result<usize, Breakage>;
 
 // The markup of the root's content, of which all up to a place was read.
 fn content_on(s: &[u8], at: usize, reached: Reached, past: &mut [u32]) -> Walk
@@ -31,9 +32,10 @@ fn content_on(s: &[u8], at: usize, reached: Reached, past: &mut [u32]) -> Walk
     ensures { (result ≡ content_at 11 s.now at) × Noted s.now past.new }
 {
     if reached.count == 0 {
-        return markup::content(s, at, 11, past);
+        markup::content(s, at, 11, past)
+    } else {
+        markup::children(s, reached.at, 11, past)
     }
-    markup::children(s, reached.at, 11, past)
 }
 
 // The verdict of a document whose markup stands: its root's name goes from the byte after lt up to e, its content begins at a place and stands as far as
@@ -52,12 +54,12 @@ fn verdict_at(
     ensures { result ≡ by_root name.now root s.now lt e at }
 {
     if !schema::is(s, lt + 1, e, name) {
-        return Verdict::StructureBreaks;
+        return Err(Breakage::StructureBreaks);
     }
     match standing::judge_on(s, at, reached.at, reached.row, reached.count, root, 4, past) {
-        Standing::StructureBreaks => Verdict::StructureBreaks,
-        Standing::FieldBreaks(p, x) => Verdict::FieldBreaks(p, x),
-        Standing::Stands => Verdict::Stands(at),
+        Err(Flaw::StructureBreaks) => Err(Breakage::StructureBreaks),
+        Err(Flaw::FieldBreaks(p, x)) => Err(Breakage::FieldBreaks(p, x)),
+        Ok(()) => Ok(at),
     }
 }
 
@@ -68,13 +70,13 @@ pub fn verdict_by(s: &[u8], name: &[u8], root: Parent, ids: bool, past: &mut [u3
     ensures { (result ≡ verdict_by name.now root ids s.now) × Noted s.now past.new }
 {
     match markup::open(s, ids) {
-        Markup::Breaks(p) => Verdict::MarkupBreaks(p),
-        Markup::Root(lt, e, at) => {
+        Err(p) => Err(Breakage::MarkupBreaks(p)),
+        Ok((lt, e, at)) => {
             let reached = onward::onward(s, at, root, 4, 11, past);
             let inside = content_on(s, at, reached, past);
             match markup::close(s, lt, e, at, inside) {
-                Markup::Breaks(p) => Verdict::MarkupBreaks(p),
-                Markup::Root(_, _, _) => verdict_at(s, lt, e, at, name, root, reached, past),
+                Err(p) => Err(Breakage::MarkupBreaks(p)),
+                Ok((_, _, _)) => verdict_at(s, lt, e, at, name, root, reached, past),
             }
         }
     }
@@ -84,10 +86,7 @@ pub fn verdict_by(s: &[u8], name: &[u8], root: Parent, ids: bool, past: &mut [u3
 fn id_allowed(e: Edition) -> bool
     ensures { result ≡ id_allowed e }
 {
-    match e {
-        Edition::Oil => false,
-        Edition::Opi => true,
-    }
+    matches!(e, Edition::Opi)
 }
 
 // The verdict of a flow of an edition.
@@ -95,9 +94,13 @@ pub fn verdict_of(s: &[u8], e: Edition, past: &mut [u32]) -> Verdict
     requires { Noted s.now past.old }
     ensures { (result ≡ verdict_of e s.now) × Noted s.now past.new }
 {
-    let root = header::root_of(e);
-    let ids = id_allowed(e);
-    verdict_by(s, b"flusso_ordinativi", root, ids, past)
+    verdict_by(
+        s,
+        b"flusso_ordinativi",
+        header::root_of(e),
+        id_allowed(e),
+        past,
+    )
 }
 
 // The verdict of any bytes at all.

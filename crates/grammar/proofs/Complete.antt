@@ -1,4 +1,5 @@
 -- Whatever is of the grammar is accepted, where it stands.
+use Rattle.std.specs.Prelude.{Result, Ok}
 use mathlib.Core.Path.{◌≡◌, refl, sym, ap, subst, ◌∙◌}
 use mathlib.Core.List.{List, [], ◌∷◌, ◌++◌, append_assoc}
 use mathlib.Core.Bool.{Bool, true, false, ◌&&◌, ◌||◌}
@@ -11,8 +12,6 @@ use lib.ListN.{length, get_or, drop, length-append, get_or-eq_default}
 use lib.Seq.{get_or-drop}
 use lib.Dec.{leb, eqb}
 use borrow.Author.Tests.{eqb-true, eqb-false, leb-true, leb-false, le-leb, eq-eqb, ne_eqb}
-use Rattle.scan.specs.declared.Walk.{Walk}
-use Rattle.scan.specs.declared.Walk.TheVariants.{Past}
 use Rattle.scan.specs.Bytes.{bytes, byte_at, part, is_letter, is_digit, is_name_byte, is_white, all, run, run_end, starts_with, has_at}
 use Rattle.scan.specs.Characters.{is_char, sized, is_tail, char_size_at, char_at}
 use Rattle.scan.specs.References.{which_at, ref_at}
@@ -20,7 +19,6 @@ use Rattle.scan.proofs.Laws.{both, run_more, run_stop, run_end_lem, size_one, si
 use Rattle.tokens.specs.Tokens.{name_at, id_at, tag_end_at, white_at, piece_at, text_at, end_tag_at, optional_at}
 use Rattle.tokens.proofs.Laws.{name_some, id_some, tag_plain, tag_id, piece_ref, piece_char, text_stop, text_step, end_some}
 use Rattle.markup.specs.Markup.{children_by, element_at, content_at, mark, declaration, root_from, markup_of}
-use Rattle.markup.specs.declared.Markup.TheVariants as markup
 use Rattle.markup.proofs.Laws.{content_text, content_empty, content_children, children_stop, children_step, element_ends, root_is, markup_root, root_ends}
 use Rattle.grammar.specs.Grammar.{Name, name, White, white, Allowed, Character, one, two, three, four, Piece, char, amp, lt, gt, quot, apos, Pieces, none, more, Without, text, start_tag, end_tag, Element, element, Content, elements, only, Elements, last, next, Optional, absent, present, Mark, Declaration, Id, id, RootTag, plain, with_id, root, Document, document, root_place, name_end, content_place}
 use Rattle.grammar.proofs.Parts.{no, not_so, has_part, has_split, has_byte}
@@ -84,13 +82,13 @@ tail_is y h = rw (le-leb 128 (128 + y) (omega arith), le-leb (128 + y) 191 (omeg
 
 module _ (s : List ℕ) (p : ℕ) where
   -- a character of n bytes
-  sized_at : (n least v : ℕ) → Allowed least v → char_size_at s p ≡ sized (suc n) least v → char_at s p ≡ Past (p + suc n)
+  sized_at : (n least v : ℕ) → Allowed least v → char_size_at s p ≡ sized (suc n) least v → char_at s p ≡ Ok (p + suc n)
   sized_at n least v a e = char_some s p (suc n) (sym (e ∙ sized_of (suc n) least v a)) (λ z. omega arith)
 
-  one_is : byte_at s p < 128 → Allowed 0 (byte_at s p) → char_at s p ≡ Past (p + 1)
+  one_is : byte_at s p < 128 → Allowed 0 (byte_at s p) → char_at s p ≡ Ok (p + 1)
   one_is h a = sized_at 0 0 (byte_at s p) a (size_one refl refl refl refl (omega arith))
 
-  pub char_is : {c : List ℕ} → Character c → has_at c s p ≡ true → char_at s p ≡ Past (p + length c)
+  pub char_is : {c : List ℕ} → Character c → has_at c s p ≡ true → char_at s p ≡ Ok (p + length c)
   char_is (one {x = x} h a) e =
       let z = has_byte s x [] p e in
       one_is (omega arith) (rw z a)
@@ -127,10 +125,10 @@ module _ (s : List ℕ) (p : ℕ) where
   char_alone (four {x = x} h k i j a) e l = let z = has_byte s (240 + x) _ p e in absurd (omega arith)
 
   -- PIECES
-  reference : (t : List ℕ) {r : Walk} → has_at (38 ∷ t) s p ≡ true → ref_at s p ≡ r → (piece_at s p ≡ r) × (byte_at s p ≡ 60 → ⊥)
+  reference : (t : List ℕ) {r : Result ℕ ℕ} → has_at (38 ∷ t) s p ≡ true → ref_at s p ≡ r → (piece_at s p ≡ r) × (byte_at s p ≡ 60 → ⊥)
   reference t e f = let b = has_byte s 38 t p e in (piece_ref s p b ∙ f, λ z. omega arith)
 
-  pub piece_is : {x : List ℕ} → Piece x → has_at x s p ≡ true → has_at (bytes "]]>") s p ≡ false → (piece_at s p ≡ Past (p + length x)) × (byte_at s p ≡ 60 → ⊥)
+  pub piece_is : {x : List ℕ} → Piece x → has_at x s p ≡ true → has_at (bytes "]]>") s p ≡ false → (piece_at s p ≡ Ok (p + length x)) × (byte_at s p ≡ 60 → ⊥)
   unfolding ref_at which_at has_at starts_with
   piece_is (char c f g) e h =
       let a : byte_at s p ≡ 38 → ⊥ = λ z. g (rw z at (char_alone c e (omega arith))) in
@@ -152,7 +150,7 @@ module _ (s : List ℕ) where
   pub without_rest : (k x t : List ℕ) → Without k (x ++ t) → Without k t
   without_rest k x t w a b z = w (x ++ a) b (rw z (simp append_assoc))
 
-  pub text_is_lem : {t : List ℕ} (p : ℕ) → Pieces t → Without (bytes "]]>") t → has_at t s p ≡ true → byte_at s (p + length t) ≡ 60 → text_at s p ≡ Past (p + length t)
+  pub text_is_lem : {t : List ℕ} (p : ℕ) → Pieces t → Without (bytes "]]>") t → has_at t s p ≡ true → byte_at s (p + length t) ≡ 60 → text_at s p ≡ Ok (p + length t)
   text_is_lem p none w e y = let z : p + 0 ≡ p = add-zero p in rw z (text_stop s p (rw z at y))
   text_is_lem p (more {p = x} {t = t} pc ps) w e y =
       let h = has_split s x t p (p + length x) refl e in
@@ -160,7 +158,7 @@ module _ (s : List ℕ) where
       let i = piece_is s p pc h.0 (no_close (x ++ t) p w e y) in
       let q : p + length x + length t ≡ p + length (x ++ t) = omega arith in
       let j = text_is_lem (p + length x) ps (without_rest (bytes "]]>") x t w) h.1 (rw q y) in
-      text_step s p (p + length x) i.1 i.0 ∙ j ∙ ap Past q
+      text_step s p (p + length x) i.1 i.0 ∙ j ∙ ap Ok q
 
   -- white space is text: a text that starts with it goes on behind it
   white_char : (b : ℕ) → is_white b ≡ true → (b < 128) × (is_char b ≡ true)
@@ -177,7 +175,7 @@ module _ (s : List ℕ) where
       go false h false i false j true k e = is 13 k (omega arith) refl
       go false h false i false j false k e = no (sym e)
 
-  white_piece : (p : ℕ) → is_white (byte_at s p) ≡ true → (piece_at s p ≡ Past (p + 1)) × (byte_at s p ≡ 60 → ⊥)
+  white_piece : (p : ℕ) → is_white (byte_at s p) ≡ true → (piece_at s p ≡ Ok (p + 1)) × (byte_at s p ≡ 60 → ⊥)
   unfolding is_white
   white_piece p w =
       let a : byte_at s p ≡ 38 → ⊥ = λ z. no (sym (rw z at w)) in
@@ -203,13 +201,13 @@ module _ (s : List ℕ) where
   open_of p e = (has_byte s 60 (bytes "/") p e, has_byte s 47 [] (p + 1) (has_split s (bytes "<") (bytes "/") p (p + 1) refl e).1)
 
   -- text, up to an end tag, is content
-  text_content : (d p q : ℕ) → text_at s p ≡ Past q → has_at (bytes "</") s q ≡ true → content_at d s p ≡ Past q
+  text_content : (d p q : ℕ) → text_at s p ≡ Ok q → has_at (bytes "</") s q ≡ true → content_at d s p ≡ Ok q
   text_content d p q t e = go (eqb (byte_at s (white_at s p)) 60) refl
     where
-      go : (b : Bool) → eqb (byte_at s (white_at s p)) 60 ≡ b → content_at d s p ≡ Past q
+      go : (b : Bool) → eqb (byte_at s (white_at s p)) 60 ≡ b → content_at d s p ≡ Ok q
       go true h =
           let y : byte_at s (white_at s p) ≡ 60 = eqb-true _ _ h in
-          let a : Past (white_at s p) ≡ Past q = sym (text_stop s (white_at s p) y) ∙ sym (white_text (length s) p (omega arith)) ∙ t in
+          let a : ◌≡◌ {A = Result ℕ ℕ} (Ok (white_at s p)) (Ok q) = sym (text_stop s (white_at s p) y) ∙ sym (white_text (length s) p (omega arith)) ∙ t in
           let z : white_at s p ≡ q = cc in
           content_empty d s p y (open_of (white_at s p) (rw z e)).1 ∙ t
       go false h = content_text d s p (eqb-false _ _ h) ∙ t
@@ -219,7 +217,7 @@ module _ (s : List ℕ) where
   white_is p (white {t = w} a) e y = run_end_is s is_white w p a e y
 
   -- a name, with another byte behind it
-  name_by : {n : List ℕ} (p : ℕ) → Name n → has_at n s p ≡ true → is_name_byte (byte_at s (p + length n)) ≡ false → (name_at s p ≡ Past (p + length n)) × (is_letter (byte_at s p) ≡ true)
+  name_by : {n : List ℕ} (p : ℕ) → Name n → has_at n s p ≡ true → is_name_byte (byte_at s (p + length n)) ≡ false → (name_at s p ≡ Ok (p + length n)) × (is_letter (byte_at s p) ≡ true)
   unfolding is_name_byte is_letter is_digit all
   name_by p (name {b = b} {t = t} l a k) e y =
       let z = has_byte s b t p e in
@@ -229,12 +227,12 @@ module _ (s : List ℕ) where
       let r = run_end_is s is_name_byte (b ∷ t) p m e y in
       (name_some s p q (p + length (b ∷ t)) (sym r) (omega arith), q)
 
-  name_is_lem : {n : List ℕ} (p : ℕ) → Name n → has_at n s p ≡ true → byte_at s (p + length n) ≡ 62 → (name_at s p ≡ Past (p + length n)) × (is_letter (byte_at s p) ≡ true)
+  name_is_lem : {n : List ℕ} (p : ℕ) → Name n → has_at n s p ≡ true → byte_at s (p + length n) ≡ 62 → (name_at s p ≡ Ok (p + length n)) × (is_letter (byte_at s p) ≡ true)
   unfolding is_name_byte is_letter is_digit
   name_is_lem p na e y = name_by p na e (rw y)
 
   -- an Id and a > behind it
-  id_is : (v : List ℕ) (p : ℕ) → all is_name_byte v ≡ true → 1 ≤ length v → length v ≤ 64 → has_at (bytes " Id=\"" ++ (v ++ bytes "\">")) s p ≡ true → id_at s p ≡ Past (p + 5 + length v + 2)
+  id_is : (v : List ℕ) (p : ℕ) → all is_name_byte v ≡ true → 1 ≤ length v → length v ≤ 64 → has_at (bytes " Id=\"" ++ (v ++ bytes "\">")) s p ≡ true → id_at s p ≡ Ok (p + 5 + length v + 2)
   unfolding is_name_byte is_letter is_digit
   id_is v p a l k h =
       let b = has_split s (bytes " Id=\"") (v ++ bytes "\">") p (p + 5) refl h in
@@ -243,31 +241,31 @@ module _ (s : List ℕ) where
       let r = run_end_is s is_name_byte v (p + 5) a c.0 (rw y) in
       id_some s p b.0 (p + 5 + length v) (sym r) (omega arith) (omega arith) c.1
 
-  end_is : (a e p : ℕ) (n : List ℕ) → e ≡ a + length n → has_at n s a ≡ true → has_at (bytes "</") s p ≡ true → has_at n s (p + 2) ≡ true → byte_at s (p + 2 + length n) ≡ 62 → end_tag_at s a e p ≡ Past (p + 2 + length n + 1)
+  end_is : (a e p : ℕ) (n : List ℕ) → e ≡ a + length n → has_at n s a ≡ true → has_at (bytes "</") s p ≡ true → has_at n s (p + 2) ≡ true → byte_at s (p + 2 + length n) ≡ 62 → end_tag_at s a e p ≡ Ok (p + 2 + length n + 1)
   end_is a e p n z h o k y =
       let w : part s a e ≡ n = rw z (has_part s n a h) in
       let l : e - a ≡ length n = omega arith in
       end_some s a e p o (rw w k) (rw l y) ∙ rw l
 
   -- an end tag that stands at p, of the name that stands at a
-  end_tag_is : (a p : ℕ) (n : List ℕ) → has_at n s a ≡ true → has_at (end_tag n) s p ≡ true → (has_at (bytes "</") s p ≡ true) × (end_tag_at s a (a + length n) p ≡ Past (p + length (end_tag n)))
+  end_tag_is : (a p : ℕ) (n : List ℕ) → has_at n s a ≡ true → has_at (end_tag n) s p ≡ true → (has_at (bytes "</") s p ≡ true) × (end_tag_at s a (a + length n) p ≡ Ok (p + length (end_tag n)))
   end_tag_is a p n h k =
       let l = length-append n (bytes ">") in
       let b = has_split s (60 ∷ 47 ∷ n) (bytes ">") p (p + 2 + length n) (omega arith) k in
       let o = has_split s (bytes "</") n p (p + 2) refl b.0 in
       let f : p + 2 + length n + 1 ≡ p + length (end_tag n) = omega arith in
-      (o.0, end_is a (a + length n) p n refl h o.0 o.1 (has_byte s 62 [] (p + 2 + length n) b.1) ∙ ap Past f)
+      (o.0, end_is a (a + length n) p n refl h o.0 o.1 (has_byte s 62 [] (p + 2 + length n) b.1) ∙ ap Ok f)
 
 -- AN ELEMENT of name n and content c that stands at p: where its parts stand
 pub record Laid (s : List ℕ) (p : ℕ) (n c : List ℕ) : Type 0 where
   pub opens : byte_at s p ≡ 60
   pub letter : is_letter (byte_at s (p + 1)) ≡ true
   pub there : has_at n s (p + 1) ≡ true
-  pub name : name_at s (p + 1) ≡ Past (p + 1 + length n)
+  pub name : name_at s (p + 1) ≡ Ok (p + 1 + length n)
   pub tag : byte_at s (p + 1 + length n) ≡ 62
   pub inside : has_at c s (p + 1 + length n + 1) ≡ true
   pub closed : has_at (bytes "</") s (p + 1 + length n + 1 + length c) ≡ true
-  pub ends : end_tag_at s (p + 1) (p + 1 + length n) (p + 1 + length n + 1 + length c) ≡ Past (p + length (start_tag n ++ c ++ end_tag n))
+  pub ends : end_tag_at s (p + 1) (p + 1 + length n) (p + 1 + length n + 1 + length c) ≡ Ok (p + length (start_tag n ++ c ++ end_tag n))
 
 pub laid : (s : List ℕ) (p : ℕ) (n c : List ℕ) → Name n → has_at (start_tag n ++ c ++ end_tag n) s p ≡ true → Laid s p n c
 laid s p n c na h =
@@ -284,11 +282,11 @@ laid s p n c na h =
     let x = name_is_lem s (p + 1) na a₄.1 y in
     let t = end_tag_is s (p + 1) m n a₄.1 a₁.1 in
     let f : m + length (end_tag n) ≡ p + length (start_tag n ++ c ++ end_tag n) = omega arith in
-    record { opens = has_byte s 60 n p a₃.0; letter = x.1; there = a₄.1; name = x.0; tag = y; inside = a₂.1; closed = t.0; ends = t.1 ∙ ap Past f }
+    record { opens = has_byte s 60 n p a₃.0; letter = x.1; there = a₄.1; name = x.0; tag = y; inside = a₂.1; closed = t.0; ends = t.1 ∙ ap Ok f }
 
 -- what is to be shown of an element of d levels that stands at p: it is read, and begins with < and a letter
 pub record Read (s : List ℕ) (d p : ℕ) (e : List ℕ) : Type 0 where
-  pub reads : element_at d s (p + 1) ≡ Past (p + length e)
+  pub reads : element_at d s (p + 1) ≡ Ok (p + length e)
   pub opens : byte_at s p ≡ 60
   pub named : is_letter (byte_at s (p + 1)) ≡ true
 
@@ -318,7 +316,7 @@ module _ (s : List ℕ) (d : ℕ) (ih : Reads s d) where
       (children_step d s p o r.opens (p + length e) r.reads ∙ ap (children_by (element_at d s) s) v, r)
 
   pub elements_is : (p : ℕ) (k : List ℕ) → Elements d k → has_at k s p ≡ true → has_at (bytes "</") s (p + length k) ≡ true
-      → (children_by (element_at d s) s p ≡ Past (p + length k)) × (byte_at s p ≡ 60) × (is_letter (byte_at s (p + 1)) ≡ true)
+      → (children_by (element_at d s) s p ≡ Ok (p + length k)) × (byte_at s p ≡ 60) × (is_letter (byte_at s (p + 1)) ≡ true)
   elements_is p k (last {e = e} {w = w} el wh) h o =
       let q = p + length (e ++ w) in
       let r = child_is p q e w el wh h refl (open_of s q o).0 in
@@ -330,9 +328,9 @@ module _ (s : List ℕ) (d : ℕ) (ih : Reads s d) where
       let z : q + length j ≡ p + length (e ++ w ++ j) = omega arith in
       let m = elements_is q j ks a.1 (rw z o) in
       let r = child_is p q e w el wh a.0 refl m.1 in
-      (r.0 ∙ m.0 ∙ ap Past z, r.1.opens, r.1.named)
+      (r.0 ∙ m.0 ∙ ap Ok z, r.1.opens, r.1.named)
 
-  pub content_is : (p : ℕ) (c : List ℕ) → Content d c → has_at c s p ≡ true → has_at (bytes "</") s (p + length c) ≡ true → content_at d s p ≡ Past (p + length c)
+  pub content_is : (p : ℕ) (c : List ℕ) → Content d c → has_at c s p ≡ true → has_at (bytes "</") s (p + length c) ≡ true → content_at d s p ≡ Ok (p + length c)
   content_is p c (only (text ps wo)) h o = text_content s d p (p + length c) (text_is_lem s p ps wo h (open_of s (p + length c) o).0) o
   content_is p c (elements {w = w} {k = k} wh ks) h o =
       let a = has_split s w k p (p + length w) refl h in
@@ -342,13 +340,13 @@ module _ (s : List ℕ) (d : ℕ) (ih : Reads s d) where
       let z = white_is s p wh a.0 (no_white _ r.1) in
       let y : byte_at s (white_at s p) ≡ 60 = rw z r.1 in
       let u : is_letter (byte_at s (white_at s p + 1)) ≡ true = rw z r.2 in
-      content_children d s p y (no_slash _ u) ∙ rw z (r.0 ∙ ap Past q)
+      content_children d s p y (no_slash _ u) ∙ rw z (r.0 ∙ ap Ok q)
 
   parts_is : (p : ℕ) (n c : List ℕ) → Name n → Content d c → has_at (start_tag n ++ c ++ end_tag n) s p ≡ true → Read s (suc d) p (start_tag n ++ c ++ end_tag n)
   parts_is p n c na co h =
       let e = p + 1 + length n in
       let w = laid s p n c na h in
-      let k : content_at (suc d - 1) s (e + 1) ≡ Past (e + 1 + length c) = rw sub-one (content_is (e + 1) c co w.inside w.closed) in
+      let k : content_at (suc d - 1) s (e + 1) ≡ Ok (e + 1 + length c) = rw sub-one (content_is (e + 1) c co w.inside w.closed) in
       record { reads = element_ends (suc d) s (p + 1) (λ z. absurd (omega arith)) e w.name w.tag (e + 1 + length c) k ∙ w.ends; opens = w.opens; named = w.letter }
 
 levels : {d : ℕ} {e : List ℕ} → Element d e → (k : ℕ) × (d ≡ suc k)
@@ -371,8 +369,8 @@ pub record TagRead (ids : Bool) (s : List ℕ) (p : ℕ) (n a : List ℕ) : Type
   pub opens : byte_at s p ≡ 60
   pub letter : is_letter (byte_at s (p + 1)) ≡ true
   pub there : has_at n s (p + 1) ≡ true
-  pub name : name_at s (p + 1) ≡ Past (p + 1 + length n)
-  pub tag : tag_end_at ids s (p + 1 + length n) ≡ Past (p + length a)
+  pub name : name_at s (p + 1) ≡ Ok (p + 1 + length n)
+  pub tag : tag_end_at ids s (p + 1 + length n) ≡ Ok (p + length a)
 
 pub id_assoc : (a n b v c d : List ℕ) → a ++ n ++ (b ++ v ++ c) ++ d ≡ a ++ (n ++ (b ++ (v ++ (c ++ d))))
 id_assoc a n b v c d = simp append_assoc
@@ -390,7 +388,7 @@ id_tag s p {n} na (id v a k l) h =
     let l₂ = length-append (bytes "<" ++ n) (bytes " Id=\"" ++ v ++ bytes "\"") in
     let l₃ = length-append v (bytes "\"") in
     let z : e + 5 + length v + 2 ≡ p + length (bytes "<" ++ n ++ (bytes " Id=\"" ++ v ++ bytes "\"") ++ bytes ">") = omega arith in
-    record { opens = has_byte s 60 [] p b.0; letter = x.1; there = c.0; name = x.0; tag = tag_id s e (λ w. omega arith) true refl ∙ id_is s v e a k l c.1 ∙ ap Past z }
+    record { opens = has_byte s 60 [] p b.0; letter = x.1; there = c.0; name = x.0; tag = tag_id s e (λ w. omega arith) true refl ∙ id_is s v e a k l c.1 ∙ ap Ok z }
 
 tag_is : (ids : Bool) (s : List ℕ) (p : ℕ) {n a : List ℕ} → Name n → RootTag n ids a → has_at a s p ≡ true → TagRead ids s p n a
 tag_is ids s p {n} na plain h =
@@ -401,15 +399,15 @@ tag_is ids s p {n} na plain h =
     let y = has_byte s 62 [] e a.1 in
     let x = name_is_lem s (p + 1) na b.1 y in
     let z : e + 1 ≡ p + length (start_tag n) = omega arith in
-    record { opens = has_byte s 60 n p a.0; letter = x.1; there = b.1; name = x.0; tag = tag_plain s e ids y ∙ ap Past z }
+    record { opens = has_byte s 60 n p a.0; letter = x.1; there = b.1; name = x.0; tag = tag_plain s e ids y ∙ ap Ok z }
 tag_is ids s p na (with_id d) h = id_tag s p na d h
 
 pub record RootRead (ids : Bool) (s : List ℕ) (p : ℕ) (n a c : List ℕ) : Type 0 where
   pub head : TagRead ids s p n a
   pub inside : has_at c s (p + length a) ≡ true
   pub closed : has_at (bytes "</") s (p + length a + length c) ≡ true
-  pub holds : content_at 11 s (p + length a) ≡ Past (p + length a + length c)
-  pub reads : (z : ℕ) → z ≡ white_at s (p + length (a ++ c ++ end_tag n)) → z ≡ length s → root_from ids s p ≡ markup.Root p (p + 1 + length n) (p + length a)
+  pub holds : content_at 11 s (p + length a) ≡ Ok (p + length a + length c)
+  pub reads : (z : ℕ) → z ≡ white_at s (p + length (a ++ c ++ end_tag n)) → z ≡ length s → root_from ids s p ≡ Ok (p, (p + 1 + length n), (p + length a))
 
 pub root_reads : (ids : Bool) (s : List ℕ) (p : ℕ) (n a c : List ℕ) → Name n → RootTag n ids a → Content 11 c → has_at (a ++ c ++ end_tag n) s p ≡ true → RootRead ids s p n a c
 root_reads ids s p n a c na ta co h =
@@ -422,7 +420,7 @@ root_reads ids s p n a c na ta co h =
     let e = end_tag_is s (p + 1) m n t.there a₁.1 in
     let k = content_is s 11 (element_is s 11) (p + length a) c co a₂.1 e.0 in
     let q : m + length (end_tag n) ≡ p + length (a ++ c ++ end_tag n) = omega arith in
-    record { head = t; inside = a₂.1; closed = e.0; holds = k; reads = λ z u x. root_ends ids s p (p + 1 + length n) t.name (p + length a) t.tag m k (p + length (a ++ c ++ end_tag n)) (e.1 ∙ ap Past q) z u x }
+    record { head = t; inside = a₂.1; closed = e.0; holds = k; reads = λ z u x. root_ends ids s p (p + 1 + length n) t.name (p + length a) t.tag m k (p + length (a ++ c ++ end_tag n)) (e.1 ∙ ap Ok q) z u x }
 
 -- THE WHOLE FLOW
 pub starts_self : (t : List ℕ) → starts_with t t ≡ true
@@ -469,7 +467,7 @@ white_ends s {v} q wh h l =
 
 -- m, d, w, the root and v stand one behind the other
 flow_is : (ids : Bool) (s m d w v n t k : List ℕ) → s ≡ m ++ d ++ w ++ (t ++ k ++ end_tag n) ++ v → Mark m → Declaration d → White w → Name n → RootTag n ids t → Content 11 k → White v
-    → markup_of ids s ≡ markup.Root (length (m ++ d ++ w)) (length (m ++ d ++ w) + 1 + length n) (length (m ++ d ++ w) + length t)
+    → markup_of ids s ≡ Ok ((length (m ++ d ++ w)), (length (m ++ d ++ w) + 1 + length n), (length (m ++ d ++ w) + length t))
 unfolding has_at
 flow_is ids s m d w v n t k z ma de wh na ta co wt =
     let r = t ++ k ++ end_tag n in
@@ -493,8 +491,8 @@ flow_is ids s m d w v n t k z ma de wh na ta co wt =
     let ow : white_at s b ≡ c = white_is s b wh a₃.1 (no_white _ x.head.opens) in
     let y : c ≡ length (m ++ d ++ w) = omega arith in
     markup_root ids s c (root_is s a (sym om) b (sym od) c (sym ow)) x.head.opens ∙ x.reads (white_at s q) refl (white_ends s q wt a₁.1 (omega arith))
-    ∙ ap (λ (j : ℕ). markup.Root j (j + 1 + length n) (j + length t)) y
+    ∙ ap (λ (j : ℕ). Ok (j, (j + 1 + length n), (j + length t))) y
 
-pub flow_complete : {ids : Bool} (s : List ℕ) (f : Document ids s) → markup_of ids s ≡ markup.Root (root_place f) (name_end f) (content_place f)
+pub flow_complete : {ids : Bool} (s : List ℕ) (f : Document ids s) → markup_of ids s ≡ Ok ((root_place f), (name_end f), (content_place f))
 unfolding root_place name_end content_place
 flow_complete {ids} s (document {m = m} {d = d} {w = w} {v = v} ma de wh (root {n = n} {a = t} {c = k} na ta co) wt) = flow_is ids (m ++ d ++ w ++ (t ++ k ++ end_tag n) ++ v) m d w v n t k refl ma de wh na ta co wt

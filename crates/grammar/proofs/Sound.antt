@@ -1,4 +1,5 @@
 -- Whatever the reader accepts is of the grammar.
+use Rattle.std.specs.Prelude.{Result, Ok, Err}
 use mathlib.Core.Path.{◌≡◌, refl, sym, ap, subst, ◌∙◌}
 use mathlib.Core.Logic.{◌⊎◌, inl, inr}
 use mathlib.Core.List.{List, [], ◌∷◌, ◌++◌}
@@ -9,8 +10,6 @@ use lib.ListN.{length, take, drop, length-drop, length-append}
 use lib.Seq.{take_all, get_or-take, get_or-drop}
 use lib.Dec.{leb, eqb}
 use borrow.Author.Tests.{eqb-true, eqb-false, eq-eqb, leb-true, leb-false}
-use Rattle.scan.specs.declared.Walk.{Walk}
-use Rattle.scan.specs.declared.Walk.TheVariants.{Past, Broken}
 use Rattle.scan.specs.Bytes.{bytes, byte_at, part, between, is_letter, is_name_byte, is_white, all, run, run_end, has_at}
 use Rattle.scan.specs.Characters.{is_char, sized, is_tail, char_size, char_size_at, past_or, char_at}
 use Rattle.scan.specs.References.{Reference, ref_at}
@@ -18,7 +17,6 @@ use Rattle.scan.proofs.Laws.{never, both, choose, cond_past, Advance, stands, ru
 use Rattle.tokens.specs.Tokens.{and_then, repeat, until, name_at, tag_end_at, white_at, piece_at, text_at, end_tag_at, optional_at}
 use Rattle.tokens.proofs.Laws.{then_past, Steps, name_past, IdParts, tag_parts, piece_past, text_past, end_past, piece_end}
 use Rattle.markup.specs.Markup.{child_by, children_by, content_by, element_at, content_at, mark, declaration, root_at, markup_of}
-use Rattle.markup.specs.declared.Markup.TheVariants as markup
 use Rattle.markup.proofs.Laws.{content_past, parts, element_past, Rooted, markup_parts, root_placed}
 use Rattle.grammar.specs.Grammar.{Name, name, White, white, Allowed, Character, one, two, three, four, Piece, char, amp, lt, gt, quot, apos, Pieces, none, more, Text, text, start_tag, end_tag, Element, element, Content, elements, only, Elements, last, next, Optional, absent, present, Mark, Declaration, Id, id, RootTag, plain, with_id, Root, root, Document, document}
 use Rattle.grammar.proofs.Parts.{no, not_so, part_join, part_none, part_next, part_1, part_2, part_3, part_4, part_length, has_part, has_split, has_byte, part_has}
@@ -103,11 +101,11 @@ module _ (s : List ℕ) (p m : ℕ) (f : char_size_at s p ≡ suc m) where
           let c = both (is_tail (byte_at s (p + 2))) (is_tail (byte_at s (p + 3))) b.1 in
           rw (part_4 s p (p + suc m) within (omega arith)) (four_bytes _ _ b.0 _ c.0 _ c.1 a.0 z.1)
 
-char_sound : (s : List ℕ) (p r : ℕ) → char_at s p ≡ Past r → Character (part s p r)
+char_sound : (s : List ℕ) (p r : ℕ) → char_at s p ≡ Ok r → Character (part s p r)
 unfolding char_at past_or
 char_sound s p r = go (char_size_at s p) refl
   where
-    go : (n : ℕ) → char_size_at s p ≡ n → past_or n p ≡ Past r → Character (part s p r)
+    go : (n : ℕ) → char_size_at s p ≡ n → past_or n p ≡ Ok r → Character (part s p r)
     go zero f e = never e
     go (suc m) f e = let z : p + suc m ≡ r = cc in rw z at (size_sound s p m f)
 
@@ -126,26 +124,26 @@ unfolding run_end
 run_part p s at = let q : at + run p (drop at s) - at ≡ run p (drop at s) = omega arith in rw q (run_all p (drop at s))
 
 -- REPEATED STEPS: what holds where it stops, and is carried back over each step, holds at the start
-module _ (s : List ℕ) (stop : ℕ → Bool) (step : ℕ → Walk) (P : ℕ → ℕ → Type 0)
+module _ (s : List ℕ) (stop : ℕ → Bool) (step : ℕ → Result ℕ ℕ) (P : ℕ → ℕ → Type 0)
     (base : (p : ℕ) → stop p ≡ true → P p p)
-    (back : (p r q : ℕ) → stop p ≡ false → step p ≡ Past r → P r q → P p q) where
-  repeat_ind : (n p q : ℕ) → repeat n stop step p ≡ Past q → P p q
+    (back : (p r q : ℕ) → stop p ≡ false → step p ≡ Ok r → P r q → P p q) where
+  repeat_ind : (n p q : ℕ) → repeat n stop step p ≡ Ok q → P p q
   unfolding repeat
   repeat_ind zero p q e = never e
   repeat_ind (suc n) p q e = go (stop p) refl (step p) refl (repeat_ind n) e
     where
-      go : (b : Bool) → stop p ≡ b → (w : Walk) → step p ≡ w → ((r q : ℕ) → repeat n stop step r ≡ Past q → P r q) → cond b (Past p) (and_then w (repeat n stop step)) ≡ Past q → P p q
+      go : (b : Bool) → stop p ≡ b → (w : Result ℕ ℕ) → step p ≡ w → ((r q : ℕ) → repeat n stop step r ≡ Ok q → P r q) → cond b (Ok p) (and_then w (repeat n stop step)) ≡ Ok q → P p q
       go true eb w ew ih h = let z : p ≡ q = cc in subst (P p) z (base p eb)
-      go false eb (Past r) ew ih h = back p r q eb ew (ih r q h)
-      go false eb (Broken r) ew ih h = never h
+      go false eb (Ok r) ew ih h = back p r q eb ew (ih r q h)
+      go false eb (Err r) ew ih h = never h
 
-  until_ind : (p q : ℕ) → until s stop step p ≡ Past q → P p q
+  until_ind : (p q : ℕ) → until s stop step p ≡ Ok q → P p q
   unfolding until
   until_ind = repeat_ind (suc (length s))
 
 module _ (s : List ℕ) where
   -- TEXT
-  ref_sound : (p r : ℕ) → ref_at s p ≡ Past r → Piece (part s p r)
+  ref_sound : (p r : ℕ) → ref_at s p ≡ Ok r → Piece (part s p r)
   ref_sound p r e =
       let f = ref_is (λ (x : Reference). Piece x.written) s p r (amp, (lt, (gt, (quot, (apos, tt))))) e in
       rw (← f.past, has_part s f.which.written p f.there) f.holds
@@ -157,11 +155,11 @@ module _ (s : List ℕ) where
       let z : byte_at s p ≡ b = cc in
       eqb-false _ _ f z
 
-  pub piece_sound : (p r : ℕ) → eqb (byte_at s p) 60 ≡ false → piece_at s p ≡ Past r → Piece (part s p r)
+  pub piece_sound : (p r : ℕ) → eqb (byte_at s p) 60 ≡ false → piece_at s p ≡ Ok r → Piece (part s p r)
   unfolding piece_at
   piece_sound p r l e = go (eqb (byte_at s p) 38) refl (has_at (bytes "]]>") s p) e
     where
-      go : (a : Bool) → eqb (byte_at s p) 38 ≡ a → (b : Bool) → cond a (ref_at s p) (cond b (Broken p) (char_at s p)) ≡ Past r → Piece (part s p r)
+      go : (a : Bool) → eqb (byte_at s p) 38 ≡ a → (b : Bool) → cond a (ref_at s p) (cond b (Err p) (char_at s p)) ≡ Ok r → Piece (part s p r)
       go true f b h = ref_sound p r h
       go false f true h = never h
       go false f false h = let g = char_past s p r h in char (char_sound s p r h) (not_alone p r 60 g l) (not_alone p r 38 g f)
@@ -171,7 +169,7 @@ module _ (s : List ℕ) where
   Clean p q = (j : ℕ) → p ≤ j → j < q → has_at (bytes "]]>") s j ≡ false
 
   -- not at a piece's first byte, nor at another of its bytes
-  clean_first : (p r : ℕ) → piece_at s p ≡ Past r → has_at (bytes "]]>") s p ≡ false
+  clean_first : (p r : ℕ) → piece_at s p ≡ Ok r → has_at (bytes "]]>") s p ≡ false
   clean_first p r e = not_so (has_at (bytes "]]>") s p) (λ h. let b = has_byte s 93 (bytes "]>") p h in never (sym (piece_end s p (λ z. omega arith) h) ∙ e))
 
   clean_rest : (p r j : ℕ) → r ≤ length s → Piece (part s p r) → p < j → j < r → has_at (bytes "]]>") s j ≡ false
@@ -182,7 +180,7 @@ module _ (s : List ℕ) where
       let z : p + (1 + (j - p - 1)) ≡ j = omega arith in
       no (sym (rw (get_or-drop, get_or-take (r - p) (drop p s) (1 + (j - p - 1)) 0 l, get_or-drop, z, b) at a)))
 
-  pub clean_more : (p r q : ℕ) → eqb (byte_at s p) 60 ≡ false → piece_at s p ≡ Past r → Clean r q → Clean p q
+  pub clean_more : (p r q : ℕ) → eqb (byte_at s p) 60 ≡ false → piece_at s p ≡ Ok r → Clean r q → Clean p q
   clean_more p r q l e c j h k = go (leb j p) refl (leb r j) refl
     where
       go : (a : Bool) → leb j p ≡ a → (b : Bool) → leb r j ≡ b → has_at (bytes "]]>") s j ≡ false
@@ -190,7 +188,7 @@ module _ (s : List ℕ) where
       go false f true g = c j (leb-true r j g) k
       go false f false g = clean_rest p r j (piece_past s p r e).within (piece_sound p r l e) (omega (arith, leb-false j p f)) (omega (arith, leb-false r j g))
 
-  pieces_sound : (p q : ℕ) → text_at s p ≡ Past q → (p ≤ q) × Pieces (part s p q) × Clean p q
+  pieces_sound : (p q : ℕ) → text_at s p ≡ Ok q → (p ≤ q) × Pieces (part s p q) × Clean p q
   unfolding text_at
   pieces_sound =
       until_ind s (λ r. eqb (byte_at s r) 60) (piece_at s) (λ p q. (p ≤ q) × Pieces (part s p q) × Clean p q)
@@ -205,17 +203,17 @@ module _ (s : List ℕ) where
       let k = rw (part_length s p q w, length-append, length-append) at l in
       no (sym (part_has s p q a (bytes "]]>") b z) ∙ c (p + length a) (omega arith) (omega arith)))
 
-  text_sound : (p q : ℕ) → text_at s p ≡ Past q → Text (part s p q)
+  text_sound : (p q : ℕ) → text_at s p ≡ Ok q → Text (part s p q)
   text_sound p q e =
       let g = pieces_sound p q e in
       let w = text_past s p q e in
       clean_text p q (omega arith) g.1 g.2
 
   -- NAMES AND TAGS
-  pub name_sound : (at e : ℕ) → name_at s at ≡ Past e → Name (part s at e)
+  pub name_sound : (at e : ℕ) → name_at s at ≡ Ok e → Name (part s at e)
   unfolding name_at is_name_byte is_letter
   name_sound at e h =
-      let c = cond_past (is_letter (byte_at s at) && leb (run_end is_name_byte s at - at) 48) (Past (run_end is_name_byte s at)) at h in
+      let c = cond_past (is_letter (byte_at s at) && leb (run_end is_name_byte s at - at) 48) (Ok (run_end is_name_byte s at)) at h in
       let b = both (is_letter (byte_at s at)) (leb (run_end is_name_byte s at - at) 48) c.0 in
       let g = name_past s at e h in
       let n : is_name_byte (byte_at s at) ≡ true = rw b.0 in
@@ -227,10 +225,10 @@ module _ (s : List ℕ) where
       rw (part_next s at (at + 1) e refl (omega arith) (omega arith))
       (name {b = byte_at s at} {t = part s (at + 1) e} b.0 a (omega (arith, part_length s (at + 1) e g.within)))
 
-  pub end_sound : (a e p q : ℕ) → a ≤ e → e ≤ length s → end_tag_at s a e p ≡ Past q → part s p q ≡ end_tag (part s a e)
+  pub end_sound : (a e p q : ℕ) → a ≤ e → e ≤ length s → end_tag_at s a e p ≡ Ok q → part s p q ≡ end_tag (part s a e)
   unfolding end_tag_at
   end_sound a e p q h k x =
-      let c = cond_past (has_at (bytes "</") s p && (has_at (part s a e) s (p + 2) && eqb (byte_at s (p + 2 + (e - a))) 62)) (Past (p + 2 + (e - a) + 1)) p x in
+      let c = cond_past (has_at (bytes "</") s p && (has_at (part s a e) s (p + 2) && eqb (byte_at s (p + 2 + (e - a))) 62)) (Ok (p + 2 + (e - a) + 1)) p x in
       let d = both (has_at (bytes "</") s p) (has_at (part s a e) s (p + 2) && eqb (byte_at s (p + 2 + (e - a))) 62) c.0 in
       let f = both (has_at (part s a e) s (p + 2)) (eqb (byte_at s (p + 2 + (e - a))) 62) d.1 in
       let i : p + 2 + (e - a) < length s = stands 61 s (p + 2 + (e - a)) f.1 in
@@ -257,16 +255,16 @@ module _ (s : List ℕ) where
   closes_slash p e = has_byte s 47 [] (p + 1) (has_split s (bytes "<") (bytes "/") p (p + 1) refl e).1
 
   -- ONE LEVEL: where each element inside is of the grammar, so is the content around it
-  module _ (d : ℕ) (element_r : ℕ → Walk) (adv : Steps s element_r) (sound : (p q : ℕ) → byte_at s p ≡ 60 → element_r (p + 1) ≡ Past q → Element d (part s p q)) where
+  module _ (d : ℕ) (element_r : ℕ → Result ℕ ℕ) (adv : Steps s element_r) (sound : (p q : ℕ) → byte_at s p ≡ 60 → element_r (p + 1) ≡ Ok q → Element d (part s p q)) where
     -- from p to q nothing where </ stands, elements elsewhere
     abbrev Good : ℕ → ℕ → Type 0
     Good p q = (p ≤ q) × (has_at (bytes "</") s p ≡ true → p ≡ q) × (has_at (bytes "</") s p ≡ false → Elements d (part s p q))
 
-    back : (p r q : ℕ) → has_at (bytes "</") s p ≡ false → child_by element_r s p ≡ Past r → Good r q → Good p q
+    back : (p r q : ℕ) → has_at (bytes "</") s p ≡ false → child_by element_r s p ≡ Ok r → Good r q → Good p q
     unfolding child_by
     back p r q e f g =
-        let c = cond_past (eqb (byte_at s p) 60) (and_then (element_r (p + 1)) (λ t. Past (white_at s t))) p f in
-        let t = then_past (element_r (p + 1)) (λ t. Past (white_at s t)) c.1 in
+        let c = cond_past (eqb (byte_at s p) 60) (and_then (element_r (p + 1)) (λ t. Ok (white_at s t))) p f in
+        let t = then_past (element_r (p + 1)) (λ t. Ok (white_at s t)) c.1 in
         let m = t.0 in
         let a = adv (p + 1) m t.1 in
         let w = run_from is_white s m in
@@ -281,18 +279,18 @@ module _ (s : List ℕ) where
         ] in
         (omega arith, (λ h. no (sym h ∙ e)), λ h. go (has_at (bytes "</") s r) refl)
 
-    children_sound : (p q : ℕ) → children_by element_r s p ≡ Past q → Good p q
+    children_sound : (p q : ℕ) → children_by element_r s p ≡ Ok q → Good p q
     unfolding children_by
     children_sound =
         until_ind s (has_at (bytes "</") s) (child_by element_r s) Good
         (λ p e. (omega arith, (λ h. refl), λ h. no (sym e ∙ h)))
         back
 
-    content_sound : (p q : ℕ) → content_by element_r s p ≡ Past q → Content d (part s p q)
+    content_sound : (p q : ℕ) → content_by element_r s p ≡ Ok q → Content d (part s p q)
     unfolding content_by
     content_sound p q = go (eqb (byte_at s (white_at s p)) 60) (eqb (byte_at s (white_at s p + 1)) 47) refl
       where
-        go : (a b : Bool) → eqb (byte_at s (white_at s p + 1)) 47 ≡ b → cond (a && not b) (children_by element_r s (white_at s p)) (text_at s p) ≡ Past q → Content d (part s p q)
+        go : (a b : Bool) → eqb (byte_at s (white_at s p + 1)) 47 ≡ b → cond (a && not b) (children_by element_r s (white_at s p)) (text_at s p) ≡ Ok q → Content d (part s p q)
         go false b e h = only (text_sound p q h)
         go true true e h = only (text_sound p q h)
         go true false e h =
@@ -302,7 +300,7 @@ module _ (s : List ℕ) where
             (elements (white (run_part is_white s p)) (g.2 o))
 
 -- AN ELEMENT, from its < on
-pub element_sound : (d : ℕ) (s : List ℕ) (p q : ℕ) → byte_at s p ≡ 60 → element_at d s (p + 1) ≡ Past q → Element d (part s p q)
+pub element_sound : (d : ℕ) (s : List ℕ) (p q : ℕ) → byte_at s p ≡ 60 → element_at d s (p + 1) ≡ Ok q → Element d (part s p q)
 unfolding element_at
 element_sound zero s p q o e = never e
 element_sound (suc d) s p q o e =
@@ -317,7 +315,7 @@ element_sound (suc d) s p q o e =
     whole s d p t m q o (eqb-true (byte_at s t) 62 k.2.opens) (omega arith) (omega arith) f.0 (omega arith) (name_sound s (p + 1) t k.2.name) co x
 
 -- CONTENT whose elements have at most d levels
-pub content_at_sound : (d : ℕ) (s : List ℕ) (p q : ℕ) → content_at d s p ≡ Past q → Content d (part s p q)
+pub content_at_sound : (d : ℕ) (s : List ℕ) (p q : ℕ) → content_at d s p ≡ Ok q → Content d (part s p q)
 unfolding content_at
 content_at_sound d s = content_sound s d (element_at d s) (element_past d s) (element_sound d s)
 
@@ -349,7 +347,7 @@ module _ (s : List ℕ) where
   id_tag j e g o y h k l =
       rw (part_join s j (g + 1) (g + 2) (omega arith) (omega arith), part_join s j e (g + 1) (omega arith) (omega arith), part_next s j (j + 1) e refl (omega arith) (omega arith), part_1 s (g + 1) (g + 2) l (omega arith), o, y)
 
-  tag_sound : (ids : Bool) (j e c : ℕ) → byte_at s j ≡ 60 → j < e → e ≤ length s → tag_end_at ids s e ≡ Past c → RootTag (part s (j + 1) e) ids (part s j c)
+  tag_sound : (ids : Bool) (j e c : ℕ) → byte_at s j ≡ 60 → j < e → e ≤ length s → tag_end_at ids s e ≡ Ok c → RootTag (part s (j + 1) e) ids (part s j c)
   tag_sound ids j e c o h l t = go (tag_parts ids s e c t)
     where
       go : ((byte_at s e ≡ 62) × (c ≡ e + 1)) ⊎ ((ids ≡ true) × IdParts s e (run_end is_name_byte s (e + 5)) c) → RootTag (part s (j + 1) e) ids (part s j c)
@@ -387,7 +385,7 @@ flow_parts ids s a b c q h k l n ma de wh ro wt =
     (rw (part_join s 0 q (length s) (omega arith) n, part_join s 0 c q (omega arith) l, part_join s 0 b c (omega arith) k, part_join s 0 a b (omega arith) h)
     (document ma de wh ro wt))
 
-pub flow_sound : (ids : Bool) (s : List ℕ) (j e c : ℕ) → markup_of ids s ≡ markup.Root j e c → Document ids s
+pub flow_sound : (ids : Bool) (s : List ℕ) (j e c : ℕ) → markup_of ids s ≡ Ok (j, e, c) → Document ids s
 unfolding root_at
 flow_sound ids s j e c h =
     let k = markup_parts ids s j e c h in

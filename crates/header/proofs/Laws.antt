@@ -1,4 +1,5 @@
 -- The header put together of the root's first named children, in both editions.
+use Rattle.std.specs.Prelude.{Option, Some, None}
 use mathlib.Core.Path.{◌≡◌, refl, sym, ap, ◌∙◌}
 use mathlib.Core.Logic.{◌⊎◌, ⊎_elim}
 use mathlib.Core.List.{List, ◌∷◌}
@@ -14,8 +15,6 @@ use Rattle.schema.specs.declared.Parent.TheVariants.{FlussoOrdinativi, FlussoOpi
 use Rattle.schema.specs.declared.Holds.{Holds}
 use Rattle.schema.specs.declared.Holds.TheVariants.{Text, Rows}
 use Rattle.rows.specs.declared.Kept.{Kept}
-use Rattle.rows.specs.declared.Next.{Next}
-use Rattle.rows.specs.declared.Next.TheVariants.{Named, Done}
 use Rattle.schema.specs.Table.{table}
 use Rattle.rows.specs.Kept.{kept_from, next_of}
 use Rattle.structure.specs.Structure.{Range, ranges, kept_holds, fits_at}
@@ -35,7 +34,7 @@ use Rattle.header.specs.Heading.{root_rows, span_of, testata_in, four_then, head
 module _ {rs : List Range} (depth : ℕ) (p : Parent) (s : List ℕ) (i : ℕ) (a b c d : Kept)
     (fa : Found (drop 1 (four_then rs)) depth p s 0 i a) (fb : Found (drop 2 (four_then rs)) depth p s 1 a.child.after b)
     (fc : Found (drop 3 (four_then rs)) depth p s 2 b.child.after c) (fd : Found rs depth p s 3 c.child.after d)
-    (na : next_of (kept_from p s i) ≡ Named a) (nd : next_of (kept_from p s c.child.after) ≡ Named d) where
+    (na : next_of (kept_from p s i) ≡ Some a) (nd : next_of (kept_from p s c.child.after) ≡ Some d) where
   fourth : in_row 3 (kept_from p s i) ≡ d ∷ in_row 3 (kept_from p s d.child.after)
   fourth = fa.later 3 (omega arith) ∙ fb.later 3 (omega arith) ∙ fc.later 3 (omega arith) ∙ row_one 3 p s c.child.after d nd fd.row
 
@@ -43,21 +42,21 @@ module _ {rs : List Range} (depth : ℕ) (p : Parent) (s : List ℕ) (i : ℕ) (
       → t.after ≡ d.child.after → t ≡ testata_in (kept_from p s i)
   unfolding testata_in
   testata_made t u v w x y =
-      let e : next_of (in_row 0 (kept_from p s i)) ≡ Named a = ap next_of (row_one 0 p s i a na fa.row) in
-      let f : next_of (in_row 3 (kept_from p s i)) ≡ Named d = ap next_of fourth in
+      let e : next_of (in_row 0 (kept_from p s i)) ≡ Some a = ap next_of (row_one 0 p s i a na fa.row) in
+      let f : next_of (in_row 3 (kept_from p s i)) ≡ Some d = ap next_of fourth in
       rw (e, f, ← u, ← v, ← w, ← x, ← y)
 
 -- past a row of one
 record Passed (rs : List Range) (depth : ℕ) (p : Parent) (s : List ℕ) (n i : ℕ) (k : Kept) : Type 0 where
-  next : next_of (kept_from p s i) ≡ Named k
+  next : next_of (kept_from p s i) ≡ Some k
   found : Found rs depth p s n i k
 
 passed : {rs : List Range} (depth : ℕ) (p : Parent) (s : List ℕ) (n i : ℕ) → Filled (one ∷ rs) depth p s n i → (k : Kept) × Passed rs depth p s n i k
 passed {rs} depth p s n i f = go (next_of (kept_from p s i)) refl
   where
-    go : (x : Next) → next_of (kept_from p s i) ≡ x → (k : Kept) × Passed rs depth p s n i k
-    go Done e = absurd (found_some depth p s n i f e)
-    go (Named k) e = (k, record { next = e; found = found depth p s n i f k e })
+    go : (x : Option Kept) → next_of (kept_from p s i) ≡ x → (k : Kept) × Passed rs depth p s n i k
+    go None e = absurd (found_some depth p s n i f e)
+    go (Some k) e = (k, record { next = e; found = found depth p s n i f k e })
 
 -- it holds no order
 abbrev NoOrder : Parent → ℕ → Type 0
@@ -99,7 +98,7 @@ pub record Nested (s : List ℕ) (i : ℕ) (k : Kept) : Type 0 where
   pub inner : Inside (ranges (table TestataFlusso)) 2 s k TestataFlusso
   pub own : testata_of Opi s (kept_from FlussoOpi s i) ≡ kept_from TestataFlusso s (white_at s (k.child.gt + 1))
 
-pub nested : (s : List ℕ) (i : ℕ) (k : Kept) → Filled (root_rows Opi) 3 FlussoOpi s 0 i → next_of (kept_from FlussoOpi s i) ≡ Named k → Nested s i k
+pub nested : (s : List ℕ) (i : ℕ) (k : Kept) → Filled (root_rows Opi) 3 FlussoOpi s 0 i → next_of (kept_from FlussoOpi s i) ≡ Some k → Nested s i k
 nested s i k f e =
     let o = found 3 FlussoOpi s 0 i f k e in
     let l = o.lies in
@@ -108,7 +107,7 @@ nested s i k f e =
     let w = all_next FlussoOpi s i k e (kept_holds (λ q b. fits_at 3 q s b) s) f.each in
     let v : Shaped (ranges (table TestataFlusso)) 3 s k = record { within = omega arith; rows = rw h; holds = w.0 } in
     let n = shaped_other (ranges (table TestataFlusso)) 2 s k TestataFlusso (λ x. omega arith) h v in
-    let z : next_of (in_row 0 (kept_from FlussoOpi s i)) ≡ Named k = ap next_of (row_one 0 FlussoOpi s i k e r) in
+    let z : next_of (in_row 0 (kept_from FlussoOpi s i)) ≡ Some k = ap next_of (row_one 0 FlussoOpi s i k e r) in
     record { holds = h; shaped = v; inner = n; own = rw z n.named }
 
 -- THE HEADER of either edition
@@ -116,7 +115,7 @@ module _ (e : Edition) (s : List ℕ) (i : ℕ) where
   abbrev kids : List Kept
   kids = kept_from (root_of e) s i
 
-  pub heading_made : (k : Kept) → next_of (in_row (esercizio_row e) kids) ≡ Named k → (t : Testata) → t ≡ testata_in (testata_of e s kids)
+  pub heading_made : (k : Kept) → next_of (in_row (esercizio_row e) kids) ≡ Some k → (t : Testata) → t ≡ testata_in (testata_of e s kids)
       → (h : Heading) → h.abi ≡ t.abi → h.ente ≡ t.ente → h.esercizio ≡ value_of (esercizio (part s (k.child.gt + 1) k.child.to)) → h.orders ≡ k.child.after
       → h ≡ heading_from e s i
   unfolding heading_in testata_in text_in
@@ -126,9 +125,9 @@ module _ (e : Edition) (s : List ℕ) (i : ℕ) where
       rw (x, ← c, ← d, ← p, ← q)
 
 -- A PART OF THE HEADER is the text of its row, and lies within the flow
-span_text : (s : List ℕ) (w : Next) → part s (span_of w).from (span_of w).to ≡ text_of_next s w
-span_text s (Named k) = refl
-span_text s Done = refl
+span_text : (s : List ℕ) (w : Option Kept) → part s (span_of w).from (span_of w).to ≡ text_of_next s w
+span_text s (Some k) = refl
+span_text s None = refl
 
 row_text : (n : ℕ) (s : List ℕ) (ks : List Kept) → part s (span_of (next_of (in_row n ks))).from (span_of (next_of (in_row n ks))).to ≡ text_in n s ks
 unfolding text_in
@@ -140,9 +139,9 @@ Inner s w = (w.from ≤ w.to) × (w.to ≤ length s)
 row_within : (n : ℕ) (p : Parent) (s : List ℕ) (i : ℕ) → Inner s (span_of (next_of (in_row n (kept_from p s i))))
 row_within n p s i = go (next_of (in_row n (kept_from p s i))) refl
   where
-    go : (w : Next) → next_of (in_row n (kept_from p s i)) ≡ w → Inner s (span_of w)
-    go (Named k) e = let l = (those_at (of_row n) p s i k e).lies in (l.inner, omega arith)
-    go Done e = (omega arith, omega arith)
+    go : (w : Option Kept) → next_of (in_row n (kept_from p s i)) ≡ w → Inner s (span_of w)
+    go (Some k) e = let l = (those_at (of_row n) p s i k e).lies in (l.inner, omega arith)
+    go None e = (omega arith, omega arith)
 
 testata_within : (n : ℕ) (e : Edition) (s : List ℕ) (i : ℕ) → Inner s (span_of (next_of (in_row n (testata_of e s (kept_from (root_of e) s i)))))
 unfolding those inside
@@ -153,9 +152,9 @@ testata_within n Opi s i = next (next_of (in_row 0 (kept_from FlussoOpi s i)))
     held k (Text f) = (omega arith, omega arith)
     held k (Rows q) = row_within n q s (white_at s (k.child.gt + 1))
 
-    next : (w : Next) → Inner s (span_of (next_of (in_row n (inside_next s w))))
-    next (Named k) = held k (held_for s k k.holds)
-    next Done = (omega arith, omega arith)
+    next : (w : Option Kept) → Inner s (span_of (next_of (in_row n (inside_next s w))))
+    next (Some k) = held k (held_for s k k.holds)
+    next None = (omega arith, omega arith)
 
 pub heading_header : (e : Edition) (s : List ℕ) (i : ℕ) → header_by s (heading_from e s i) ≡ header_in e s (kept_from (root_of e) s i)
 unfolding heading_in

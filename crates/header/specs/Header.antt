@@ -1,12 +1,10 @@
 -- The header of a flow, by its edition, as values. Document 02, Req 05: "Edition 2 has the header of document 000, 9.2.1, with its own nesting", and
 -- "Only document 01's five header fields are read".
-use Rattle.std.specs.Prelude.{ℕ, List, []}
+use Rattle.std.specs.Prelude.{ℕ, List, [], Option, Some, None}
 use Rattle.digits.specs.Digits.{esercizio}
 use Rattle.schema.specs.declared.Parent.{Parent}
 use Rattle.schema.specs.declared.Parent.TheVariants.{FlussoOrdinativi, FlussoOpi}
 use Rattle.rows.specs.declared.Kept.{Kept}
-use Rattle.rows.specs.declared.Next.{Next}
-use Rattle.rows.specs.declared.Next.TheVariants.{Named, Done}
 use Rattle.rows.specs.Kept.{next_of}
 use Rattle.orders.specs.Orders.{in_row, text_in, value_of, inside}
 use Rattle.editions.specs.declared.Edition.{Edition}
@@ -27,9 +25,9 @@ abbrev pub esercizio_row : Edition → ℕ
 esercizio_row Oil = 4
 esercizio_row Opi = 1
 
-abbrev pub inside_next : List ℕ → Next → List Kept
-inside_next s (Named k) = inside s k
-inside_next s Done = []
+abbrev pub inside_next : List ℕ → Option Kept → List Kept
+inside_next s (Some k) = inside s k
+inside_next s None = []
 
 -- the named children of which row 0 is codice_ABI_BT and row 3 codice_ente_BT: the root's own, or those of its testata_flusso, row 0
 abbrev pub testata_of : Edition → List ℕ → List Kept → List Kept

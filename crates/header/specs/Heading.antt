@@ -1,10 +1,8 @@
 -- The header of a flow that stands, as the places of its parts: names for the contracts of the code. What it says is `header_in` of Header.
-use Rattle.std.specs.Prelude.{ℕ, ◌+◌, ◌≤◌, List, ◌∷◌, length}
+use Rattle.std.specs.Prelude.{ℕ, ◌+◌, ◌≤◌, List, ◌∷◌, length, Option, Some, None}
 use Rattle.scan.specs.Bytes.{part}
 use Rattle.schema.specs.declared.Parent.{Parent}
 use Rattle.rows.specs.declared.Kept.{Kept}
-use Rattle.rows.specs.declared.Next.{Next}
-use Rattle.rows.specs.declared.Next.TheVariants.{Named, Done}
 use Rattle.schema.specs.Table.{table}
 use Rattle.rows.specs.Kept.{kept_from, next_of}
 use Rattle.structure.specs.Structure.{Range, ranges}
@@ -20,13 +18,13 @@ abbrev pub root_rows : Edition → List Range
 root_rows e = ranges (table (root_of e))
 
 -- where a named child's text stands, and where the children after it begin
-abbrev pub span_of : Next → Span
-span_of (Named k) = record { from = k.child.gt + 1; to = k.child.to }
-span_of Done = record { from = 0; to = 0 }
+abbrev pub span_of : Option Kept → Span
+span_of (Some k) = record { from = k.child.gt + 1; to = k.child.to }
+span_of None = record { from = 0; to = 0 }
 
-abbrev pub after_of : Next → ℕ
-after_of (Named k) = k.child.after
-after_of Done = 0
+abbrev pub after_of : Option Kept → ℕ
+after_of (Some k) = k.child.after
+after_of None = 0
 
 -- THE FOUR FIELDS that stand first in a parent's table in both editions: the places of the first and the fourth, and where the fourth ends
 unfoldable pub testata_in : List Kept → Testata

@@ -45,9 +45,7 @@ pub fn part_at(s: &[u8], w: Span) -> &[u8]
     requires { (w.from ≤ w.to) × (w.to ≤ length s.now) }
     ensures { result.now ≡ part s.now w.from w.to }
 {
-    let a = w.from;
-    let e = w.to;
-    &s[a..e]
+    &s[w.from..w.to]
 }
 
 // Where an element's text stands.
@@ -80,11 +78,9 @@ fn testata_from(s: &[u8], from: usize, parent: Parent, past: &[u32]) -> Testata
     let b = orders::first_named(s, a.after, parent, past).child;
     let c = orders::first_named(s, b.after, parent, past).child;
     let d = orders::first_named(s, c.after, parent, past).child;
-    let abi = span_of(a);
-    let ente = span_of(d);
     Testata {
-        abi,
-        ente,
+        abi: span_of(a),
+        ente: span_of(d),
         after: d.after,
     }
 }
@@ -97,11 +93,9 @@ fn flat_from(s: &[u8], from: usize, past: &[u32]) -> Heading
     let t = testata_from(s, from, Parent::FlussoOrdinativi, past);
     let e = orders::first_named(s, t.after, Parent::FlussoOrdinativi, past).child;
     let esercizio = orders::number_of(rows::read_field(s, e, Form::Esercizio));
-    let abi = t.abi;
-    let ente = t.ente;
     Heading {
-        abi,
-        ente,
+        abi: t.abi,
+        ente: t.ente,
         esercizio,
         orders: e.after,
     }
@@ -117,11 +111,9 @@ fn nested_from(s: &[u8], from: usize, past: &[u32]) -> Heading
     let t = testata_from(s, inner, Parent::TestataFlusso, past);
     let e = orders::first_named(s, k.after, Parent::FlussoOpi, past).child;
     let esercizio = orders::number_of(rows::read_field(s, e, Form::Esercizio));
-    let abi = t.abi;
-    let ente = t.ente;
     Heading {
-        abi,
-        ente,
+        abi: t.abi,
+        ente: t.ente,
         esercizio,
         orders: e.after,
     }

@@ -1,4 +1,5 @@
 -- Laws of tests over movements, of the movements' bytes and of the codes, a way out of the code at a time.
+use Rattle.std.specs.Prelude.{Result}
 use Prim.Native.Nat.{ℕ, zero, suc, ◌+◌, ◌*◌, ◌/◌, ◌%◌, ◌≤◌, ◌<◌}
 use mathlib.Core.Bool.{Bool, true, false, ◌&&◌, ◌||◌, cond, or_assoc, or-false, and_assoc}
 use mathlib.Core.List.{List, [], ◌∷◌, ◌++◌}
@@ -10,7 +11,7 @@ use lib.Dec.{eqb}
 use borrow.Author.Tests.{eq-eqb, ne_eqb, eqb-true, le-leb, lt-leb}
 use Rattle.scan.proofs.Laws.{both}
 use Rattle.record.specs.declared.Record.{Record}
-use Rattle.address.specs.declared.Addressed.{Addressed}
+use Rattle.address.specs.declared.NoBody.{NoBody}
 use Rattle.address.specs.Address.{addressed}
 use Rattle.journal.specs.declared.Movement.{Movement}
 use Rattle.journal.specs.Journal.{movement_size, max_movements, movement_at, movements_at, movements_in, whole_movements, executed_lines, same_line, same_movement, any_of, all_of, movement_code, missing_code, code_then, journal_code, checked, journal_by, journal_of}
@@ -131,7 +132,7 @@ module _ (rs : List Record) (s : List ℕ) where
   unfolding checked whole_movements
   whole e l = rw (eq-eqb (length s % movement_size) 0 e, le-leb (length s / movement_size) max_movements l)
 
-pub call_at : (t code s : List ℕ) {a : Addressed} → addressed t code ≡ a → journal_by t s a ≡ journal_of t code s
+pub call_at : (t code s : List ℕ) {a : Result (ℕ × ℕ × ℕ) NoBody} → addressed t code ≡ a → journal_by t s a ≡ journal_of t code s
 unfolding journal_of
 call_at t code s e = ap (journal_by t s) (sym e)
 

@@ -1,4 +1,5 @@
 -- The executed lines of a body's records: whether a movement is among them, by the one record of its key.
+use Rattle.std.specs.Prelude.{Some, None}
 use Prim.Native.Nat.{ℕ, zero, suc, ◌+◌, ◌-◌, ◌*◌, ◌≤◌, ◌<◌}
 use mathlib.Core.Bool.{Bool, true, false, ◌&&◌, ◌||◌, cond, and-false, and-true, or-false}
 use mathlib.Core.List.{List, [], ◌∷◌, ◌++◌}
@@ -7,7 +8,7 @@ use native.Mathlib.Omega.{arith}
 use native.Mathlib.Nat.{not-suc-le-zero}
 use lib.ListN.{length, get_or, get_or-eq_default}
 use lib.Dec.{eqb, leb, ltb}
-use borrow.Author.Tests.{eq-eqb, ne_eqb, le-leb, lt-leb, leb-true, leb-false, lt-ltb, le-ltb, ltb-true}
+use borrow.Author.Tests.{eq-eqb, ne_eqb, le-leb, lt-leb, leb-true, leb-false, ltb-true}
 use Rattle.scan.specs.Bytes.{between}
 use Rattle.scan.proofs.Laws.{both}
 use Rattle.words.specs.Numbers.{be8}
@@ -16,7 +17,6 @@ use Rattle.record.proofs.Back.{eight_at_lem, be8s_at}
 use Rattle.record.specs.declared.Record.{Record}
 use Rattle.record.specs.declared.Key.{Key}
 use Rattle.ranges.specs.Ranges.{is_nothing}
-use Rattle.ranges.specs.declared.Found.TheVariants.{At, Nothing}
 use Rattle.slots.specs.Slots.{find_in, distinct}
 use Rattle.slots.proofs.Laws.{find_first, find_later}
 use Rattle.slots.proofs.Search.{key_is_lem, nothing_is}
@@ -36,19 +36,19 @@ key_test r k e =
     rw (eq-eqb _ _ a, eq-eqb _ _ b, eq-eqb _ _ c)
 
 -- where none is found, none has the key
-none_at : (rs : List Record) (j : ℕ) (k : Key) (i : ℕ) (d : Record) → find_in rs j k ≡ Nothing → i < length rs → key_is (get_or rs i d) k ≡ false
+none_at : (rs : List Record) (j : ℕ) (k : Key) (i : ℕ) (d : Record) → find_in rs j k ≡ None → i < length rs → key_is (get_or rs i d) k ≡ false
 unfolding find_in
 none_at [] j k i d e h = absurd (not-suc-le-zero h)
 none_at (r ∷ rs) j k i d e h = go (key_is r k) refl e i h (λ i q g. none_at rs (j + 1) k i d q g)
   where
-    go : (b : Bool) → key_is r k ≡ b → cond b (At j) (find_in rs (j + 1) k) ≡ Nothing → (i : ℕ) → i < length (r ∷ rs)
-        → ((i : ℕ) → find_in rs (j + 1) k ≡ Nothing → i < length rs → key_is (get_or rs i d) k ≡ false) → key_is (get_or (r ∷ rs) i d) k ≡ false
+    go : (b : Bool) → key_is r k ≡ b → cond b (Some j) (find_in rs (j + 1) k) ≡ None → (i : ℕ) → i < length (r ∷ rs)
+        → ((i : ℕ) → find_in rs (j + 1) k ≡ None → i < length rs → key_is (get_or rs i d) k ≡ false) → key_is (get_or (r ∷ rs) i d) k ≡ false
     go true f q i h later = let z : ◌≡◌ {A = ℕ} 0 1 = cc in absurd (omega arith)
     go false f q zero h later = f
     go false f q (suc i) h later = later i q (omega arith)
 
 -- of records with distinct keys, the one with the key is found
-pub apart : (r : Record) (rs : List Record) → distinct (r ∷ rs) ≡ true → (find_in rs 0 (key_of r) ≡ Nothing) × (distinct rs ≡ true)
+pub apart : (r : Record) (rs : List Record) → distinct (r ∷ rs) ≡ true → (find_in rs 0 (key_of r) ≡ None) × (distinct rs ≡ true)
 unfolding distinct
 apart r rs e =
     let w = both (is_nothing (find_in rs 0 (key_of r))) (distinct rs) e in
@@ -62,15 +62,15 @@ first_other r rs i d k e h f = go (key_is r k) refl
     go true g = clash (sym (none_at rs 0 (key_of r) i d (apart r rs e).0 h) ∙ ap (key_is (get_or rs i d)) (key_is_lem r k g) ∙ f)
     go false g = g
 
-find_from : (rs : List Record) (j : ℕ) (k : Key) (i : ℕ) (d : Record) → distinct rs ≡ true → i < length rs → key_is (get_or rs i d) k ≡ true → find_in rs j k ≡ At (j + i)
+find_from : (rs : List Record) (j : ℕ) (k : Key) (i : ℕ) (d : Record) → distinct rs ≡ true → i < length rs → key_is (get_or rs i d) k ≡ true → find_in rs j k ≡ Some (j + i)
 find_from [] j k i d e h f = absurd (not-suc-le-zero h)
-find_from (r ∷ rs) j k zero d e h f = let q : j ≡ j + 0 = omega arith in find_first refl j k f ∙ ap At q
+find_from (r ∷ rs) j k zero d e h f = let q : j ≡ j + 0 = omega arith in find_first refl j k f ∙ ap Some q
 find_from (r ∷ rs) j k (suc i) d e h f =
     let q : j + 1 + i ≡ j + suc i = omega arith in
-    find_later refl j k (first_other r rs i d k e (omega arith) f) ∙ find_from rs (j + 1) k i d (apart r rs e).1 (omega arith) f ∙ ap At q
+    find_later refl j k (first_other r rs i d k e (omega arith) f) ∙ find_from rs (j + 1) k i d (apart r rs e).1 (omega arith) f ∙ ap Some q
 
-pub hit_found : (rs : List Record) (k : Key) (i : ℕ) (d : Record) → distinct rs ≡ true → i < length rs → key_is (get_or rs i d) k ≡ true → At i ≡ find_in rs 0 k
-hit_found rs k i d e h f = let q : 0 + i ≡ i = omega arith in sym (find_from rs 0 k i d e h f ∙ ap At q)
+pub hit_found : (rs : List Record) (k : Key) (i : ℕ) (d : Record) → distinct rs ≡ true → i < length rs → key_is (get_or rs i d) k ≡ true → Some i ≡ find_in rs 0 k
+hit_found rs k i d e h f = let q : 0 + i ≡ i = omega arith in sym (find_from rs 0 k i d e h f ∙ ap Some q)
 
 -- A MOVEMENT AMONG EXECUTED LINES, with f asked of the cents there
 
@@ -160,12 +160,12 @@ module _ (m : Movement) (f : ℕ → Bool) where
         go false e = e
 
   -- all orders' lines
-  pub none_lines : (rs : List Record) (j : ℕ) → find_in rs j (movement_key m) ≡ Nothing → any_of (asked m f) (executed_lines rs) ≡ false
+  pub none_lines : (rs : List Record) (j : ℕ) → find_in rs j (movement_key m) ≡ None → any_of (asked m f) (executed_lines rs) ≡ false
   unfolding executed_lines any_of
   none_lines [] j e = refl
   none_lines (r ∷ rs) j e = go (key_is r (movement_key m)) refl (none_lines rs (j + 1))
     where
-      go : (b : Bool) → key_is r (movement_key m) ≡ b → (find_in rs (j + 1) (movement_key m) ≡ Nothing → any_of (asked m f) (executed_lines rs) ≡ false)
+      go : (b : Bool) → key_is r (movement_key m) ≡ b → (find_in rs (j + 1) (movement_key m) ≡ None → any_of (asked m f) (executed_lines rs) ≡ false)
           → any_of (asked m f) (executed_of r ++ executed_lines rs) ≡ false
       go true g later = let z = sym (find_first refl j (movement_key m) g) ∙ e in let y : ◌≡◌ {A = ℕ} 0 1 = cc in absurd (omega arith)
       go false g later =
@@ -195,7 +195,7 @@ module _ (m : Movement) (f : ℕ → Bool) where
       go (suc n) e = any_from r k 1 r.states r.amounts n (omega arith) (omega arith) ∙ sym (ap (executed_with r f) e ∙ line_at r f n p)
 
 -- A MOVEMENT'S CODE, by the record r of its key
-pub code_none : (rs : List Record) (m : Movement) → find_in rs 0 (movement_key m) ≡ Nothing → (before : List Movement) → movement_code (executed_lines rs) before m ≡ 30
+pub code_none : (rs : List Record) (m : Movement) → find_in rs 0 (movement_key m) ≡ None → (before : List Movement) → movement_code (executed_lines rs) before m ≡ 30
 unfolding movement_code
 code_none rs m e before = rw (any_same (same_line m) (asked m (λ c. true)) (λ x. sym (and-true (same_line m x))) (executed_lines rs) ∙ none_lines m (λ c. true) rs 0 e)
 
@@ -274,12 +274,6 @@ by_line r m e = go (line_executed r m.line) refl e
     go false f q = absurd (omega arith)
 
 -- a place that may be the order's
-pub stands_not : (i used : ℕ) (x : Bool) → used ≤ i → false ≡ (ltb i used && x)
-stands_not i used x h = sym (ap (λ (b : Bool). b && x) (le-ltb i used h))
-
-pub stands_is : (i used : ℕ) {x y : Bool} → i < used → y ≡ x → y ≡ (ltb i used && x)
-stands_is i used {x} h e = e ∙ sym (ap (λ (b : Bool). b && x) (lt-ltb i used h))
-
 pub stands_told : (i used : ℕ) {x y : Bool} → y ≡ (ltb i used && x) → y ≡ true → (i < used) × (x ≡ true)
 stands_told i used {x} e f =
     let w = both (ltb i used) x (sym e ∙ f) in

@@ -1,4 +1,5 @@
 -- The marks of the lines that were listed: eight for each slot.
+use Rattle.std.specs.Prelude.{Some}
 use Prim.Native.Nat.{ℕ, zero, suc, ◌+◌, ◌-◌, ◌*◌, ◌≤◌, ◌<◌}
 use mathlib.Core.Bool.{Bool, true, false, ◌&&◌, ◌||◌, not, cond, or-true, or-false}
 use mathlib.Core.List.{List, [], ◌∷◌, ◌++◌}
@@ -14,7 +15,6 @@ use Rattle.record.specs.Slot.{slot_size, executed_line, states_offset, eight_at,
 use Rattle.record.proofs.Back.{eight_at_lem}
 use Rattle.record.specs.declared.Record.{Record}
 use Rattle.record.specs.declared.Key.{Key}
-use Rattle.ranges.specs.declared.Found.TheVariants.{At}
 use Rattle.slots.specs.Slots.{slots_at, records_at, find_in}
 use Rattle.slots.proofs.Laws.{used_le, slots_more}
 use Rattle.slots.proofs.Index.{length_records, get_record}
@@ -35,7 +35,7 @@ module _ {t : List ℕ} {base n used : ℕ} (W : Walked t base n used) where
   slot_record i h = get_record t base n i (record_at t (base + slot_size * i)) (omega (arith, W.known))
 
   -- the slot that has the key is the one found
-  pub slot_found : (i : ℕ) (k : Key) → i < used → key_of (record_at t (base + slot_size * i)) ≡ k → At i ≡ find_in (records_at t base n) 0 k
+  pub slot_found : (i : ℕ) (k : Key) → i < used → key_of (record_at t (base + slot_size * i)) ≡ k → Some i ≡ find_in (records_at t base n) 0 k
   slot_found i k h e =
       hit_found (records_at t base n) k i (record_at t (base + slot_size * i)) W.keys (slot_length i h)
       (key_test (get_or (records_at t base n) i (record_at t (base + slot_size * i))) k (ap key_of (slot_record i h) ∙ e))

@@ -1,4 +1,5 @@
 -- The walk over a journal's movements, a turn at a time.
+use Rattle.std.specs.Prelude.{Some, None}
 use Prim.Native.Nat.{ℕ, zero, suc, ◌+◌, ◌-◌, ◌*◌, ◌≤◌, ◌<◌}
 use mathlib.Core.Bool.{Bool, true, false, not, cond}
 use mathlib.Core.List.{List, [], ◌∷◌, ◌++◌}
@@ -8,7 +9,6 @@ use lib.ListN.{length, get_or, set, replicate}
 use lib.Dec.{eqb}
 use borrow.Author.Tests.{eq-eqb, ne_eqb}
 use Rattle.record.specs.Slot.{slot_size, record_at, key_of}
-use Rattle.ranges.specs.declared.Found.TheVariants.{At, Nothing}
 use Rattle.slots.specs.Slots.{slots_at, records_at, find_in}
 use Rattle.slots.proofs.Laws.{used_le}
 use Rattle.slots.proofs.Index.{length_records}
@@ -50,12 +50,12 @@ module _ {t : List ℕ} {base n used : ℕ} (W : Walked t base n used) (s : List
         let p : 0 + movement_size * j ≡ movement_size * j = omega arith in
         movements_add s 0 j ∙ ap (λ (x : Movement). movements_at s 0 j ++ x ∷ []) (ap (movement_at s) p ∙ sym q)
 
-    pub no_order : find_in (records_at t base n) 0 (movement_key m) ≡ Nothing → code_from t base n s count j ≡ 30
+    pub no_order : find_in (records_at t base n) 0 (movement_key m) ≡ None → code_from t base n s count j ≡ 30
     no_order f =
         code_stops (executed_lines (records_at t base n)) (movements_at s 0 j) rest_is 30 (λ z. omega arith)
         (code_none (records_at t base n) m f (movements_at s 0 j))
 
-    module _ (i : ℕ) (f : find_in (records_at t base n) 0 (movement_key m) ≡ At i) where
+    module _ (i : ℕ) (f : find_in (records_at t base n) 0 (movement_key m) ≡ Some i) where
       below : i < used
       below = omega (arith, found_below (records_at t base n) (movement_key m) i (record_at t 0) f, length_records t base n, W.known)
 

@@ -1,12 +1,12 @@
 -- Checking the bank's cash journal (document 02, Req 10): "Given a body and the movements taken from one .., accept exactly when every executed line of
 -- that body is listed once, with its cents, and nothing else is listed. Order is free. The answer is a code; the table isn't changed."
-use Rattle.std.specs.Prelude.{ℕ, zero, suc, ◌+◌, ◌/◌, ◌%◌, ◌≡◌, Bool, true, false, ◌&&◌, ◌||◌, cond, List, [], ◌∷◌, ◌++◌, length, get_or, eqb, leb}
+use Rattle.std.specs.Prelude.{ℕ, zero, suc, ◌+◌, ◌/◌, ◌%◌, ◌≡◌, Bool, true, false, ◌&&◌, ◌||◌, cond, List, [], ◌∷◌, ◌++◌, length, get_or, eqb, leb, Result, Ok, Err}
 use Rattle.words.specs.Numbers.{be2, be4, be8}
 use Rattle.record.specs.Slot.{executed_line}
 use Rattle.record.specs.declared.Record.{Record}
 use Rattle.slots.specs.Slots.{records_at}
-use Rattle.address.specs.declared.Addressed.{Addressed}
-use Rattle.address.specs.declared.Addressed.TheVariants.{Invalid, Unknown, Body}
+use Rattle.address.specs.declared.NoBody.{NoBody}
+use Rattle.address.specs.declared.NoBody.TheVariants.{Invalid, Unknown}
 use Rattle.address.specs.Address.{addressed}
 use Rattle.journal.specs.declared.Movement.{Movement}
 
@@ -88,10 +88,10 @@ unfoldable pub checked : List Record → List ℕ → ℕ
 checked rs s = cond (whole_movements s) (journal_code (executed_lines rs) [] (movements_in s)) 29
 
 -- "Refusals after 1 and 7"
-abbrev pub journal_by : List ℕ → List ℕ → Addressed → ℕ
-journal_by t s Invalid = 1
-journal_by t s Unknown = 7
-journal_by t s (Body e base n) = checked (records_at t base n) s
+abbrev pub journal_by : List ℕ → List ℕ → Result (ℕ × ℕ × ℕ) NoBody → ℕ
+journal_by t s (Err Invalid) = 1
+journal_by t s (Err Unknown) = 7
+journal_by t s (Ok (e, base, n)) = checked (records_at t base n) s
 
 unfoldable pub journal_of : List ℕ → List ℕ → List ℕ → ℕ
 journal_of t code s = journal_by t s (addressed t code)

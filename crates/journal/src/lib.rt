@@ -8,9 +8,8 @@ ghost use Rattle.slots.specs.Slots.{slots_at, records_at, find_in, distinct};
 ghost use Rattle.journal.specs.Journal.{movement_size, max_movements, movement_at, movements_at, executed_lines, journal_code, checked, JournalPromise};
 ghost use Rattle.journal.specs.Inner.{movement_key, code_by, states_marked, all_marked, Walked};
 
-use address::Addressed;
-use ranges::Found;
-use record::{Key, wide};
+use address::NoBody;
+use record::Key;
 
 // The bytes of a movement, and the most movements of a journal.
 const MOVEMENT: usize = 16;
@@ -30,13 +29,14 @@ pub struct Movement {
     pub cents: u64,
 }
 
+#[tactic(auto, unfolding(crate::specs::Journal::movement_at))]
 fn movement_at(s: &[u8], at: usize) -> Movement
     requires { at + movement_size ≤ length s.now }
     ensures { result ≡ movement_at s.now at }
 {
     Movement {
-        kind: wide(s[at]),
-        line: wide(s[at + 1]),
+        kind: s[at] as u64,
+        line: s[at + 1] as u64,
         esercizio: words::read2(s, at + 2),
         number: words::read4(s, at + 4),
         cents: words::read8(s, at + 8),
@@ -73,24 +73,14 @@ fn second_place(k: Key) -> usize
     (PLACES + (number * 2654435761 / 1048576 + kind * 1031 + esercizio * 257) % PLACES) as usize
 }
 
-fn slot_of(x: u16) -> usize {
-    x as usize
-}
-
 // Notes in the index where a body's orders stand. The index only saves time: what it says is tried, and no answer rests on it.
 fn note_orders(index: &mut [u16; 8192], t: &[u8], base: usize, used: usize)
     requires { (base + slot_size * used ≤ length t.now) × (used ≤ max_slots) }
 {
-    let mut at = base;
-    let mut i = 0;
-    while i < used {
-        let key = record::key_at(t, at);
-        let first = first_place(key);
-        let second = second_place(key);
-        index[first] = i as u16;
-        index[second] = i as u16;
-        at += record::SLOT;
-        i += 1;
+    for i in 0..used {
+        let key = record::key_at(t, base + record::SLOT * i);
+        index[first_place(key)] = i as u16;
+        index[second_place(key)] = i as u16;
     }
 }
 
@@ -99,10 +89,7 @@ fn stands_at(t: &[u8], base: usize, used: usize, i: usize, key: Key) -> bool
     requires { base + slot_size * used ≤ length t.now }
     ensures { result ≡ (ltb i used && key_is (record_at t.now (base + slot_size * i)) key) }
 {
-    if used <= i {
-        return false;
-    }
-    record::hit_at(t, base + record::SLOT * i, key)
+    i < used && record::hit_at(t, base + record::SLOT * i, key)
 }
 
 // The place among a body's records of the one with this key: one of two that may be it, or else what the search finds.
@@ -114,62 +101,63 @@ fn locate(
     first: usize,
     second: usize,
     key: Key,
-) -> Found
+) -> Option<usize>
     requires { Walked t.now base n used }
     ensures { result ≡ find_in (records_at t.now base n) 0 key }
 {
     if stands_at(t, base, used, first, key) {
-        return Found::At(first);
+        return Some(first);
     }
     if stands_at(t, base, used, second, key) {
-        return Found::At(second);
+        return Some(second);
     }
     slots::find(t, base, n, key)
 }
 
 // The place among a body's records of the order that a movement names.
-fn order_of(t: &[u8], base: usize, n: usize, used: usize, index: &[u16; 8192], m: Movement) -> Found
+fn order_of(
+    t: &[u8],
+    base: usize,
+    n: usize,
+    used: usize,
+    index: &[u16; 8192],
+    m: Movement,
+) -> Option<usize>
     requires { Walked t.now base n used }
     ensures { result ≡ find_in (records_at t.now base n) 0 (movement_key m) }
 {
     let key = key_of(m);
-    let first = first_place(key);
-    let second = second_place(key);
-    let one = slot_of(index[first]);
-    let other = slot_of(index[second]);
-    locate(t, base, n, used, one, other, key)
+    let first = index[first_place(key)] as usize;
+    let second = index[second_place(key)] as usize;
+    locate(t, base, n, used, first, second, key)
 }
 
 // A movement's code by the record in the slot at a place, listed before or not.
+// A code stays a number, as in `rules`.
+#[tactic(auto, using(crate::proofs::Lines::by_low, crate::proofs::Lines::by_high))]
 fn code_by(t: &[u8], at: usize, m: Movement) -> u64
     requires { at + slot_size ≤ length t.now }
     ensures { result ≡ code_by (record_at t.now at) m }
 {
     let line = m.line;
-    if line < 1 {
-        return 30;
-    }
-    if 8 < line {
+    if line < 1 || 8 < line {
         return 30;
     }
     let k = (line - 1) as usize;
     if t[at + record::STATES + k] != record::EXECUTED {
-        return 30;
+        30
+    } else if words::read8(t, at + record::AMOUNTS + 8 * k) != m.cents {
+        31
+    } else {
+        0
     }
-    if words::read8(t, at + record::AMOUNTS + 8 * k) != m.cents {
-        return 31;
-    }
-    0
 }
 
 // Whether a line has its mark, where it is an executed one.
 fn line_marked(state: u8, mark: u8) -> bool
     ensures { result ≡ (not (eqb state executed_line) || not (eqb mark 0)) }
 {
-    if state != record::EXECUTED {
-        return true;
-    }
-    mark != 0
+    state != record::EXECUTED || mark != 0
 }
 
 // Whether each executed line of the slot at a place has its mark, the first at p.
@@ -177,12 +165,10 @@ fn lines_marked(t: &[u8], at: usize, marks: &[u8], p: usize) -> bool
     requires { (at + slot_size ≤ length t.now) × (p + 8 ≤ length marks.now) }
     ensures { result ≡ states_marked marks.now p (eight_at t.now (at + states_offset)) }
 {
-    let mut k = 0;
-    while k < 8 {
+    for k in 0..8 {
         if !line_marked(t[at + record::STATES + k], marks[p + k]) {
             return false;
         }
-        k += 1;
     }
     true
 }
@@ -192,14 +178,10 @@ fn all_marked(t: &[u8], base: usize, used: usize, marks: &[u8]) -> bool
     requires { (base + slot_size * used ≤ length t.now) × (8 * used ≤ length marks.now) }
     ensures { result ≡ all_marked marks.now 0 (slots_at t.now base used) }
 {
-    let mut at = base;
-    let mut i = 0;
-    while i < used {
-        if !lines_marked(t, at, marks, 8 * i) {
+    for i in 0..used {
+        if !lines_marked(t, base + record::SLOT * i, marks, 8 * i) {
             return false;
         }
-        at += record::SLOT;
-        i += 1;
     }
     true
 }
@@ -212,10 +194,9 @@ fn one_by_one(t: &[u8], base: usize, n: usize, used: usize, s: &[u8], count: usi
     let mut marks: [u8; 4096] = [0; 4096];
     let mut index: [u16; 8192] = [0; 8192];
     note_orders(&mut index, t, base, used);
-    let mut j = 0;
-    while j < count {
+    for j in 0..count {
         let m = movement_at(s, MOVEMENT * j);
-        let Found::At(i) = order_of(t, base, n, used, &index, m) else {
+        let Some(i) = order_of(t, base, n, used, &index, m) else {
             return 30;
         };
         let code = code_by(t, base + record::SLOT * i, m);
@@ -227,25 +208,22 @@ fn one_by_one(t: &[u8], base: usize, n: usize, used: usize, s: &[u8], count: usi
             return 32;
         }
         marks[p] = 1;
-        j += 1;
     }
     if all_marked(t, base, used, &marks) {
-        return 0;
+        0
+    } else {
+        33
     }
-    33
 }
 
 // The code of a journal for a body of n slots.
+#[tactic(auto, using(crate::proofs::Laws::not_whole, crate::proofs::Laws::too_many))]
 fn check_body(t: &[u8], base: usize, n: usize, s: &[u8]) -> u64
     requires { (base + slot_size * n ≤ length t.now) × (n ≤ max_slots) × (distinct (records_at t.now base n) ≡ true) }
     ensures { result ≡ checked (records_at t.now base n) s.now }
 {
-    let length = s.len();
-    let count = length / MOVEMENT;
-    if length % MOVEMENT != 0 {
-        return 29;
-    }
-    if MOST < count {
+    let count = s.len() / MOVEMENT;
+    if s.len() % MOVEMENT != 0 || MOST < count {
         return 29;
     }
     let used = slots::used_slots(t, base, n);
@@ -257,8 +235,8 @@ pub fn check(t: &[u8], code: &[u8], s: &[u8]) -> u64
     ensures { JournalPromise t.now code.now s.now result }
 {
     match address::addressed_by(t, code) {
-        Addressed::Invalid => 1,
-        Addressed::Unknown => 7,
-        Addressed::Body(_, base, n) => check_body(t, base, n, s),
+        Err(NoBody::Invalid) => 1,
+        Err(NoBody::Unknown) => 7,
+        Ok((_, base, n)) => check_body(t, base, n, s),
     }
 }

@@ -1,41 +1,36 @@
 -- Laws of the code, one way through it at a time: flags, blanked slots, moved records.
+use Rattle.std.specs.Option.{is_some}
 use Prim.Native.Nat.{ℕ, suc, ◌+◌, ◌-◌, ◌*◌, ◌≤◌, ◌<◌}
-use mathlib.Core.Bool.{Bool, true, false, ◌&&◌, not, cond}
+use mathlib.Core.Bool.{Bool, true, false, not, cond}
 use mathlib.Core.List.{List, [], ◌∷◌, ◌++◌, append_assoc, append-nil}
 use mathlib.Core.Path.{◌≡◌, refl, sym, ap, subst⁻¹, ◌∙◌}
 use native.Mathlib.Omega.{arith}
 use native.Mathlib.Numerals.{add-one}
 use lib.ListN.{length, get_or, take, drop, set, drop_of_length-le}
 use lib.Seq.{length-take-le, drop-cons, get_or-take, take-suc-set, take_all}
-use lib.Dec.{eqb, ltb}
-use borrow.Author.Tests.{eq-eqb, ne_eqb, lt-ltb, le-ltb}
+use lib.Dec.{eqb}
+use borrow.Author.Tests.{eq-eqb, ne_eqb}
 use Rattle.words.specs.Numbers.{put}
 use Rattle.words.proofs.Laws.{put_put, put_nil}
 use Rattle.record.specs.declared.Record.{Record}
 use Rattle.record.specs.declared.Key.{Key}
 use Rattle.record.specs.Slot.{slot_size, record_at, key_is, key_of}
-use Rattle.ranges.specs.Ranges.{zeros, is_nothing}
+use Rattle.ranges.specs.Ranges.{is_nothing}
 use Rattle.valid.specs.Inner.{judged_by}
-use Rattle.valid.specs.declared.Judged.TheVariants.{Right, Broken}
 use Rattle.slots.specs.Slots.{slots_at, find_in}
 use Rattle.slots.proofs.Laws.{slots_more, find_first, find_later}
 use Rattle.slots.specs.Inner.{mark_of}
 use Rattle.slots.proofs.Index.{length_slots, slots_snoc}
 use Rattle.slots.proofs.Search.{cons_none}
 use Rattle.slots.proofs.Filter.{Marked, marked_none, marked_by, other_key}
-use Rattle.body.specs.Body.{slot_ok}
 use Rattle.packing.specs.Packing.{chosen, flag}
 use Rattle.packing.proofs.Packed.{none_any, none_cons}
 use Rattle.keeping.specs.Keeping.{keeps, keeps_from, keeps_at, blanks, blanked_from, moved_from, each_bytes}
 
 -- A VALID SLOT, as its judge tells it
-pub slot_is : (b : Bool) (cents : ℕ) {c : ℕ} → judged_by b cents ≡ Right c → true ≡ b
-slot_is true cents e = refl
-slot_is false cents e = let z : ◌≡◌ {A = ℕ} 0 1 = cc in absurd (omega arith)
-
-pub slot_not : (b : Bool) (cents : ℕ) → judged_by b cents ≡ Broken → false ≡ b
-slot_not false cents e = refl
-slot_not true cents e = let z : ◌≡◌ {A = ℕ} 0 1 = cc in absurd (omega arith)
+pub slot_told : (b : Bool) (cents : ℕ) → is_some (judged_by b cents) ≡ b
+slot_told true cents = refl
+slot_told false cents = refl
 
 -- CHOSEN, from the front and at the end
 module _ {A : Type 0} (x : A) (xs : List A) (f : ℕ) (fs : List ℕ) where
@@ -108,34 +103,6 @@ none_end t base fs n k i fits h =
     let l = length-take-le n fs fits in
     let d = drop_of_length-le (take n fs) {i = i} (omega arith) in
     rw d
-
--- THE FLAG OF A SLOT
-module _ (closed : ℕ) (t : List ℕ) (at : ℕ) (seen : List Record) {a : Bool} (e : a ≡ slot_ok t at) where
-  pub flag_bad : a ≡ false → 0 ≡ flag (keeps closed t at seen)
-  unfolding keeps
-  flag_bad h = rw (← e, h)
-
-  module _ {k : Key} (h : a ≡ true) (q : k ≡ key_of (record_at t at)) where
-    its_year : k.esercizio ≡ (record_at t at).esercizio
-    its_year = ap (λ (x : Key). x.esercizio) q
-
-    pub flag_closed : k.esercizio ≤ closed → 0 ≡ flag (keeps closed t at seen)
-    unfolding keeps
-    flag_closed l = let y = its_year in rw (← e, h, le-ltb closed (record_at t at).esercizio (omega arith))
-
-    module _ {b : Bool} (l : closed < k.esercizio) (g : b ≡ is_nothing (find_in seen 0 k)) where
-      keeps_is : keeps closed t at seen ≡ b
-      unfolding keeps
-      keeps_is =
-          let y = its_year in
-          let w : ltb closed (record_at t at).esercizio ≡ true = lt-ltb closed (record_at t at).esercizio (omega arith) in
-          (λ i. (sym e ∙ h) i && (w i && is_nothing (find_in seen 0 (sym q i)))) ∙ sym g
-
-      pub flag_is : b ≡ true → 1 ≡ flag (keeps closed t at seen)
-      flag_is z = sym (ap flag (keeps_is ∙ z))
-
-      pub flag_not : b ≡ false → 0 ≡ flag (keeps closed t at seen)
-      flag_not z = sym (ap flag (keeps_is ∙ z))
 
 -- ALL FLAGS: those set so far, and those from here on, are the whole
 abbrev pub flags_from : ℕ → List ℕ → ℕ → ℕ → List ℕ → ℕ → List ℕ
@@ -216,34 +183,31 @@ marked_more closed t base fs seen i f h low q p l e m =
     (mark_one (keeps closed t (base + slot_size * i) (sofar t base fs i)) seen (sofar t base fs i) (record_at t (base + slot_size * i)) h m (p ∙ ap mark_of q) l)
 
 -- BLANKED SLOTS: the slot at `at`, whose flag is f
-pub blanks_kept : (t : List ℕ) (at f : ℕ) → f ≡ 1 → false ≡ blanks t at f
-unfolding blanks
-blanks_kept t at f e = rw (eq-eqb f 1 e)
-
-pub blanks_not : (t : List ℕ) (at f : ℕ) {b : Bool} → (f ≡ 1 → ⊥) → b ≡ zeros t at (at + slot_size) → not b ≡ blanks t at f
-unfolding blanks
-blanks_not t at f n e = rw (ne_eqb f 1 n, ← e)
-
 -- those from slot i on
 abbrev pub blanked_rest : List ℕ → ℕ → List ℕ → ℕ → List ℕ
-blanked_rest t at fs i = blanked_from t at (drop i fs)
+blanked_rest t base fs i = blanked_from t (base + slot_size * i) (drop i fs)
 
-module _ (t : List ℕ) (at : ℕ) (fs : List ℕ) (i : ℕ) (low : i < length fs) {b : Bool} (e : b ≡ blanks t at (get_or fs i 0)) where
-  rest_is : blanked_rest t at fs i ≡ cond b (at ∷ []) [] ++ blanked_rest t (at + slot_size) fs (i + 1)
+module _ (t : List ℕ) (base : ℕ) (fs : List ℕ) (i : ℕ) (low : i < length fs) {b : Bool} (e : b ≡ blanks t (base + slot_size * i) (get_or fs i 0)) where
+  rest_is : blanked_rest t base fs i ≡ cond b ((base + slot_size * i) ∷ []) [] ++ blanked_rest t base fs (i + 1)
   unfolding blanked_from
   rest_is =
+      let at : ℕ = base + slot_size * i in
+      let q : at + slot_size ≡ base + slot_size * (i + 1) = omega arith in
       ap (blanked_from t at) (drop-cons fs i 0 low ∙ (λ j. get_or fs i 0 ∷ drop (sym (add-one i) j) fs))
-      ∙ (λ j. cond (sym e j) (at ∷ []) [] ++ blanked_rest t (at + slot_size) fs (i + 1))
+      ∙ (λ j. cond (sym e j) (at ∷ []) [] ++ blanked_from t (q j) (drop (i + 1) fs))
 
-  pub rest_yes : b ≡ true → blanked_rest t at fs i ≡ at ∷ blanked_rest t (at + slot_size) fs (i + 1)
-  rest_yes h = rest_is ∙ ap (λ (x : Bool). cond x (at ∷ []) [] ++ blanked_rest t (at + slot_size) fs (i + 1)) h
+  pub rest_yes : b ≡ true → blanked_rest t base fs i ≡ (base + slot_size * i) ∷ blanked_rest t base fs (i + 1)
+  rest_yes h = rest_is ∙ ap (λ (x : Bool). cond x ((base + slot_size * i) ∷ []) [] ++ blanked_rest t base fs (i + 1)) h
 
-  pub rest_no : b ≡ false → blanked_rest t at fs i ≡ blanked_rest t (at + slot_size) fs (i + 1)
-  rest_no h = rest_is ∙ ap (λ (x : Bool). cond x (at ∷ []) [] ++ blanked_rest t (at + slot_size) fs (i + 1)) h
+  pub rest_no : b ≡ false → blanked_rest t base fs i ≡ blanked_rest t base fs (i + 1)
+  rest_no h = rest_is ∙ ap (λ (x : Bool). cond x ((base + slot_size * i) ∷ []) [] ++ blanked_rest t base fs (i + 1)) h
 
-pub rest_end : (t : List ℕ) (at : ℕ) (fs : List ℕ) (i : ℕ) → length fs ≤ i → blanked_rest t at fs i ≡ []
+pub rest_start : (t : List ℕ) (base : ℕ) (fs : List ℕ) → blanked_from t base fs ≡ blanked_rest t base fs 0
+rest_start t base fs = let p : base ≡ base + slot_size * 0 = omega arith in ap (λ (b : ℕ). blanked_from t b fs) p
+
+pub rest_end : (t : List ℕ) (base : ℕ) (fs : List ℕ) (i : ℕ) → length fs ≤ i → blanked_rest t base fs i ≡ []
 unfolding blanked_from
-rest_end t at fs i h = ap (blanked_from t at) (drop_of_length-le fs {i = i} h)
+rest_end t base fs i h = ap (blanked_from t (base + slot_size * i)) (drop_of_length-le fs {i = i} h)
 
 -- numbers written one after the other, w bytes each: one more, and none
 module _ (bytes : ℕ → List ℕ) (r : List ℕ) (to : ℕ) where

@@ -11,17 +11,14 @@ ghost use Rattle.packing.specs.Packing.{chosen, flag};
 ghost use Rattle.keeping.specs.Keeping.{keeps, keeps_at, blanks, blanked_from, moved, each_bytes};
 
 use record::Key;
-use valid::Judged;
 
 // A slot whose record is valid by itself.
+#[tactic(auto, using(crate::proofs::Laws::slot_told))]
 fn slot_valid(t: &[u8], at: usize) -> bool
     requires { at + slot_size ≤ length t.now }
     ensures { result ≡ slot_ok t.now at }
 {
-    match body::judge_slot(t, at) {
-        Judged::Right(_) => true,
-        Judged::Broken => false,
-    }
+    body::judge_slot(t, at).is_some()
 }
 
 // Whether none of the kept ones among a body's first n slots has this key.
@@ -29,14 +26,10 @@ fn key_absent(t: &[u8], base: usize, flags: &[u8], n: usize, key: Key) -> bool
     requires { (base + slot_size * n ≤ length t.now) × (n ≤ length flags.now) }
     ensures { result ≡ is_nothing (find_in (chosen (slots_at t.now base n) (take n flags.now)) 0 key) }
 {
-    let mut i = 0;
-    while i < n {
-        if flags[i] == 1 {
-            if record::hit_at(t, base + record::SLOT * i, key) {
-                return false;
-            }
+    for i in 0..n {
+        if flags[i] == 1 && record::hit_at(t, base + record::SLOT * i, key) {
+            return false;
         }
-        i += 1;
     }
     true
 }
@@ -47,29 +40,21 @@ fn key_new(t: &[u8], base: usize, flags: &[u8], n: usize, key: Key, maybe: bool)
         × (maybe ≡ false → is_nothing (find_in (chosen (slots_at t.now base n) (take n flags.now)) 0 key) ≡ true) }
     ensures { result ≡ is_nothing (find_in (chosen (slots_at t.now base n) (take n flags.now)) 0 key) }
 {
-    if !maybe {
-        return true;
-    }
-    key_absent(t, base, flags, n, key)
+    !maybe || key_absent(t, base, flags, n, key)
 }
 
 // The flag of slot i with this key, after those of the slots before it.
+#[tactic(auto, unfolding(crate::specs::Keeping::keeps))]
 fn flag_of(t: &[u8], base: usize, flags: &[u8], i: usize, key: Key, maybe: bool, closed: u64) -> u8
     requires { (base + slot_size * length flags.now ≤ length t.now) × (i < length flags.now) × (key ≡ key_of (record_at t.now (base + slot_size * i)))
         × (maybe ≡ false → is_nothing (find_in (chosen (slots_at t.now base i) (take i flags.now)) 0 key) ≡ true) }
     ensures { result ≡ flag (keeps closed t.now (base + slot_size * i) (chosen (slots_at t.now base i) (take i flags.now))) }
 {
-    if !slot_valid(t, base + record::SLOT * i) {
-        return 0;
-    }
-    if key.esercizio <= closed {
-        return 0;
-    }
-    if key_new(t, base, flags, i, key, maybe) {
-        1
-    } else {
-        0
-    }
+    u8::from(
+        slot_valid(t, base + record::SLOT * i)
+            && closed < key.esercizio
+            && key_new(t, base, flags, i, key, maybe),
+    )
 }
 
 // The flags of a body's slots, as many as there is room for flags, of a body that has closed the years up to this one. Most keys fall on a place of the filter that no earlier one has marked, so that the
@@ -78,27 +63,22 @@ pub fn flags_of(t: &[u8], base: usize, flags: &mut [u8], closed: u64)
     requires { base + slot_size * length flags.old ≤ length t.now }
     ensures { flags.new ≡ keeps_at closed t.now base (length flags.old) }
 {
-    let mut seen: [u8; 4096] = [0; 4096];
-    let mut i = 0;
-    while i < flags.len() {
+    let mut seen = [0u8; 4096];
+    for i in 0..flags.len() {
         let key = record::key_at(t, base + record::SLOT * i);
         let h = slots::mark_of(key);
-        let f = flag_of(t, base, flags, i, key, seen[h] != 0, closed);
-        flags[i] = f;
+        flags[i] = flag_of(t, base, flags, i, key, seen[h] != 0, closed);
         seen[h] = 1;
-        i += 1;
     }
 }
 
 // Whether the slot at a place with this flag is blanked.
+#[tactic(auto, unfolding(crate::specs::Keeping::blanks))]
 fn is_blanked(t: &[u8], at: usize, f: u8) -> bool
     requires { at + slot_size ≤ length t.now }
     ensures { result ≡ blanks t.now at f }
 {
-    if f == 1 {
-        return false;
-    }
-    !ranges::are_zero(t, at, at + record::SLOT)
+    f != 1 && !ranges::are_zero(t, at, at + record::SLOT)
 }
 
 // How many of a body's slots are blanked.
@@ -106,15 +86,11 @@ pub fn count_blanked(t: &[u8], base: usize, flags: &[u8]) -> usize
     requires { base + slot_size * length flags.now ≤ length t.now }
     ensures { (result ≡ length (blanked_from t.now base flags.now)) × (result ≤ length flags.now) }
 {
-    let mut at = base;
-    let mut i = 0;
     let mut count = 0;
-    while i < flags.len() {
-        if is_blanked(t, at, flags[i]) {
+    for (i, &flag) in flags.iter().enumerate() {
+        if is_blanked(t, base + record::SLOT * i, flag) {
             count += 1;
         }
-        at += record::SLOT;
-        i += 1;
     }
     count
 }
@@ -126,16 +102,13 @@ pub fn put_places(r: &mut [u8], to: usize, t: &[u8], base: usize, flags: &[u8]) 
     ensures { (result ≡ to + 4 * length (blanked_from t.now base flags.now))
         × (r.new ≡ put r.old to (each_bytes bytes4 (blanked_from t.now base flags.now))) }
 {
-    let mut at = base;
-    let mut i = 0;
     let mut next = to;
-    while i < flags.len() {
-        if is_blanked(t, at, flags[i]) {
+    for (i, &flag) in flags.iter().enumerate() {
+        let at = base + record::SLOT * i;
+        if is_blanked(t, at, flag) {
             words::write4(r, next, at as u64);
             next += 4;
         }
-        at += record::SLOT;
-        i += 1;
     }
     next
 }
@@ -144,17 +117,15 @@ pub fn put_places(r: &mut [u8], to: usize, t: &[u8], base: usize, flags: &[u8]) 
 pub fn count_moved(flags: &[u8]) -> usize
     ensures { (result ≡ moved flags.now) × (result ≤ length flags.now) }
 {
-    let mut i = 0;
     let mut to = 0;
     let mut count = 0;
-    while i < flags.len() {
-        if flags[i] == 1 {
+    for (i, &flag) in flags.iter().enumerate() {
+        if flag == 1 {
             if i != to {
                 count += 1;
             }
             to += 1;
         }
-        i += 1;
     }
     count
 }

@@ -1,4 +1,5 @@
 -- A TABLE THAT LESSONS START FROM: valid, and no year is closed. (That no body has more than 32 slots only the room's arrays ask.)
+use Rattle.std.specs.Prelude.{Result, Ok, Err}
 use Prim.Native.Nat.{ℕ}
 use mathlib.Core.Path.{◌≡◌, refl, ap}
 use mathlib.Core.Bool.{Bool, true, false, cond}
@@ -6,8 +7,8 @@ use mathlib.Core.List.{List}
 use native.Mathlib.Omega.{arith}
 use Rattle.table.specs.Table.{table_ok}
 use Rattle.plain.specs.Says.{small, unclosed}
-use Rattle.enrolment.specs.declared.Enrolled.{Enrolled}
-use Rattle.enrolment.specs.declared.Enrolled.TheVariants.{Ready, InvalidTable, TooLarge, YearClosed}
+use Rattle.enrolment.specs.declared.EnrolRefusal.{EnrolRefusal}
+use Rattle.enrolment.specs.declared.EnrolRefusal.TheVariants.{InvalidTable, TooLarge, YearClosed}
 use Rattle.enrolment.specs.Enrolment.{enrols}
 
 pub record Fit (t : List ℕ) : Type 0 where
@@ -15,24 +16,24 @@ pub record Fit (t : List ℕ) : Type 0 where
   pub years_open : unclosed t ≡ true
 
 -- ready by three tests
-abbrev told : Bool → Bool → Bool → Enrolled
-told x y z = cond x (cond y (cond z Ready YearClosed) TooLarge) InvalidTable
+abbrev told : Bool → Bool → Bool → Result Unit EnrolRefusal
+told x y z = cond x (cond y (cond z (Ok tt) (Err YearClosed)) (Err TooLarge)) (Err InvalidTable)
 
-abbrev is_ready : Enrolled → ℕ
-is_ready Ready = 1
-is_ready InvalidTable = 0
-is_ready TooLarge = 0
-is_ready YearClosed = 0
+abbrev is_ready : Result Unit EnrolRefusal → ℕ
+is_ready (Ok tt) = 1
+is_ready (Err InvalidTable) = 0
+is_ready (Err TooLarge) = 0
+is_ready (Err YearClosed) = 0
 
-all_three : (x y z : Bool) → told x y z ≡ Ready → (x ≡ true) × (y ≡ true) × (z ≡ true)
+all_three : (x y z : Bool) → told x y z ≡ Ok tt → (x ≡ true) × (y ≡ true) × (z ≡ true)
 all_three true true true e = (refl, refl, refl)
 all_three true true false e = absurd (omega (arith, ap is_ready e))
 all_three true false z e = absurd (omega (arith, ap is_ready e))
 all_three false y z e = absurd (omega (arith, ap is_ready e))
 
 module _ (t : List ℕ) where
-  pub ready_fit : enrols t ≡ Ready → Fit t × (small t ≡ true)
+  pub ready_fit : enrols t ≡ Ok tt → Fit t × (small t ≡ true)
   ready_fit e = let w = all_three (table_ok t) (small t) (unclosed t) e in (record { valid = w.0; years_open = w.2 }, w.1)
 
-  pub fit_ready : Fit t → small t ≡ true → enrols t ≡ Ready
+  pub fit_ready : Fit t → small t ≡ true → enrols t ≡ Ok tt
   fit_ready F e = λ i. told (F.valid i) (e i) (F.years_open i)

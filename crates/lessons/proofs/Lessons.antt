@@ -1,4 +1,5 @@
 -- THE THEOREM: the room and every table engine that keeps the promises agree at each lesson, and so over every sequence of them.
+use Rattle.std.specs.Prelude.{Ok}
 use mathlib.Core.Path.{◌≡◌, refl, sym, ap, ◌∙◌, subst}
 use mathlib.Core.Bool.{true, false}
 use mathlib.Core.List.{List, [], ◌∷◌}
@@ -15,7 +16,6 @@ use Rattle.plain.specs.Plain.{Plain, body_in, numbered}
 use Rattle.plain.specs.Flows.{flow_teaches, taught_answer, taught_room, taught_outcomes}
 use Rattle.plain.specs.Notices.{notice_for, room_for, day_answer, day_room, totals_for}
 use Rattle.plain.specs.Says.{plain_of, small}
-use Rattle.enrolment.specs.declared.Enrolled.TheVariants.{Ready}
 use Rattle.enrolment.specs.Enrolment.{room_by, EnrolPromise}
 use Rattle.lessons.specs.Lessons.{Lesson, flow, execute, reverse, totals, at_desk, Teach, Learns, nothing, lesson, on_table, taken, Lessons}
 use Rattle.lessons.proofs.Fit.{Fit, ready_fit, fit_ready}
@@ -90,11 +90,11 @@ module _ (E : Engine) where
       (λ i. (c, x i) ∷ z.0 i, z.1)
 
 -- A ROOM MADE OF A TABLE
-made : (t : List ℕ) (s : Plain) → EnrolPromise t Ready s → Fit t × (s ≡ plain_of t)
+made : (t : List ℕ) (s : Plain) → EnrolPromise t (Ok tt) s → Fit t × (s ≡ plain_of t)
 made t s p = ((ready_fit t (sym p.0)).0, p.1 ∙ ap (room_by t) (sym p.0))
 
 -- no lesson is answered 1, since the table engine that there is answers none so
-not_invalid : (t : List ℕ) (s u s' : Plain) (ls : List (Lesson × Answer)) (c : Lesson) (a : Answer) → EnrolPromise t Ready s → Learns s ls u → Teach c u a s' → answer_code a ≡ 1 → ⊥
+not_invalid : (t : List ℕ) (s u s' : Plain) (ls : List (Lesson × Answer)) (c : Lesson) (a : Answer) → EnrolPromise t (Ok tt) s → Learns s ls u → Teach c u a s' → answer_code a ≡ 1 → ⊥
 not_invalid t s u s' ls c a p q r e =
     let E = desk.ours in
     let w = made t s p in

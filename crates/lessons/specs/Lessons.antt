@@ -1,12 +1,12 @@
 -- THE TRAINING ROOM AND THE TABLE ENGINE (document 02, Req 12): "On valid tables whose bodies have at most 32 slots it is proved, over all flows and notices, to give every
 -- answer and outcome the table engine gives, and its lists are what the records say." Proved: `lessons : Lessons`.
-use Rattle.std.specs.Prelude.{ℕ, ◌≤◌, ◌≡◌, true, false, List, [], ◌∷◌, map, length}
+use Rattle.std.specs.Prelude.{ℕ, ◌≤◌, ◌≡◌, true, false, List, [], ◌∷◌, map, length, Result, Ok}
 use Rattle.std.proofs.Math.Option.{none}
 use Rattle.calendar.specs.declared.Date.{Date}
 use Rattle.record.specs.declared.Key.{Key}
-use Rattle.notices.specs.declared.NoticeAnswer.{NoticeAnswer}
+use Rattle.notices.specs.declared.NoticeRefusal.{NoticeRefusal}
 use Rattle.notices.specs.declared.TotalsAnswer.{TotalsAnswer}
-use Rattle.desk.specs.declared.FlowAnswer.{FlowAnswer}
+use Rattle.desk.specs.declared.FlowRefusal.{FlowRefusal}
 use Rattle.isolation.specs.Machine.{Machine, state_after, log}
 use Rattle.theorems.specs.Engine.{Answer, of_flow, of_notice, of_totals, Engine, answer_code}
 use Rattle.theorems.specs.Engine as desk
@@ -14,8 +14,7 @@ use Rattle.plain.specs.Plain.{Plain, body_in}
 use Rattle.plain.specs.Flows.{FlowLesson}
 use Rattle.plain.specs.Notices.{NoticeLesson, TotalsLesson}
 use Rattle.plain.specs.Says.{plain_of}
-use Rattle.enrolment.specs.declared.Enrolled.{Enrolled}
-use Rattle.enrolment.specs.declared.Enrolled.TheVariants.{Ready}
+use Rattle.enrolment.specs.declared.EnrolRefusal.{EnrolRefusal}
 use Rattle.enrolment.specs.Enrolment.{enrols, EnrolPromise}
 
 -- THE CALLS OF A LESSON: flows, notices and totals, as the desk has them; "the training engine gets no close" (Req 14)
@@ -33,9 +32,9 @@ at_desk (totals code) = desk.totals code
 
 -- what each call promises in the room s: the answer a, and the room s' afterwards
 abbrev pub Teach : Lesson → Plain → Answer → Plain → Type 0
-Teach (flow ed f out) s a s' = (r : FlowAnswer) × (out' : List ℕ) × FlowLesson s ed f out r s' out' × (a ≡ of_flow r out')
-Teach (execute code k line d) s a s' = (r : NoticeAnswer) × NoticeLesson s true code k line d r s' × (a ≡ of_notice r)
-Teach (reverse code k line d) s a s' = (r : NoticeAnswer) × NoticeLesson s false code k line d r s' × (a ≡ of_notice r)
+Teach (flow ed f out) s a s' = (r : Result (ℕ × ℕ × ℕ) FlowRefusal) × (out' : List ℕ) × FlowLesson s ed f out r s' out' × (a ≡ of_flow r out')
+Teach (execute code k line d) s a s' = (r : Result ℕ NoticeRefusal) × NoticeLesson s true code k line d r s' × (a ≡ of_notice r)
+Teach (reverse code k line d) s a s' = (r : Result ℕ NoticeRefusal) × NoticeLesson s false code k line d r s' × (a ≡ of_notice r)
 Teach (totals code) s a s' = (r : TotalsAnswer) × TotalsLesson s code r × (a ≡ of_totals r) × (s' ≡ s)
 
 -- WHAT MAY HAPPEN IN THE ROOM from a room on: a log of lessons with their answers, and the room in the end, each step as its call promises. Every run of the calls in
@@ -67,18 +66,18 @@ taken ls = map (λ l. l.0) ls
 -- THE THEOREM, of every table t that the training room takes, the room s that is made of it, every table engine E, and whatever lessons with their answers lead to a room u
 pub record Lessons : Type 0 where
   -- "every answer and outcome the table engine gives"
-  pub answers : (E : Engine) (t : List ℕ) (s u : Plain) (ls : List (Lesson × Answer)) → EnrolPromise t Ready s → Learns s ls u → log (on_table E) (taken ls) t ≡ ls
+  pub answers : (E : Engine) (t : List ℕ) (s u : Plain) (ls : List (Lesson × Answer)) → EnrolPromise t (Ok tt) s → Learns s ls u → log (on_table E) (taken ls) t ≡ ls
   -- "its lists are what the records say"
-  pub lists : (E : Engine) (t : List ℕ) (s u : Plain) (ls : List (Lesson × Answer)) → EnrolPromise t Ready s → Learns s ls u
+  pub lists : (E : Engine) (t : List ℕ) (s u : Plain) (ls : List (Lesson × Answer)) → EnrolPromise t (Ok tt) s → Learns s ls u
       → u ≡ plain_of (state_after (on_table E) (taken ls) t)
   -- "as many as the body has slots"
-  pub within : (t : List ℕ) (s u : Plain) (ls : List (Lesson × Answer)) (b : ℕ) → EnrolPromise t Ready s → Learns s ls u → length (body_in u b).orders ≤ (body_in u b).slots
+  pub within : (t : List ℕ) (s u : Plain) (ls : List (Lesson × Answer)) (b : ℕ) → EnrolPromise t (Ok tt) s → Learns s ls u → length (body_in u b).orders ≤ (body_in u b).slots
   -- "meets no closed table" (Req 14): the table on which the same lessons were taken is one that the room takes, at any moment
-  pub stays : (E : Engine) (cs : List Lesson) (t : List ℕ) → enrols t ≡ Ready → enrols (state_after (on_table E) cs t) ≡ Ready
+  pub stays : (E : Engine) (cs : List Lesson) (t : List ℕ) → enrols t ≡ Ok tt → enrols (state_after (on_table E) cs t) ≡ Ok tt
   -- no lesson is answered 1
-  pub never_invalid : (t : List ℕ) (s u s' : Plain) (ls : List (Lesson × Answer)) (c : Lesson) (a : Answer) → EnrolPromise t Ready s → Learns s ls u → Teach c u a s'
+  pub never_invalid : (t : List ℕ) (s u s' : Plain) (ls : List (Lesson × Answer)) (c : Lesson) (a : Answer) → EnrolPromise t (Ok tt) s → Learns s ls u → Teach c u a s'
       → answer_code a ≡ 1 → ⊥
   -- every lesson is answered, in one way, and every table is told of in one way
   pub answered : (c : Lesson) (s : Plain) → (a : Answer) × (s' : Plain) × Teach c s a s'
   pub one_answer : (c : Lesson) (s : Plain) (a b : Answer) (s' s'' : Plain) → Teach c s a s' → Teach c s b s'' → (a ≡ b) × (s' ≡ s'')
-  pub one_room : (t : List ℕ) (x y : Enrolled) (s s' : Plain) → EnrolPromise t x s → EnrolPromise t y s' → (x ≡ y) × (s ≡ s')
+  pub one_room : (t : List ℕ) (x y : Result Unit EnrolRefusal) (s s' : Plain) → EnrolPromise t x s → EnrolPromise t y s' → (x ≡ y) × (s ≡ s')

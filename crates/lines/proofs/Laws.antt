@@ -1,12 +1,12 @@
 -- Laws of a walk over one order's lines: the answer that a tally and the lines still to come determine, at the start, after one line more and at the end.
 use Prim.Native.Nat.{ℕ, suc, zero, ◌+◌, ◌-◌, ◌<◌}
 use mathlib.Core.Bool.{Bool, true, false, ◌&&◌, cond, and_assoc, and-true}
-use mathlib.Core.List.{List, [], ◌∷◌}
+use mathlib.Core.List.{List, ◌∷◌}
 use mathlib.Core.Path.{◌≡◌, refl, sym, ap, ◌∙◌}
 use native.Mathlib.Omega.{arith}
 use native.Mathlib.Nat.{zero-add, suc-add}
 use native.Mathlib.Numerals.{add-one}
-use lib.ListN.{length, get_or, take, drop}
+use lib.ListN.{length, get_or, drop}
 use lib.Seq.{drop-cons, drop-length}
 use lib.Dec.{eqb, leb, eqb-suc-suc}
 use borrow.Author.Tests.{leb-true, leb-false, ne_eqb}
@@ -47,9 +47,3 @@ module _ (ls : List Line) (t : Tally) (i : ℕ) where
   pub ends : i ≡ length ls → code_from t i (drop i ls) ≡ answer_of t
   unfolding numbered_from sum_of
   ends e = rw (e, drop-length ls, and-true t.numbered)
-
--- as many as there are, of those that are there
-pub there : {A : Type 0} (n : ℕ) (l : List A) → take (length (take n l)) l ≡ take n l
-there zero l = refl
-there (suc n) [] = refl
-there (suc n) (x ∷ l) = ap (λ r. x ∷ r) (there n l)

@@ -26,68 +26,31 @@ fn start(total: u64) -> Tally
     }
 }
 
-fn both(a: bool, b: bool) -> bool
-    ensures { result ≡ (a && b) }
-{
-    if a {
-        return b;
-    }
-    false
-}
-
-// The line at place i, counted from 0, has number i + 1.
-fn follows(number: u64, i: usize) -> bool
-    requires { i + 1 < 2 ^ 64 }
-    ensures { result ≡ eqb number (i + 1) }
-{
-    number == (i as u64) + 1
-}
-
-fn at_most(x: u64, y: u64) -> bool
-    ensures { result ≡ leb x y }
-{
-    x <= y
-}
-
-// Nothing where y is more: the total is counted down, so that no sum can wrap.
-fn less(x: u64, y: u64) -> u64
-    ensures { result ≡ x - y }
-{
-    if y <= x {
-        return x - y;
-    }
-    0
-}
-
 // One line more, at place i.
 fn step(t: Tally, i: usize, l: Line) -> Tally
     requires { i + 1 < 2 ^ 64 }
     ensures { result ≡ step_of t i l }
 {
-    let numbered = both(t.numbered, follows(l.progressivo, i));
-    let fits = both(t.fits, at_most(l.amount, t.left));
-    let left = less(t.left, l.amount);
     Tally {
-        numbered,
-        fits,
-        left,
+        numbered: t.numbered && l.progressivo == i as u64 + 1,
+        fits: t.fits && l.amount <= t.left,
+        // The total is counted down, so that no sum can wrap.
+        left: t.left.saturating_sub(l.amount),
     }
 }
 
 // 12 where the lines aren't numbered 1, 2, 3 and so on, 13 where they don't sum to the total, else 0.
+// A code stays a number: the step table, the outcome bytes, C and the theorems have it so, and an enum would say each code twice.
 fn answer(t: Tally) -> u8
     ensures { result ≡ answer_of t }
 {
     if !t.numbered {
-        return 12;
+        12
+    } else if t.fits && t.left == 0 {
+        0
+    } else {
+        13
     }
-    if !t.fits {
-        return 13;
-    }
-    if t.left == 0 {
-        return 0;
-    }
-    13
 }
 
 // The thin function over the lent list: it reads each line where it stands and hands it to `step`.
@@ -95,27 +58,15 @@ pub fn line_check(lines: &[Line], total: u64) -> u8
     ensures { result ≡ line_code lines.now total }
 {
     let mut t = start(total);
-    let mut i: usize = 0;
-    while i < lines.len() {
-        t = step(t, i, lines[i]);
-        i += 1;
+    for (i, &line) in lines.iter().enumerate() {
+        t = step(t, i, line);
     }
     answer(t)
-}
-
-// Lends the first n of eight.
-fn check_first(each: [Line; 8], n: usize, total: u64) -> u8
-    requires { n ≤ 8 }
-    ensures { result ≡ line_code (take n each) total }
-{
-    line_check(&each[..n], total)
 }
 
 // What an order's lines come to.
 pub fn check_lines(ls: Lines, total: u64) -> u8
     ensures { result ≡ line_code (lines_there ls) total }
 {
-    let each = ls.each;
-    let n = order::count_of(ls);
-    check_first(each, n, total)
+    line_check(&ls.each[..order::count_of(ls)], total)
 }

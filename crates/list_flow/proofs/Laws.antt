@@ -1,4 +1,5 @@
 -- The orders of a flow taken on a list one after the other.
+use Rattle.std.specs.Prelude.{Option, Result, Some, None}
 use mathlib.Core.Path.{◌≡◌, refl, sym, ap, ◌∙◌}
 use mathlib.Core.List.{List, [], ◌∷◌, ◌++◌}
 use mathlib.Core.Bool.{cond}
@@ -11,15 +12,12 @@ use Rattle.words.proofs.Laws.{put_nil, put_put}
 use Rattle.bounds.specs.Bounds.{max_slots}
 use Rattle.schema.specs.declared.Parent.{Parent}
 use Rattle.rows.specs.declared.Kept.{Kept}
-use Rattle.rows.specs.declared.Next.{Next}
-use Rattle.rows.specs.declared.Next.TheVariants.{Named, Done}
 use Rattle.rows.specs.Kept.{kept_from, next_of}
 use Rattle.record.specs.declared.Record.{Record}
 use Rattle.order.specs.declared.Order.{Order}
 use Rattle.order.specs.Ordinativo.{Ordinativo, ordinativo}
 use Rattle.orders.specs.Orders.{those, order_of, is_order}
 use Rattle.orders.proofs.Laws.{orders_end, OrderAt, order_at}
-use Rattle.rules.specs.declared.Ruling.{Ruling}
 use Rattle.rules.specs.Rules.{judge_order, order_code}
 use Rattle.rules.specs.Effects.{records_by, all_records}
 use Rattle.rules.specs.Searches.{steps_of}
@@ -30,6 +28,7 @@ use Rattle.serving.proofs.Laws.{outcome_length}
 use Rattle.one_list.specs.Lists.{list_outcomes, list_accepted, list_steps}
 use Rattle.training.specs.Training.{places}
 use Rattle.list_flow.specs.ListFlow.{ListTaken}
+use Rattle.rules.specs.declared.Change.{Change}
 
 -- an array's first elements are no more than it has
 pub taken_most : (n : ℕ) (l : List Record) → length (take n l) ≤ length l
@@ -68,7 +67,7 @@ module _ (root : Parent) (f past : List ℕ) (slots year : ℕ) (rs₀ : List Re
   }
 
   module _ (rs : List Record) (out : List ℕ) (i to accepted steps : ℕ) (s : Taking root f past slots year rs₀ out₀ from rs out i to accepted steps) where
-    pub taking_end : {x : Next} → x ≡ next_of (those is_order (kept_from root f i)) → x ≡ Done → ListTaken slots year (orders_from root f from) rs₀ out₀ accepted steps rs out
+    pub taking_end : {x : Option Kept} → x ≡ next_of (those is_order (kept_from root f i)) → x ≡ None → ListTaken slots year (orders_from root f from) rs₀ out₀ accepted steps rs out
     unfolding list_accepted list_steps all_records list_outcomes
     taking_end x e =
         let z = orders_end root f i (sym x ∙ e) in
@@ -78,7 +77,7 @@ module _ (root : Parent) (f past : List ℕ) (slots year : ℕ) (rs₀ : List Re
         let o : put out to [] ≡ put out₀ 0 (list_outcomes slots year (orders_from root f from) rs₀) = rw z at s.outcomes in
         (omega arith, omega arith, l, sym (put_nil out to) ∙ o)
 
-    module _ {x : Next} {k : Kept} (m : x ≡ next_of (those is_order (kept_from root f i))) (n : x ≡ Named k) where
+    module _ {x : Option Kept} {k : Kept} (m : x ≡ next_of (those is_order (kept_from root f i))) (n : x ≡ Some k) where
       pub taking_order : OrderAt root f i k
       taking_order = order_at root f i k s.rooted.holds (sym m ∙ n)
 
@@ -92,7 +91,7 @@ module _ (root : Parent) (f past : List ℕ) (slots year : ℕ) (rs₀ : List Re
           let h : steps + max_slots * suc (length (orders_from root f k.child.after)) ≤ max_steps = rw taking_order.rest at s.most in
           omega (arith, steps_most year o rs, s.small)
 
-      pub taking_step : {o : Order} {j : Ruling} {d code a : ℕ} {rs' : List Record} {out' : List ℕ} → length rs' ≤ places → o ≡ order_of f k
+      pub taking_step : {o : Order} {j : Result (Change × ℕ) ℕ} {d code a : ℕ} {rs' : List Record} {out' : List ℕ} → length rs' ≤ places → o ≡ order_of f k
           → j ≡ judge_order slots year (ordinativo o) rs → d ≡ steps_of year (ordinativo o) rs → rs' ≡ records_by year (ordinativo o) rs j
           → code ≡ order_code j → out' ≡ put out to (outcome_bytes (ordinativo o) code) → length out' ≡ length out → a ≡ cond (eqb code 0) 1 0 → a ≤ 1
           → Taking root f past slots year rs₀ out₀ from rs' out' k.child.after (to + 16) (accepted + a) (steps + d)

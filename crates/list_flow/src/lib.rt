@@ -8,7 +8,6 @@ ghost use Rattle.serving.specs.Served.{orders_from, Rooted, max_steps};
 ghost use Rattle.training.specs.Training.{places, list_of};
 ghost use Rattle.list_flow.specs.ListFlow.{ListTaken};
 
-use rows::Next;
 use schema::Parent;
 use training::Book;
 
@@ -40,14 +39,7 @@ pub fn take_orders(
     let mut to: usize = 0;
     let mut accepted: usize = 0;
     let mut steps: usize = 0;
-    loop {
-        let Next::Named(k) = orders::next_order(f, i, root, past) else {
-            return ListServed {
-                accepted,
-                steps,
-                book,
-            };
-        };
+    while let Some(k) = orders::next_order(f, i, root, past) {
         let c = k.child;
         let o = orders::order_of(f, k, past);
         let s = training::take_order(book, slots, year, o);
@@ -59,5 +51,10 @@ pub fn take_orders(
         to += service::OUTCOME;
         i = c.after;
         book = s.book;
+    }
+    ListServed {
+        accepted,
+        steps,
+        book,
     }
 }

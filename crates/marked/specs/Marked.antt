@@ -1,14 +1,10 @@
 -- THE MARKED CASES P1 TO P12 (document 01), in one table of the written rules: "P1 to P12 are proved of the written rules by a single statement over a
 -- single table." A new case is a new line of `marked`; that all hold is proofs/Marked. P11 and P12 go through a flow's own bytes and the calls.
-use Rattle.std.specs.Prelude.{ℕ, Bool, true, false, not, ◌&&◌, List, [], ◌∷◌, ◌++◌, length, get_or, eqb}
+use Rattle.std.specs.Prelude.{ℕ, Bool, true, false, not, ◌&&◌, List, [], ◌∷◌, ◌++◌, length, get_or, eqb, Option, Some, None}
 use Prim.Native.String.{String}
 use Rattle.scan.specs.Bytes.{bytes}
-use Rattle.digits.specs.declared.Number.{Number}
-use Rattle.digits.specs.declared.Number.TheVariants.{Value, NoNumber}
 use Rattle.digits.specs.Digits.{importo, numero}
 use Rattle.dates.specs.Dates.{data_of, is_on}
-use Rattle.ranges.specs.declared.Found.{Found}
-use Rattle.ranges.specs.declared.Found.TheVariants.{At, Nothing}
 use Rattle.calendar.specs.declared.Date.{Date}
 use Rattle.record.specs.declared.Key.{Key}
 use Rattle.table.specs.Table.{body_of}
@@ -18,8 +14,8 @@ use Rattle.marked.specs.Flows.{sample_table, mandato, flow_of, single, room}
 
 pub data Case : Type 0 where
   -- the text of an amount or of a number, and what it is: so many (cents), or broken
-  amount : String → Number → Case
-  number : String → Number → Case
+  amount : String → Option ℕ → Case
+  number : String → Option ℕ → Case
   -- the text of a date, and whether it stands
   date : String → Bool → Case
   -- two codes, and the bodies of the opened table that they name, counted from 0
@@ -29,19 +25,19 @@ pub data Case : Type 0 where
   -- a flow on the opened table and then a notice of reversal: body code, order and line, and the notice's code
   reversal : List ℕ → String → Key → ℕ → ℕ → Case
 
-abbrev same_number : Number → Number → Bool
-same_number (Value v) (Value w) = eqb v w
-same_number (Value v) NoNumber = false
-same_number NoNumber (Value w) = false
-same_number NoNumber NoNumber = true
+abbrev same_number : Option ℕ → Option ℕ → Bool
+same_number (Some v) (Some w) = eqb v w
+same_number (Some v) None = false
+same_number None (Some w) = false
+same_number None None = true
 
 abbrev same_bool : Bool → Bool → Bool
 same_bool true b = b
 same_bool false b = not b
 
-abbrev is_body : Found → ℕ → Bool
-is_body (At b) n = eqb b n
-is_body Nothing n = false
+abbrev is_body : Option ℕ → ℕ → Bool
+is_body (Some b) n = eqb b n
+is_body None n = false
 
 -- what a flow of edition 1 with room for n outcomes is read as, and what it leaves
 abbrev read_on : List ℕ → ℕ → Reading
@@ -75,19 +71,19 @@ all_hold (c ∷ cs) = holds c && all_hold cs
 abbrev pub marked : List Case
 marked =
     -- P1
-    amount "0.00" (Value 0)
+    amount "0.00" (Some 0)
     -- P2
-    ∷ amount "999999999.99" (Value 99999999999)
+    ∷ amount "999999999.99" (Some 99999999999)
     -- P3
-    ∷ amount "00.50" NoNumber
+    ∷ amount "00.50" None
     -- P4
-    ∷ amount "0.5" NoNumber
+    ∷ amount "0.5" None
     -- P5
-    ∷ number "0000012" (Value 12)
+    ∷ number "0000012" (Some 12)
     -- P6
-    ∷ number "00000012" NoNumber
+    ∷ number "00000012" None
     -- P7
-    ∷ number "0" NoNumber
+    ∷ number "0" None
     -- P8
     ∷ date "2000-02-29" true
     -- P9

@@ -8,31 +8,15 @@ ghost use Rattle.record.specs.Slot.{slot_size};
 ghost use Rattle.packing.specs.Packing.{packed};
 ghost use Rattle.keeping.specs.Keeping.{keeps_at, blanked_from, moved, each_bytes};
 
-// Each job has a pair of functions: the first is lent as many flags as the body has slots, the second makes room for them.
-fn blanked_by(t: &[u8], base: usize, flags: &mut [u8], closed: u64) -> usize
-    requires { base + slot_size * length flags.old ≤ length t.now }
-    ensures { (result ≡ length (blanked_from t.now base (keeps_at closed t.now base (length flags.old))))
-        × (result ≤ length flags.old) }
-{
-    keeping::flags_of(t, base, flags, closed);
-    keeping::count_blanked(t, base, flags)
-}
-
 // How many slots are blanked.
 pub fn blanked_in(t: &[u8], base: usize, n: usize, closed: u64) -> usize
     requires { (base + slot_size * n ≤ length t.now) × (n ≤ max_slots) }
     ensures { (result ≡ length (blanked_from t.now base (keeps_at closed t.now base n))) × (result ≤ n) }
 {
-    let mut flags = [0u8; 512];
-    blanked_by(t, base, &mut flags[0..n], closed)
-}
-
-fn moved_by(t: &[u8], base: usize, flags: &mut [u8], closed: u64) -> usize
-    requires { base + slot_size * length flags.old ≤ length t.now }
-    ensures { result ≡ moved (keeps_at closed t.now base (length flags.old)) }
-{
+    let mut room = [0u8; 512];
+    let flags = &mut room[..n];
     keeping::flags_of(t, base, flags, closed);
-    keeping::count_moved(flags)
+    keeping::count_blanked(t, base, flags)
 }
 
 // How many records are moved.
@@ -40,19 +24,10 @@ pub fn moved_in(t: &[u8], base: usize, n: usize, closed: u64) -> usize
     requires { (base + slot_size * n ≤ length t.now) × (n ≤ max_slots) }
     ensures { result ≡ moved (keeps_at closed t.now base n) }
 {
-    let mut flags = [0u8; 512];
-    moved_by(t, base, &mut flags[0..n], closed)
-}
-
-fn places_by(r: &mut [u8], to: usize, t: &[u8], base: usize, flags: &mut [u8], closed: u64) -> usize
-    requires { (base + slot_size * length flags.old ≤ length t.now)
-        × (to + 4 * length (blanked_from t.now base (keeps_at closed t.now base (length flags.old))) ≤ length r.old) }
-    ensures { (result ≡ to + 4 * length (blanked_from t.now base (keeps_at closed t.now base (length flags.old))))
-        × (r.new ≡ put r.old to (each_bytes bytes4 (blanked_from t.now base (keeps_at closed t.now base (length
-        flags.old))))) }
-{
+    let mut room = [0u8; 512];
+    let flags = &mut room[..n];
     keeping::flags_of(t, base, flags, closed);
-    keeping::put_places(r, to, t, base, flags)
+    keeping::count_moved(flags)
 }
 
 // Writes the places blanked; where the last of them ends.
@@ -62,16 +37,10 @@ pub fn places_in(r: &mut [u8], to: usize, t: &[u8], base: usize, n: usize, close
     ensures { (result ≡ to + 4 * length (blanked_from t.now base (keeps_at closed t.now base n)))
         × (r.new ≡ put r.old to (each_bytes bytes4 (blanked_from t.now base (keeps_at closed t.now base n)))) }
 {
-    let mut flags = [0u8; 512];
-    places_by(r, to, t, base, &mut flags[0..n], closed)
-}
-
-fn repair_by(t: &mut [u8], base: usize, flags: &mut [u8], closed: u64)
-    requires { base + slot_size * length flags.old ≤ length t.old }
-    ensures { t.new ≡ packed t.old base (keeps_at closed t.old base (length flags.old)) }
-{
+    let mut room = [0u8; 512];
+    let flags = &mut room[..n];
     keeping::flags_of(t, base, flags, closed);
-    packing::pack(t, base, flags);
+    keeping::put_places(r, to, t, base, flags)
 }
 
 // Moves the kept records up, and blanks what follows them.
@@ -79,6 +48,8 @@ pub fn repair_in(t: &mut [u8], base: usize, n: usize, closed: u64)
     requires { (base + slot_size * n ≤ length t.old) × (n ≤ max_slots) }
     ensures { t.new ≡ packed t.old base (keeps_at closed t.old base n) }
 {
-    let mut flags = [0u8; 512];
-    repair_by(t, base, &mut flags[0..n], closed);
+    let mut room = [0u8; 512];
+    let flags = &mut room[..n];
+    keeping::flags_of(t, base, flags, closed);
+    packing::pack(t, base, flags);
 }

@@ -1,4 +1,5 @@
 -- A message's values, and whether its fields agree, do not look at places.
+use Rattle.std.specs.Prelude.{Option, Some, None}
 use mathlib.Core.Path.{◌≡◌, refl, sym, ap, ◌∙◌}
 use mathlib.Core.List.{List, [], ◌∷◌}
 use mathlib.Core.Bool.{Bool, true, false, cond, ◌&&◌, ◌||◌}
@@ -9,7 +10,7 @@ use lib.ListN.{length}
 use Rattle.scan.specs.Bytes.{bytes, text_is}
 use Rattle.scan.proofs.Laws.{both}
 use Rattle.codes.specs.declared.Esito.{Esito}
-use Rattle.codes.specs.declared.Esito.TheVariants.{Accepted, Refused, NoEsito}
+use Rattle.codes.specs.declared.Esito.TheVariants.{Accepted, Refused}
 use Rattle.codes.specs.Codes.{esito_operazione}
 use Rattle.digits.specs.Digits.{codice_errore}
 use Rattle.orders.specs.Orders.{value_of}
@@ -114,12 +115,12 @@ message_placed q ts =
 abbrev pub error_ok : Words → Trees → Bool
 error_ok w ts = text_is (text_named "codice_errore" ts) (text_named "descrizione" ts) && text_is (bytes (element_name w (value_of (codice_errore (text_named "codice_errore" ts))))) (text_named "elemento" ts)
 
-abbrev pub agrees : Esito → List Bool → Bool
-agrees (Refused o) [] = false
-agrees (Refused o) (b ∷ l) = b
-agrees (Accepted o) [] = true
-agrees (Accepted o) (b ∷ l) = false
-agrees NoEsito l = false
+abbrev pub agrees : Option Esito → List Bool → Bool
+agrees (Some (Refused o)) [] = false
+agrees (Some (Refused o)) (b ∷ l) = b
+agrees (Some (Accepted o)) [] = true
+agrees (Some (Accepted o)) (b ∷ l) = false
+agrees None l = false
 
 abbrev pub entry_ok : Words → Trees → Bool
 entry_ok w ts = agrees (esito_operazione (text_named "esito_operazione" ts)) (each_of (error_ok w) (children_named ("lista_errori" ∷ []) ts))
@@ -134,17 +135,17 @@ error_ok_placed w q ts = rw (named_placed "codice_errore" q ts, named_placed "de
 pub entry_ok_placed : (w : Words) (q : ℕ) (ts : Trees) → entry_ok w (placed_all q ts) ≡ entry_ok w ts
 entry_ok_placed w q ts = rw (named_placed "esito_operazione" q ts, each_placed (error_ok w) (error_ok_placed w) "lista_errori" q ts)
 
-off_by : (w : Words) (k : ℕ) (s : Esito) (l : List Tree) (rest : Bad) → agrees s (each_of (error_ok w) l) ≡ true → first_off (record { lt = k; ok = word_agrees s l } ∷ errors_agree w l) rest ≡ rest
+off_by : (w : Words) (k : ℕ) (s : Option Esito) (l : List Tree) (rest : Bad) → agrees s (each_of (error_ok w) l) ≡ true → first_off (record { lt = k; ok = word_agrees s l } ∷ errors_agree w l) rest ≡ rest
 unfolding each_of
-off_by w k (Refused o) [] rest e = no e
-off_by w k (Refused o) (t ∷ l) rest e =
+off_by w k (Some (Refused o)) [] rest e = no e
+off_by w k (Some (Refused o)) (t ∷ l) rest e =
     let ts = kids_in (held_of t) in
     let b = both (text_is (text_named "codice_errore" ts) (text_named "descrizione" ts)) (text_is (bytes (element_name w (value_of (codice_errore (text_named "codice_errore" ts))))) (text_named "elemento" ts)) e in
     rw (b.0, b.1)
-off_by w k (Accepted o) [] rest e = refl
-off_by w k (Accepted o) (t ∷ l) rest e = no e
-off_by w k NoEsito [] rest e = no e
-off_by w k NoEsito (t ∷ l) rest e = no e
+off_by w k (Some (Accepted o)) [] rest e = refl
+off_by w k (Some (Accepted o)) (t ∷ l) rest e = no e
+off_by w k None [] rest e = no e
+off_by w k None (t ∷ l) rest e = no e
 
 pub entries_off_lem : (w : Words) (l : List Tree) (rest : Bad) → all_ok (each_of (entry_ok w) l) ≡ true → entries_off w l rest ≡ rest
 unfolding entries_off all_ok each_of
@@ -158,10 +159,10 @@ entries_off_lem w (t ∷ l) rest e =
 placed_no : {p : ℕ} {c : Cause} {A : Type 0} → Place p c ≡ Nowhere → A
 placed_no e = let z : ◌≡◌ {A = ℕ} 0 1 = cc in absurd (omega arith)
 
-off_agrees : (w : Words) (k : ℕ) (s : Esito) (l : List Tree) (rest : Bad) → first_off (record { lt = k; ok = word_agrees s l } ∷ errors_agree w l) rest ≡ Nowhere → (agrees s (each_of (error_ok w) l) ≡ true) × (rest ≡ Nowhere)
+off_agrees : (w : Words) (k : ℕ) (s : Option Esito) (l : List Tree) (rest : Bad) → first_off (record { lt = k; ok = word_agrees s l } ∷ errors_agree w l) rest ≡ Nowhere → (agrees s (each_of (error_ok w) l) ≡ true) × (rest ≡ Nowhere)
 unfolding each_of
-off_agrees w k (Refused o) [] rest e = placed_no e
-off_agrees w k (Refused o) (t ∷ l) rest e =
+off_agrees w k (Some (Refused o)) [] rest e = placed_no e
+off_agrees w k (Some (Refused o)) (t ∷ l) rest e =
     let ts = kids_in (held_of t) in
     go (text_is (text_named "codice_errore" ts) (text_named "descrizione" ts)) (text_is (bytes (element_name w (value_of (codice_errore (text_named "codice_errore" ts))))) (text_named "elemento" ts)) e
   where
@@ -169,10 +170,10 @@ off_agrees w k (Refused o) (t ∷ l) rest e =
     go true true h = (refl, h)
     go true false h = placed_no h
     go false b h = placed_no h
-off_agrees w k (Accepted o) [] rest e = (refl, e)
-off_agrees w k (Accepted o) (t ∷ l) rest e = placed_no e
-off_agrees w k NoEsito [] rest e = placed_no e
-off_agrees w k NoEsito (t ∷ l) rest e = placed_no e
+off_agrees w k (Some (Accepted o)) [] rest e = (refl, e)
+off_agrees w k (Some (Accepted o)) (t ∷ l) rest e = placed_no e
+off_agrees w k None [] rest e = placed_no e
+off_agrees w k None (t ∷ l) rest e = placed_no e
 
 pub entries_agree : (w : Words) (l : List Tree) (rest : Bad) → entries_off w l rest ≡ Nowhere → (all_ok (each_of (entry_ok w) l) ≡ true) × (rest ≡ Nowhere)
 unfolding entries_off all_ok each_of

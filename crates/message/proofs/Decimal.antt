@@ -1,4 +1,5 @@
 -- Numbers written out read back as themselves, and are plain text.
+use Rattle.std.specs.Prelude.{Option, Some, None}
 use mathlib.Core.Path.{◌≡◌, refl, sym, ap, ◌∙◌}
 use mathlib.Core.List.{List, [], ◌∷◌, ◌++◌}
 use mathlib.Core.Bool.{Bool, true, false, cond, not, ◌&&◌, ◌||◌, and-false}
@@ -15,12 +16,9 @@ use Rattle.calendar.specs.declared.Date.{Date}
 use Rattle.calendar.specs.Calendar.{leap, month_length, is_date}
 use Rattle.tokens.specs.Tokens.{is_plain}
 use Rattle.grammar.specs.Grammar.{Text}
-use Rattle.digits.specs.declared.Number.{Number}
-use Rattle.digits.specs.declared.Number.TheVariants.{Value, NoNumber}
 use Rattle.digits.specs.Digits.{within, digits_after, digits, esercizio, numero, importo, codice_errore, is_refusal}
 use Rattle.digits.specs.Inner.{zero_first}
 use Rattle.digits.proofs.Laws.{p10, whole, cents, digits_within, importo_cents, refusal_in}
-use Rattle.dates.specs.declared.Day.TheVariants.{On, NoDay}
 use Rattle.dates.specs.Dates.{data_of, real}
 use Rattle.dates.proofs.Laws.{data_day}
 use Rattle.tree.proofs.Laid.{plain, plain_text}
@@ -31,21 +29,21 @@ digit_is : (n : ℕ) → is_digit (digit n) ≡ true
 unfolding is_digit
 digit_is n = rw (le-leb 48 (digit n) (omega arith), le-leb (digit n) 57 (omega arith))
 
-never : {n : ℕ} {A : Type 0} → NoNumber ≡ Value n → A
+never : {n : ℕ} {A : Type 0} → ◌≡◌ {A = Option ℕ} (None) (Some n) → A
 never e = let z : ◌≡◌ {A = ℕ} 0 1 = cc in absurd (omega arith)
 
 -- one more digit
-after_one : (t : List ℕ) (v m d : ℕ) → digits_after v t ≡ Value m → digits_after v (t ++ (digit d ∷ [])) ≡ Value (m * 10 + d % 10)
+after_one : (t : List ℕ) (v m d : ℕ) → digits_after v t ≡ Some m → digits_after v (t ++ (digit d ∷ [])) ≡ Some (m * 10 + d % 10)
 unfolding digits_after
 after_one [] v m d e = let z : v ≡ m = cc in let y : v * 10 + (digit d - 48) ≡ m * 10 + d % 10 = omega arith in rw (digit_is d, y)
 after_one (b ∷ t) v m d e = go (is_digit b) e (after_one t (v * 10 + (b - 48)) m d)
   where
-    go : (k : Bool) → cond k (digits_after (v * 10 + (b - 48)) t) NoNumber ≡ Value m → (digits_after (v * 10 + (b - 48)) t ≡ Value m → digits_after (v * 10 + (b - 48)) (t ++ (digit d ∷ [])) ≡ Value (m * 10 + d % 10))
-        → cond k (digits_after (v * 10 + (b - 48)) (t ++ (digit d ∷ []))) NoNumber ≡ Value (m * 10 + d % 10)
+    go : (k : Bool) → cond k (digits_after (v * 10 + (b - 48)) t) None ≡ Some m → (digits_after (v * 10 + (b - 48)) t ≡ Some m → digits_after (v * 10 + (b - 48)) (t ++ (digit d ∷ [])) ≡ Some (m * 10 + d % 10))
+        → cond k (digits_after (v * 10 + (b - 48)) (t ++ (digit d ∷ []))) None ≡ Some (m * 10 + d % 10)
     go true f ih = ih f
     go false f ih = never f
 
-one_digit : (n : ℕ) → n ≤ 9 → digits_after 0 (digit n ∷ []) ≡ Value n
+one_digit : (n : ℕ) → n ≤ 9 → digits_after 0 (digit n ∷ []) ≡ Some n
 unfolding digits_after
 one_digit n h = let y : 0 * 10 + (digit n - 48) ≡ n = omega arith in rw (digit_is n, y)
 
@@ -54,26 +52,26 @@ pub fixed_length : (w n : ℕ) → length (fixed w n) ≡ w
 fixed_length zero n = refl
 fixed_length (suc w) n = length-append (fixed w (n / 10)) (digit n ∷ []) ∙ (let i = fixed_length w (n / 10) in omega arith)
 
-fixed_value : (w n : ℕ) → n < p10 w → digits_after 0 (fixed w n) ≡ Value n
+fixed_value : (w n : ℕ) → n < p10 w → digits_after 0 (fixed w n) ≡ Some n
 unfolding digits_after p10
-fixed_value zero n h = let z : 0 ≡ n = omega arith in ap Value z
+fixed_value zero n h = let z : 0 ≡ n = omega arith in ap Some z
 fixed_value (suc w) n h =
     let i = after_one (fixed w (n / 10)) 0 (n / 10) n (fixed_value w (n / 10) (omega arith)) in
     let z : n / 10 * 10 + n % 10 ≡ n = omega arith in
-    i ∙ ap Value z
+    i ∙ ap Some z
 
-pub fixed_digits : (w n : ℕ) → n < p10 w → digits w w (fixed w n) ≡ Value n
+pub fixed_digits : (w n : ℕ) → n < p10 w → digits w w (fixed w n) ≡ Some n
 fixed_digits w n h = let l = fixed_length w n in digits_within w w (fixed w n) (omega arith) (omega arith) ∙ fixed_value w n h
 
 -- WITHOUT LEADING ZEROS
-decimal_value : (w n : ℕ) → n < p10 (suc w) → digits_after 0 (decimal_by w n) ≡ Value n
+decimal_value : (w n : ℕ) → n < p10 (suc w) → digits_after 0 (decimal_by w n) ≡ Some n
 unfolding decimal_by p10
 decimal_value zero n h = one_digit n (omega arith)
 decimal_value (suc w) n h = go (leb n 9) refl (decimal_value w (n / 10) (omega arith))
   where
-    go : (b : Bool) → leb n 9 ≡ b → digits_after 0 (decimal_by w (n / 10)) ≡ Value (n / 10) → digits_after 0 (cond b (digit n ∷ []) (decimal_by w (n / 10) ++ (digit n ∷ []))) ≡ Value n
+    go : (b : Bool) → leb n 9 ≡ b → digits_after 0 (decimal_by w (n / 10)) ≡ Some (n / 10) → digits_after 0 (cond b (digit n ∷ []) (decimal_by w (n / 10) ++ (digit n ∷ []))) ≡ Some n
     go true e i = one_digit n (leb-true n 9 e)
-    go false e i = let z : n / 10 * 10 + n % 10 ≡ n = omega arith in after_one (decimal_by w (n / 10)) 0 (n / 10) n i ∙ ap Value z
+    go false e i = let z : n / 10 * 10 + n % 10 ≡ n = omega arith in after_one (decimal_by w (n / 10)) 0 (n / 10) n i ∙ ap Some z
 
 pub decimal_length : (w k n : ℕ) → n < p10 (suc k) → (1 ≤ length (decimal_by w n)) × (length (decimal_by w n) ≤ suc k)
 unfolding decimal_by p10
@@ -125,10 +123,10 @@ p10_2 : p10 2 ≡ 100
 unfolding p10
 p10_2 = refl
 
-within_is : (f : ℕ → Bool) (n : ℕ) (x : Number) → x ≡ Value n → f n ≡ true → within f x ≡ Value n
+within_is : (f : ℕ → Bool) (n : ℕ) (x : Option ℕ) → x ≡ Some n → f n ≡ true → within f x ≡ Some n
 within_is f n x e h = rw (e, h)
 
-pub numero_decimal : (n : ℕ) → is_numero n ≡ true → numero (decimal n) ≡ Value n
+pub numero_decimal : (n : ℕ) → is_numero n ≡ true → numero (decimal n) ≡ Some n
 unfolding numero decimal
 numero_decimal n h =
     let r = in_range 1 9999999 n h in
@@ -140,11 +138,11 @@ numero_decimal n h =
     let b = k.1 in
     within_is is_numero n (digits 1 7 (decimal_by 8 n)) (digits_within 1 7 (decimal_by 8 n) a b ∙ decimal_value 8 n (omega arith)) h
 
-pub esercizio_fixed : (n : ℕ) → is_year n ≡ true → esercizio (fixed 4 n) ≡ Value n
+pub esercizio_fixed : (n : ℕ) → is_year n ≡ true → esercizio (fixed 4 n) ≡ Some n
 unfolding esercizio
 esercizio_fixed n h = let r = in_range 2000 2099 n h in let u = r.1 in let p = p10_4 in within_is is_year n (digits 4 4 (fixed 4 n)) (fixed_digits 4 n (omega arith)) h
 
-pub code_fixed : (n : ℕ) → is_refusal n ≡ true → codice_errore (fixed 2 n) ≡ Value n
+pub code_fixed : (n : ℕ) → is_refusal n ≡ true → codice_errore (fixed 2 n) ≡ Some n
 unfolding codice_errore
 code_fixed n h = let r = refusal_in n h in let u = r.1 in let p = p10_2 in within_is is_refusal n (digits 2 2 (fixed 2 n)) (fixed_digits 2 n (omega arith)) h
 
@@ -169,7 +167,7 @@ no_zero n h = go (leb (n / 100) 9) refl
         let g = ne_eqb (get_or w 0 0) 48 (decimal_front 8 (n / 100) (omega arith) (omega arith)) in
         rw (f, g)
 
-pub importo_amount : (n : ℕ) → n ≤ max_cents → importo (amount n) ≡ Value n
+pub importo_amount : (n : ℕ) → n ≤ max_cents → importo (amount n) ≡ Some n
 unfolding amount decimal
 importo_amount n h =
     let w = decimal_by 8 (n / 100) in
@@ -188,10 +186,10 @@ importo_amount n h =
     let i : length (w ++ bytes ".") ≡ length t - 2 = omega arith in
     let d : drop (length t - 2) t ≡ c = ap (drop (length t - 2)) (sym f) ∙ drop_at (w ++ bytes ".") c (length t - 2) i in
     let e : part t (length t - 2) (length t) ≡ c = let i : length t - (length t - 2) ≡ 2 = omega arith in rw (d, i) in
-    let u : whole t ≡ Value (n / 100) = rw y (digits_within 1 9 w a b ∙ decimal_value 8 (n / 100) (omega arith)) in
-    let v : cents t ≡ Value (n % 100) = rw e (fixed_digits 2 (n % 100) (omega arith)) in
+    let u : whole t ≡ Some (n / 100) = rw y (digits_within 1 9 w a b ∙ decimal_value 8 (n / 100) (omega arith)) in
+    let v : cents t ≡ Some (n % 100) = rw e (fixed_digits 2 (n % 100) (omega arith)) in
     let z : n / 100 * 100 + n % 100 ≡ n = omega arith in
-    importo_cents t (omega arith) (omega arith) x (no_zero n h) u v ∙ ap Value z
+    importo_cents t (omega arith) (omega arith) x (no_zero n h) u v ∙ ap Some z
   where
     append_dot : (w c : List ℕ) → (w ++ bytes ".") ++ c ≡ w ++ (bytes "." ++ c)
     append_dot [] c = refl
@@ -224,7 +222,7 @@ ranged d e =
     let k = month_most d.year d.month in
     record { year = y; month = m; day = omega arith }
 
-pub data_dated : (d : Date) → is_date d ≡ true → data_of (dated d) ≡ On d
+pub data_dated : (d : Date) → is_date d ≡ true → data_of (dated d) ≡ Some d
 unfolding dated data_of
 data_dated d e =
     let r = ranged d e in

@@ -1,4 +1,5 @@
 -- What a flow, its outcome bytes and a caller's values of the right form give may be written, and is read back.
+use Rattle.std.specs.Prelude.{Ok}
 use mathlib.Core.Path.{◌≡◌, refl, sym, ap, subst, ◌∙◌}
 use mathlib.Core.List.{List, [], ◌∷◌}
 use mathlib.Core.Bool.{Bool, true, false, cond, ◌&&◌}
@@ -28,7 +29,7 @@ use Rattle.orders.specs.Orders.{those, in_row, inside, text_in}
 use Rattle.editions.specs.declared.Edition.{Edition}
 use Rattle.editions.specs.declared.Edition.TheVariants.{Oil, Opi}
 use Rattle.header.specs.Header.{Header, root_of, inside_next, testata_of}
-use Rattle.flow.specs.declared.Verdict.TheVariants as verdict
+use Rattle.flow.specs.declared.Breakage.TheVariants as verdict
 use Rattle.flow.specs.Flow.{flow_kind, verdict_of, header_of, flow_orders}
 use Rattle.flow.proofs.Laws.{flow_stood}
 use Rattle.flow.proofs.Values.{OrderOk, orders_ok, header_ok}
@@ -141,7 +142,7 @@ module _ (s : List ℕ) where
       (row_name 11 FlussoOpi s i 0 "testata_flusso" (Rows TestataFlusso) (has_names FlussoOpi 0 (once ("testata_flusso" is Rows TestataFlusso)) (_, refl)))
       (row_fits 11 FlussoOpi s i 0 (kept_fits (fits_tree 3)) a)
 
-module _ (e : Edition) (s : List ℕ) (t : Tree) (at : ℕ) (d : ReadsAs (flow_kind e).ids s t) (v : verdict_of e s ≡ verdict.Stands at) where
+module _ (e : Edition) (s : List ℕ) (t : Tree) (at : ℕ) (d : ReadsAs (flow_kind e).ids s t) (v : verdict_of e s ≡ Ok at) where
   flow_sound : Sound 11 4 (root_of e) (kids_in (held_of t))
   flow_sound =
       let w = flow_stands e s t at d v in
@@ -188,7 +189,7 @@ module _ (e : Edition) (s : List ℕ) (t : Tree) (at : ℕ) (d : ReadsAs (flow_k
         count = rw l (ranged 1 64 (length qs) h.1.0 h.1.1);
       }
 
-pub written_ok : (e : Edition) (s : List ℕ) (at : ℕ) → verdict_of e s ≡ verdict.Stands at → (o : List ℕ) (c : Caller) → outcomes_fit (flow_orders e s at) o ≡ true → CallerOk c → MessageOk (flow_message e s at o c)
+pub written_ok : (e : Edition) (s : List ℕ) (at : ℕ) → verdict_of e s ≡ Ok at → (o : List ℕ) (c : Caller) → outcomes_fit (flow_orders e s at) o ≡ true → CallerOk c → MessageOk (flow_message e s at o c)
 written_ok e s at v o c x k = go (document_answered (flow_kind e) (root_fixed e) s)
   where
     go : DocumentAnswered (flow_kind e) s → MessageOk (flow_message e s at o c)
@@ -196,6 +197,6 @@ written_ok e s at v o c x k = go (document_answered (flow_kind e) (root_fixed e)
     go (one_tree {t = t} n) = tree_ok e s t at n.derived v o c x k
 
 -- read in either edition
-pub from_read : (e y : Edition) (s : List ℕ) (at : ℕ) → verdict_of e s ≡ verdict.Stands at → (o : List ℕ) (c : Caller) → outcomes_fit (flow_orders e s at) o ≡ true → CallerOk c
+pub from_read : (e y : Edition) (s : List ℕ) (at : ℕ) → verdict_of e s ≡ Ok at → (o : List ℕ) (c : Caller) → outcomes_fit (flow_orders e s at) o ≡ true → CallerOk c
     → MessageOf y (message_bytes (flow_message e s at o c)) (read (flow_message e s at o c))
 from_read e y s at v o c x k = read_written y (flow_message e s at o c) (written_ok e s at v o c x k)

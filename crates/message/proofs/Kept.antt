@@ -1,4 +1,5 @@
 -- What the structure and the fields say of the children of a name: the other way round than Laid (crates/tree).
+use Rattle.std.specs.Prelude.{Some}
 use mathlib.Core.Path.{◌≡◌, refl, sym, ap, ◌∙◌, subst}
 use mathlib.Core.Logic.{◌⊎◌, inl, inr}
 use mathlib.Core.List.{List, [], ◌∷◌}
@@ -19,7 +20,6 @@ use Rattle.tree.specs.Structure.{replaces_in, rows_in}
 use Rattle.tree.proofs.ByName.{Fixed}
 use Rattle.schema.specs.declared.Holds.{Holds}
 use Rattle.schema.specs.declared.Holds.TheVariants.{Text as TextOf, Rows}
-use Rattle.schema.specs.declared.Spot.TheVariants as spot
 use Rattle.schema.specs.Table.{◌is◌, table, many}
 use Rattle.tree.specs.Tree.{Tree, tree, Trees, name_of, held_of, kids_in}
 use Rattle.tree.specs.Orders.{children_named, held_text, first_text, text_named}
@@ -37,7 +37,7 @@ no e = let z : ◌≡◌ {A = ℕ} 0 1 = cc in absurd (omega arith)
 -- row n of the table of p has the one name x
 pub record RowAt (p : Parent) (n lo hi : ℕ) (x : String) (g : Holds) : Type 0 where
   pub row : HasRow p n (many lo hi ((x is g) ∷ []))
-  pub spot : spot_named (table p) 0 (bytes x) ≡ spot.At n g
+  pub spot : spot_named (table p) 0 (bytes x) ≡ Some (n, g)
 
 -- GOOD: the children of every name are
 abbrev pub Goods : ℕ → Trees → Type 0

@@ -16,7 +16,6 @@ use Rattle.codes.specs.declared.Operation.{Operation}
 use Rattle.codes.specs.declared.Operation.TheVariants.{Inserimento, Variazione, Annullo, Sostituzione}
 use Rattle.codes.specs.Codes.{codice_abi, identificativo, codice_ente, length_in}
 use Rattle.codes.proofs.Laws.{abi_length, ente_length}
-use Rattle.digits.specs.declared.Number.TheVariants.{Value}
 use Rattle.digits.specs.Digits.{digits}
 use Rattle.dates.specs.Dates.{data_ora_zona_written, data_ora_zona_within, data_ora_zona}
 use Rattle.dates.proofs.Laws.{zona_both, ora_zona_long}

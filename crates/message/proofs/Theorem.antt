@@ -1,4 +1,5 @@
 -- REQ 01: "MessageReading what was written gives the same values, and whatever is read and written again has the same meaning."
+use Rattle.std.specs.Prelude.{Option, Result, Some, None, Ok, Err}
 use mathlib.Core.Path.{◌≡◌, refl, sym, ap, ◌∙◌}
 use mathlib.Core.List.{List, [], ◌∷◌}
 use mathlib.Core.Bool.{Bool, true, false, cond, ◌&&◌}
@@ -9,13 +10,11 @@ use lib.Dec.{eqb, leb}
 use borrow.Author.Tests.{leb-true, leb-false}
 use Rattle.scan.specs.Bytes.{bytes, starts_with, has_at, text_is}
 use Rattle.scan.proofs.Laws.{both}
-use Rattle.markup.specs.declared.Markup.{Markup}
-use Rattle.markup.specs.declared.Markup.TheVariants.{Root, Breaks}
 use Rattle.markup.specs.Markup.{markup_of}
 use Rattle.grammar.specs.Grammar.{start_tag}
 use Rattle.grammar.proofs.Complete.{flow_complete}
 use Rattle.codes.specs.declared.Esito.{Esito}
-use Rattle.codes.specs.declared.Esito.TheVariants.{Accepted, Refused, NoEsito}
+use Rattle.codes.specs.declared.Esito.TheVariants.{Accepted, Refused}
 use Rattle.codes.specs.Codes.{esito_operazione}
 use Rattle.digits.specs.Digits.{codice_errore}
 use Rattle.orders.specs.Orders.{value_of}
@@ -102,10 +101,10 @@ standing t m e =
 pub reading_some : (x : Edition) (s : List ℕ) → (r : MessageReading) × MessageOf x s r
 reading_some x s = go (leb (length s) 65536) refl (markup_of (id_allowed x) s) refl
   where
-    go : (b : Bool) → leb (length s) 65536 ≡ b → (w : Markup) → markup_of (id_allowed x) s ≡ w → (r : MessageReading) × MessageOf x s r
+    go : (b : Bool) → leb (length s) 65536 ≡ b → (w : Result (ℕ × ℕ × ℕ) ℕ) → markup_of (id_allowed x) s ≡ w → (r : MessageReading) × MessageOf x s r
     go false l w e = (refused 2 0 0, too_long (let h = leb-false (length s) 65536 l in omega arith))
-    go true l (Root lt e at) h = let t = reads_some s lt e at h in (reading_on t.0, on_tree (leb-true (length s) 65536 l) t.1 refl)
-    go true l (Breaks p) h = (refused 3 0 0, no_tree (leb-true (length s) 65536 l) (λ t d. let m = flow_complete s d.0 in let y : ◌≡◌ {A = ℕ} 0 1 = cc in omega arith))
+    go true l (Ok (lt, e, at)) h = let t = reads_some s lt e at h in (reading_on t.0, on_tree (leb-true (length s) 65536 l) t.1 refl)
+    go true l (Err p) h = (refused 3 0 0, no_tree (leb-true (length s) 65536 l) (λ t d. let m = flow_complete s d.0 in let y : ◌≡◌ {A = ℕ} 0 1 = cc in omega arith))
 
 pub reading_one : {x : Edition} (s : List ℕ) (r q : MessageReading) → MessageOf x s r → MessageOf x s q → r ≡ q
 reading_one s r q (too_long l) (too_long k) = refl
@@ -175,16 +174,16 @@ pub same_meaning : (x y : Edition) (s : List ℕ) (m : Message) → MessageOf x 
 same_meaning x y s m r = read_written y m (read_ok s m r)
 
 -- AND THE WORDS ARE KEPT
-said_by : (w : Words) {p q : Parent} → Spelt p q w → {e : ℕ} (s : Esito) (l : List Tree) → Every (λ (t : Tree). Sound (suc e) 1 q (kids_in (held_of t))) l → agrees s (each_of (error_ok w) l) ≡ true
-    → s ≡ cond (is_accepted (code_in l)) (Accepted (operation_in s)) (Refused (operation_in s))
+said_by : (w : Words) {p q : Parent} → Spelt p q w → {e : ℕ} (s : Option Esito) (l : List Tree) → Every (λ (t : Tree). Sound (suc e) 1 q (kids_in (held_of t))) l → agrees s (each_of (error_ok w) l) ≡ true
+    → s ≡ cond (is_accepted (code_in l)) (Some (Accepted (operation_in s))) (Some (Refused (operation_in s)))
 unfolding each_of
-said_by w sp (Accepted o) [] k a = refl
-said_by w sp (Accepted o) (t ∷ l) k a = no a
-said_by w sp (Refused o) [] k a = no a
-said_by w sp (Refused o) (t ∷ l) (every_next c k) a =
+said_by w sp (Some (Accepted o)) [] k a = refl
+said_by w sp (Some (Accepted o)) (t ∷ l) k a = no a
+said_by w sp (Some (Refused o)) [] k a = no a
+said_by w sp (Some (Refused o)) (t ∷ l) (every_next c k) a =
     let x = text_named "codice_errore" (kids_in (held_of t)) in
     rw (not_zero (value_of (codice_errore x)) (code_ok x (text_there c sp.code refl)))
-said_by w sp NoEsito l k a = no a
+said_by w sp None l k a = no a
 
 each_said : (w : Words) {p q : Parent} → Spelt p q w → {e : ℕ} (l : List Tree) → Every (λ (t : Tree). Sound (suc (suc e)) 2 p (kids_in (held_of t))) l → all_ok (each_of (entry_ok w) l) ≡ true → Every (WordSaid w) l
 unfolding each_of all_ok

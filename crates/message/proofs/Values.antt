@@ -1,4 +1,5 @@
 -- What is read may be written: the values of a message that stands are in order.
+use Rattle.std.specs.Prelude.{Option, Some, None}
 use mathlib.Core.Path.{◌≡◌, refl, sym, ap, ◌∙◌}
 use mathlib.Core.List.{List, [], ◌∷◌}
 use mathlib.Core.Bool.{Bool, true, false, cond, ◌||◌}
@@ -10,8 +11,6 @@ use borrow.Author.Tests.{le-leb, ne_eqb}
 use Rattle.scan.specs.Bytes.{bytes, between, starts_with, has_at, text_is}
 use Rattle.bounds.specs.Bounds.{is_year, is_numero, max_cents}
 use Rattle.calendar.specs.Calendar.{is_date}
-use Rattle.digits.specs.declared.Number.{Number}
-use Rattle.digits.specs.declared.Number.TheVariants.{Value, NoNumber}
 use Rattle.digits.specs.Digits.{within, digits, esercizio, numero, importo, codice_errore, is_refusal}
 use Rattle.digits.proofs.Laws.{importo_range, refusal_in}
 use Rattle.dates.specs.Dates.{data_of}
@@ -92,13 +91,13 @@ spelt_mandato = record {
 
 -- VALUES of fields that stand
 -- a number of which f holds
-within_there : (f : ℕ → Bool) (x : Number) (n : ℕ) → within f x ≡ Value n → f n ≡ true
-within_there f (Value v) n e = go (f v) refl e
+within_there : (f : ℕ → Bool) (x : Option ℕ) (n : ℕ) → within f x ≡ Some n → f n ≡ true
+within_there f (Some v) n e = go (f v) refl e
   where
-    go : (b : Bool) → f v ≡ b → cond b (Value v) NoNumber ≡ Value n → f n ≡ true
+    go : (b : Bool) → f v ≡ b → cond b (Some v) None ≡ Some n → f n ≡ true
     go true z h = let y : v ≡ n = cc in rw y at z
     go false z h = let y : ◌≡◌ {A = ℕ} 0 1 = cc in absurd (omega arith)
-within_there f NoNumber n e = let y : ◌≡◌ {A = ℕ} 0 1 = cc in absurd (omega arith)
+within_there f None n e = let y : ◌≡◌ {A = ℕ} 0 1 = cc in absurd (omega arith)
 
 year_ok : (t : List ℕ) → TextOk Esercizio t → is_year (value_of (esercizio t)) ≡ true
 unfolding field_stands esercizio

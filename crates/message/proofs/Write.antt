@@ -1,4 +1,5 @@
 -- What may be written has the structure, its fields stand and agree, and it says its own values.
+use Rattle.std.specs.Prelude.{Some}
 use mathlib.Core.Path.{◌≡◌, refl, sym, ap, ◌∙◌}
 use mathlib.Core.Logic.{◌⊎◌, inl, inr}
 use mathlib.Core.List.{List, [], ◌∷◌}
@@ -17,7 +18,7 @@ use Rattle.grammar.specs.Grammar.{Name, name}
 use Rattle.codes.specs.declared.Operation.{Operation}
 use Rattle.codes.specs.declared.Operation.TheVariants.{Inserimento, Variazione, Annullo, Sostituzione}
 use Rattle.codes.specs.declared.Esito.{Esito}
-use Rattle.codes.specs.declared.Esito.TheVariants.{Accepted, Refused, NoEsito}
+use Rattle.codes.specs.declared.Esito.TheVariants.{Accepted, Refused}
 use Rattle.codes.specs.Codes.{accepted_word, refused_word, esito_operazione, length_in}
 use Rattle.digits.specs.Digits.{digits, esercizio, numero, importo, codice_errore, is_refusal}
 use Rattle.dates.specs.Dates.{data_of}
@@ -29,7 +30,6 @@ use Rattle.fields.specs.Fields.{field_stands}
 use Rattle.orders.specs.Orders.{value_of, date_of}
 use Rattle.schema.specs.declared.Parent.{Parent}
 use Rattle.schema.specs.declared.Parent.TheVariants.{MessaggiEsito, TestataMessaggio, EsitoReversali, EsitoMandati, ErroriReversali, ErroriMandati}
-use Rattle.schema.specs.declared.Spot.TheVariants as spot
 use Rattle.schema.specs.declared.Holds.TheVariants.{Text as TextOf, Rows}
 use Rattle.schema.specs.Table.{Named, ◌is◌, Row, once, optional, table, entry_rows, error_rows}
 use Rattle.tree.specs.Tree.{Tree, Trees, none, more}
@@ -86,14 +86,14 @@ unfolding field_stands length_in
 again_form n = refl
 
 -- the eight words
-pub accepted_read : (o : Operation) → esito_operazione (bytes (accepted_as o)) ≡ Accepted o
+pub accepted_read : (o : Operation) → esito_operazione (bytes (accepted_as o)) ≡ Some (Accepted o)
 unfolding esito_operazione accepted_word refused_word text_is has_at starts_with
 accepted_read Inserimento = refl
 accepted_read Variazione = refl
 accepted_read Annullo = refl
 accepted_read Sostituzione = refl
 
-pub refused_read : (o : Operation) → esito_operazione (bytes (refused_as o)) ≡ Refused o
+pub refused_read : (o : Operation) → esito_operazione (bytes (refused_as o)) ≡ Some (Refused o)
 unfolding esito_operazione accepted_word refused_word text_is has_at starts_with
 refused_read Inserimento = refl
 refused_read Variazione = refl
@@ -316,7 +316,7 @@ module _ {p q : Parent} {w : Words} (sp : Spelt p q w) (nm : Names w) where
 
 -- ENTRIES, one after the other
 module _ {p q : Parent} {w : Words} (sp : Spelt p q w) (nm : Names w) (x : String) where
-  entries_laid : {r : Row} {rs : List Row} {n : ℕ} {rest : Trees} → spot_named (table MessaggiEsito) 0 (bytes x) ≡ spot.At n (Rows p) → (c : ℕ) (es : List Entry) → Every EntryOk es
+  entries_laid : {r : Row} {rs : List Row} {n : ℕ} {rest : Trees} → spot_named (table MessaggiEsito) 0 (bytes x) ≡ Some (n, (Rows p)) → (c : ℕ) (es : List Entry) → Every EntryOk es
       → ((k : ℕ) → k ≡ c + length es → Laid 2 MessaggiEsito (r ∷ rs) n k rest) → Laid 2 MessaggiEsito (r ∷ rs) n c (entries_out x w es rest)
   entries_laid z c [] k f = f c (omega arith)
   entries_laid z c (e ∷ es) (every_next a k) f = lay_node x p _ z sp.entry_fixed (entry_right sp nm e a) (entries_laid z (suc c) es k (λ j h. f j (omega arith)))

@@ -1,11 +1,11 @@
 -- Document 02, Req 01: "Also read such a message back": what any bytes are read as, in terms of grammar, tree, schema and fields.
-use Rattle.std.specs.Prelude.{◌≡◌, List, [], ◌∷◌, Bool, true, false, cond, ◌&&◌, ℕ, ◌+◌, ◌≤◌, ◌<◌, length, leb}
+use Rattle.std.specs.Prelude.{◌≡◌, List, [], ◌∷◌, Bool, true, false, cond, ◌&&◌, ℕ, ◌+◌, ◌≤◌, ◌<◌, length, leb, Option, Some, None}
 use Prim.Native.String.{String}
 use Rattle.scan.specs.Bytes.{bytes, text_is}
 use Rattle.codes.specs.declared.Operation.{Operation}
 use Rattle.codes.specs.declared.Operation.TheVariants.{Sostituzione}
 use Rattle.codes.specs.declared.Esito.{Esito}
-use Rattle.codes.specs.declared.Esito.TheVariants.{Accepted, Refused, NoEsito}
+use Rattle.codes.specs.declared.Esito.TheVariants.{Accepted, Refused}
 use Rattle.codes.specs.Codes.{esito_operazione}
 use Rattle.digits.specs.Digits.{esercizio, numero, importo, codice_errore}
 use Rattle.dates.specs.Dates.{data_of}
@@ -43,10 +43,10 @@ place_named x kids = first_place (children_named (x ∷ []) kids)
 -- THE VALUES that a message's tree says
 
 -- of one of the eight words
-abbrev pub operation_in : Esito → Operation
-operation_in (Accepted o) = o
-operation_in (Refused o) = o
-operation_in NoEsito = Sostituzione
+abbrev pub operation_in : Option Esito → Operation
+operation_in (Some (Accepted o)) = o
+operation_in (Some (Refused o)) = o
+operation_in None = Sostituzione
 
 -- 0 without a list of errors
 abbrev pub code_in : List Tree → ℕ
@@ -95,12 +95,12 @@ pub record Agreeing : Type 0 where
   pub ok : Bool
 
 -- a refused word has a list of errors, an accepted one none
-abbrev pub word_agrees : Esito → List Tree → Bool
-word_agrees (Accepted o) [] = true
-word_agrees (Accepted o) (t ∷ ts) = false
-word_agrees (Refused o) [] = false
-word_agrees (Refused o) (t ∷ ts) = true
-word_agrees NoEsito ts = false
+abbrev pub word_agrees : Option Esito → List Tree → Bool
+word_agrees (Some (Accepted o)) [] = true
+word_agrees (Some (Accepted o)) (t ∷ ts) = false
+word_agrees (Some (Refused o)) [] = false
+word_agrees (Some (Refused o)) (t ∷ ts) = true
+word_agrees None ts = false
 
 -- "code, the code again as description, and element name"
 abbrev pub error_agrees : Words → Trees → List Agreeing

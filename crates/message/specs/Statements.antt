@@ -1,5 +1,5 @@
 -- Document 02, Req 01, said of messages: what is proved in proofs/Theorem.antt and proofs/From.antt.
-use Rattle.std.specs.Prelude.{◌≡◌, List, cond, ℕ}
+use Rattle.std.specs.Prelude.{◌≡◌, List, cond, ℕ, Some}
 use Rattle.codes.specs.declared.Esito.TheVariants.{Accepted, Refused}
 use Rattle.codes.specs.Codes.{esito_operazione}
 use Rattle.editions.specs.declared.Edition.{Edition}
@@ -17,4 +17,4 @@ pub record OneReading (e : Edition) (s : List ℕ) : Type 0 where
 -- the word of an entry that is read says its operation, and that it was accepted exactly where its code is 0
 pub record WordSaid (w : Words) (t : Tree) : Type 0 where
   pub word : esito_operazione (text_named "esito_operazione" (kids_in (held_of t)))
-      ≡ cond (is_accepted (entry_in w (kids_in (held_of t))).code) (Accepted (entry_in w (kids_in (held_of t))).operation) (Refused (entry_in w (kids_in (held_of t))).operation)
+      ≡ cond (is_accepted (entry_in w (kids_in (held_of t))).code) (Some (Accepted (entry_in w (kids_in (held_of t))).operation)) (Some (Refused (entry_in w (kids_in (held_of t))).operation))

@@ -1,27 +1,26 @@
 -- The tests of code 41, a way out of the code at a time.
+use Rattle.std.specs.Prelude.{Some, None}
 use mathlib.Core.Path.{◌≡◌, refl, sym, ap, ◌∙◌}
 use mathlib.Core.Logic.{◌⊎◌, inl, inr}
 use mathlib.Core.List.{List, [], ◌∷◌}
 use mathlib.Core.Bool.{Bool, true, false, ◌&&◌}
 use Prim.Native.Nat.{ℕ, ◌+◌, ◌-◌, ◌≤◌, ◌<◌}
-use native.Mathlib.Nat.{add-zero, add_assoc}
+use native.Mathlib.Nat.{add-zero}
 use native.Mathlib.Omega.{arith}
-use lib.ListN.{length, drop, length-drop}
+use lib.ListN.{length, take, drop, length-drop}
+use Rattle.std.proofs.lemmas.List.{take_all}
 use lib.Seq.{get_or-drop, drop-drop}
-use lib.Dec.{eqb, leb}
-use borrow.Author.Tests.{eq-eqb, ne_eqb, le-leb, lt-leb}
+use lib.Dec.{leb}
+use borrow.Author.Tests.{le-leb, lt-leb}
 use Rattle.scan.specs.Bytes.{byte_at, between}
 use Rattle.scan.proofs.Laws.{both}
-use Rattle.words.specs.Numbers.{be4, be8}
-use Rattle.words.proofs.Laws.{Agree, same4, same8}
-use Rattle.codes.specs.Codes.{operation_number, length_in}
+use Rattle.codes.specs.Codes.{length_in}
 use Rattle.dates.specs.Dates.{data_ora_zona}
 use Rattle.fields.specs.declared.Form.TheVariants.{DataOraZona, Testo}
 use Rattle.fields.specs.declared.Judged.TheVariants.{Stands}
 use Rattle.fields.specs.Fields.{judged, field_stands}
 use Rattle.schema.specs.declared.Parent.{Parent}
 use Rattle.rows.specs.declared.Kept.{Kept}
-use Rattle.rows.specs.declared.Next.TheVariants.{Named, Done}
 use Rattle.rows.specs.Kept.{kept_from, next_of}
 use Rattle.order.specs.declared.Order.{Order}
 use Rattle.order.specs.Ordinativo.{Ordinativo, ordinativo}
@@ -29,53 +28,22 @@ use Rattle.orders.specs.Orders.{those, is_order, order_of}
 use Rattle.orders.proofs.Laws.{OrderAt, order_at, orders_end}
 use Rattle.texts.specs.Texts.{whole_text, caller_text, istat_text, caller_time}
 use Rattle.texts.proofs.Laws.{istat_some, text_told}
-use Rattle.message.specs.Message.{TextOk, is_outcome}
+use Rattle.message.specs.Message.{TextOk}
 use Rattle.message.specs.From.{outcome_fits, outcomes_fit}
 use Rattle.message_fit.specs.Fit.{caller_ok, CallerTold}
 use Rattle.message_fit.specs.Walk.{orders_from, Rooted}
 
--- SIXTEEN BYTES AT A PLACE
+-- BYTES FROM A PLACE ON
 module _ (s : List ℕ) (at : ℕ) where
-  agree : (k n : ℕ) → Agree (drop at s) k s (at + k) n
-  agree k n = record { same = λ i b. get_or-drop at s (k + i) 0 ∙ ap (λ (x : ℕ). byte_at s x) (sym (add_assoc at k i)) }
-
   pub drop_byte : (k : ℕ) → byte_at (drop at s) k ≡ byte_at s (at + k)
   drop_byte k = get_or-drop at s k 0
 
   pub drop_first : byte_at (drop at s) 0 ≡ byte_at s at
   drop_first = drop_byte 0 ∙ ap (byte_at s) (add-zero at)
 
-  module _ (q : Ordinativo) where
-    -- the six tests, where the bytes stand
-    abbrev fits_here : Bool
-    fits_here =
-        eqb (byte_at s at) q.kind && (eqb (byte_at s (at + 1)) (operation_number q.operation) && (is_outcome (byte_at s (at + 2))
-        && (eqb (byte_at s (at + 3)) (length q.lines) && (eqb (be4 s (at + 4)) q.number && eqb (be8 s (at + 8)) q.total))))
-
-    here : outcome_fits q (drop at s) ≡ fits_here
-    here = rw (drop_first, drop_byte 1, drop_byte 2, drop_byte 3, same4 (agree 4 4) (omega arith), same8 (agree 8 8) (omega arith))
-
-    pub fit_kind : {x : ℕ} → x ≡ byte_at s at → (x ≡ q.kind → ⊥) → false ≡ outcome_fits q (drop at s)
-    fit_kind e n = sym (here ∙ rw (← e, ne_eqb _ _ n))
-
-    module _ {x : ℕ} (a : x ≡ byte_at s at) (a' : x ≡ q.kind) where
-      pub fit_operation : {y z : ℕ} → y ≡ byte_at s (at + 1) → z ≡ operation_number q.operation → (y ≡ z → ⊥) → false ≡ outcome_fits q (drop at s)
-      fit_operation e f n = sym (here ∙ rw (← a, eq-eqb _ _ a', ← e, ← f, ne_eqb _ _ n))
-
-      module _ {y z : ℕ} (b : y ≡ byte_at s (at + 1)) (b' : z ≡ operation_number q.operation) (b'' : y ≡ z) where
-        pub fit_code : {u : ℕ} {g : Bool} → u ≡ byte_at s (at + 2) → g ≡ is_outcome u → g ≡ false → false ≡ outcome_fits q (drop at s)
-        fit_code e f n = sym (here ∙ rw (← a, eq-eqb _ _ a', ← b, ← b', eq-eqb _ _ b'', ← e, ← f, n))
-
-        module _ {u : ℕ} {g : Bool} (c : u ≡ byte_at s (at + 2)) (c' : g ≡ is_outcome u) (c'' : g ≡ true) where
-          pub fit_lines : {v w : ℕ} → v ≡ byte_at s (at + 3) → w ≡ length q.lines → (v ≡ w → ⊥) → false ≡ outcome_fits q (drop at s)
-          fit_lines e f n = sym (here ∙ rw (← a, eq-eqb _ _ a', ← b, ← b', eq-eqb _ _ b'', ← c, ← c', c'', ← e, ← f, ne_eqb _ _ n))
-
-          module _ {v w : ℕ} (d : v ≡ byte_at s (at + 3)) (d' : w ≡ length q.lines) (d'' : v ≡ w) where
-            pub fit_number : {m : ℕ} → m ≡ be4 s (at + 4) → (m ≡ q.number → ⊥) → false ≡ outcome_fits q (drop at s)
-            fit_number e n = sym (here ∙ rw (← a, eq-eqb _ _ a', ← b, ← b', eq-eqb _ _ b'', ← c, ← c', c'', ← d, ← d', eq-eqb _ _ d'', ← e, ne_eqb _ _ n))
-
-            pub fit_total : {m t : ℕ} → m ≡ be4 s (at + 4) → m ≡ q.number → t ≡ be8 s (at + 8) → eqb t q.total ≡ outcome_fits q (drop at s)
-            fit_total e n f = sym (here ∙ rw (← a, eq-eqb _ _ a', ← b, ← b', eq-eqb _ _ b'', ← c, ← c', c'', ← d, ← d', eq-eqb _ _ d'', ← e, eq-eqb _ _ n, ← f))
+-- the test of what stands there, lent as a slice
+pub whole_rest : (s : List ℕ) (at : ℕ) (q : Ordinativo) {g : Bool} → g ≡ outcome_fits q (take (length s - at) (drop at s)) → g ≡ outcome_fits q (drop at s)
+whole_rest s at q e = e ∙ ap (outcome_fits q) (take_all (length s - at) (drop at s) (let d = length-drop at s in omega arith))
 
 -- ALL ORDERS, while they are walked: those from i on are to come, their bytes from `at` on
 pub record Fitting (root : Parent) (f past out : List ℕ) (from i at : ℕ) : Type 0 where
@@ -87,11 +55,11 @@ pub fitting_start : {root : Parent} {f past : List ℕ} {from : ℕ} (out : List
 fitting_start out r = record { rooted = r; within = omega arith; same = refl }
 
 module _ {root : Parent} {f past out : List ℕ} {from i at : ℕ} (s : Fitting root f past out from i at) where
-  pub fitting_end : next_of (those is_order (kept_from root f i)) ≡ Done → true ≡ outcomes_fit (orders_from root f from) out
+  pub fitting_end : next_of (those is_order (kept_from root f i)) ≡ None → true ≡ outcomes_fit (orders_from root f from) out
   unfolding outcomes_fit
   fitting_end e = rw (orders_end root f i e) at s.same
 
-  module _ (k : Kept) (e : next_of (those is_order (kept_from root f i)) ≡ Named k) where
+  module _ (k : Kept) (e : next_of (those is_order (kept_from root f i)) ≡ Some k) where
     pub fitting_order : OrderAt root f i k
     fitting_order = order_at root f i k s.rooted.holds e
 

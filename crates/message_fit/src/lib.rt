@@ -2,7 +2,7 @@
 // one after another into bytes that the call lends, so that a writer takes them all at once.
 #![tactic(auto)]
 
-ghost use Rattle.std.specs.Prelude.{◌≡◌, true, ◌+◌, ◌≤◌, ◌<◌, length, drop};
+ghost use Rattle.std.specs.Prelude.{◌≡◌, true, ◌+◌, ◌≤◌, ◌<◌, length};
 ghost use Rattle.order.specs.Ordinativo.{ordinativo};
 ghost use Rattle.message.specs.Message.{is_outcome};
 ghost use Rattle.message.specs.From.{outcome_fits, outcomes_fit};
@@ -14,7 +14,6 @@ ghost use Rattle.message_fit.specs.Walk.{orders_from, Rooted};
 use header::Span;
 use message_pen::Given;
 use order::Order;
-use rows::Next;
 use schema::Parent;
 
 // Nine texts of at most 140 bytes.
@@ -35,52 +34,31 @@ pub struct Laid {
     pub to: usize,
 }
 
-pub fn wide(x: u8) -> u64
-    ensures { result ≡ x }
-{
-    x as u64
-}
-
 // Whether an order can get this code.
 fn is_outcome(code: u8) -> bool
     ensures { result ≡ is_outcome code }
 {
-    if code == 0 {
-        return true;
-    }
-    digits::is_refusal(wide(code))
+    code == 0 || digits::is_refusal(u64::from(code))
 }
 
 // How many lines an order has, as a byte holds it.
 fn count(o: Order) -> u64
     ensures { result ≡ length (ordinativo o).lines }
 {
-    let ls = o.lines;
-    order::count_of(ls) as u64
+    order::count_of(o.lines) as u64
 }
 
-// Whether the sixteen bytes at a place are an order's.
-fn outcome_fits(out: &[u8], at: usize, o: Order) -> bool
-    requires { at + 16 ≤ length out.now }
-    ensures { result ≡ outcome_fits (ordinativo o) (drop at out.now) }
+// Whether bytes begin with an order's sixteen.
+fn outcome_fits(out: &[u8], o: Order) -> bool
+    requires { 16 ≤ length out.now }
+    ensures { result ≡ outcome_fits (ordinativo o) out.now }
 {
-    let op = o.operation;
-    if scan::byte(out, at) != o.kind {
-        return false;
-    }
-    if scan::byte(out, at + 1) != codes::operation_number(op) {
-        return false;
-    }
-    if !is_outcome(scan::byte(out, at + 2)) {
-        return false;
-    }
-    if wide(scan::byte(out, at + 3)) != count(o) {
-        return false;
-    }
-    if words::read4(out, at + 4) != o.number {
-        return false;
-    }
-    words::read8(out, at + 8) == o.total
+    out[0] == o.kind
+        && out[1] == codes::operation_number(o.operation)
+        && is_outcome(out[2])
+        && u64::from(out[3]) == count(o)
+        && words::read4(out, 4) == o.number
+        && words::read8(out, 8) == o.total
 }
 
 // Whether the outcome bytes are those of the orders from a place on.
@@ -90,21 +68,19 @@ pub fn outcomes_fit(f: &[u8], from: usize, root: Parent, out: &[u8], past: &[u32
 {
     let mut i = from;
     let mut at: usize = 0;
-    loop {
-        let Next::Named(k) = orders::next_order(f, i, root, past) else {
-            return true;
-        };
+    while let Some(k) = orders::next_order(f, i, root, past) {
         let c = k.child;
         if out.len() - at < 16 {
             return false;
         }
         let o = orders::order_of(f, k, past);
-        if !outcome_fits(out, at, o) {
+        if !outcome_fits(&out[at..], o) {
             return false;
         }
         at += 16;
         i = c.after;
     }
+    true
 }
 
 // A text after the others, if it has its form; past a wrong one nothing is laid down any more.
@@ -129,40 +105,27 @@ fn time(texts: &mut [u8], at: Laid, t: &[u8]) -> Laid
     requires { at.to + 140 ≤ texts_room }
     ensures { Lays texts.old texts.new at t.now (caller_time t.now) result }
 {
-    let ok = texts::is_caller_time(t);
-    lay(texts, at, t, ok)
+    lay(texts, at, t, texts::is_caller_time(t))
 }
 
 fn text(texts: &mut [u8], at: Laid, t: &[u8]) -> Laid
     requires { at.to + 140 ≤ texts_room }
     ensures { Lays texts.old texts.new at t.now (caller_text t.now) result }
 {
-    let ok = texts::is_caller_text(t);
-    lay(texts, at, t, ok)
+    lay(texts, at, t, texts::is_caller_text(t))
 }
 
 fn istat_code(texts: &mut [u8], at: Laid, t: &[u8]) -> Laid
     requires { at.to + 140 ≤ texts_room }
     ensures { Lays texts.old texts.new at t.now (istat_text t.now) result }
 {
-    let ok = texts::is_istat(t);
-    lay(texts, at, t, ok)
+    lay(texts, at, t, texts::is_istat(t))
 }
 
 fn span(from: usize, to: usize) -> Span
     ensures { result ≡ record { from = from; to = to } }
 {
     Span { from, to }
-}
-
-fn held_as(right: bool, outcome: Span, given: Given) -> Held
-    ensures { result ≡ record { right = right; outcome = outcome; given = given } }
-{
-    Held {
-        right,
-        outcome,
-        given,
-    }
 }
 
 // The caller's texts, judged and held. The message's time comes last, so that it is empty, and no time, where one of them is wrong.
@@ -201,5 +164,9 @@ pub fn hold(
         bank: span(f.to, g.to),
         flow: span(g.to, h.to),
     };
-    held_as(i.right, span(0, a.to), given)
+    Held {
+        right: i.right,
+        outcome: span(0, a.to),
+        given,
+    }
 }

@@ -1,5 +1,6 @@
 -- Elements written one after the other: what each needs of the room, and what they are together.
 use mathlib.Core.Path.{◌≡◌, refl, sym, ap, subst, ◌∙◌}
+use mathlib.Core.Logic.{◌⊎◌, inl, inr}
 use mathlib.Core.List.{List, [], ◌∷◌, ◌++◌, append_assoc}
 use mathlib.Core.Bool.{Bool, true, false, cond}
 use Prim.Native.Nat.{ℕ}
@@ -190,26 +191,20 @@ name_by k f = go (eqb k 2)
 module _ (k n : ℕ) where
   pub element_operation : n ≡ 11 → bytes (element_name (words_for k) n) ≡ bytes "tipo_operazione"
   unfolding element_name
-  element_operation e = rw (eq-eqb n 11 e)
+  element_operation e = rw e
 
-  module _ (a : n ≡ 11 → ⊥) where
-    pub element_line : n ≡ 12 → bytes (element_name (words_for k) n) ≡ by_kind k (bytes "progressivo_beneficiario") (bytes "progressivo_versante")
-    unfolding element_name
-    element_line e = rw (ne_eqb n 11 a, eq-eqb n 12 e) (name_by k progressivo_name)
+  pub element_line : n ≡ 12 → bytes (element_name (words_for k) n) ≡ by_kind k (bytes "progressivo_beneficiario") (bytes "progressivo_versante")
+  unfolding element_name
+  element_line e = rw e (name_by k progressivo_name)
 
-    module _ (b : n ≡ 12 → ⊥) where
-      pub element_total : n ≡ 13 → bytes (element_name (words_for k) n) ≡ by_kind k (bytes "importo_mandato") (bytes "importo_reversale")
-      unfolding element_name
-      element_total e = rw (ne_eqb n 11 a, ne_eqb n 12 b, eq-eqb n 13 e) (name_by k total_name)
+  pub element_total : (n ≡ 13) ⊎ (n ≡ 19) → bytes (element_name (words_for k) n) ≡ by_kind k (bytes "importo_mandato") (bytes "importo_reversale")
+  unfolding element_name
+  element_total (inl e) = rw e (name_by k total_name)
+  element_total (inr e) = rw e (name_by k total_name)
 
-      module _ (c : n ≡ 13 → ⊥) where
-        pub element_differs : n ≡ 19 → bytes (element_name (words_for k) n) ≡ by_kind k (bytes "importo_mandato") (bytes "importo_reversale")
-        unfolding element_name
-        element_differs e = rw (ne_eqb n 11 a, ne_eqb n 12 b, ne_eqb n 13 c, eq-eqb n 19 e) (name_by k total_name)
-
-        pub element_number : (n ≡ 19 → ⊥) → bytes (element_name (words_for k) n) ≡ by_kind k (bytes "numero_mandato") (bytes "numero_reversale")
-        unfolding element_name
-        element_number d = rw (ne_eqb n 11 a, ne_eqb n 12 b, ne_eqb n 13 c, ne_eqb n 19 d) (name_by k number_name)
+  pub element_number : (n ≡ 11 → ⊥) → (n ≡ 12 → ⊥) → (n ≡ 13 → ⊥) → (n ≡ 19 → ⊥) → bytes (element_name (words_for k) n) ≡ by_kind k (bytes "numero_mandato") (bytes "numero_reversale")
+  unfolding element_name
+  element_number a b c d = rw (ne_eqb n 11 a, ne_eqb n 12 b, ne_eqb n 13 c, ne_eqb n 19 d) (name_by k number_name)
 
 -- AN ENTRY'S NAME, by the order's kind
 pub name_reversali : (k : ℕ) → k ≡ 2 → bytes (entry_name k) ≡ bytes "esito_reversali"

@@ -79,34 +79,28 @@ fn kind_element(m: &mut [u8], at: usize, kind: u8, mandato: &[u8], reversale: &[
     ensures { Wrote m.old m.new at (tagged (bytes "elemento") (by_kind kind mandato.now reversale.now)) result }
 {
     if kind == 2 {
-        return pen::leaf(m, at, b"elemento", reversale);
+        pen::leaf(m, at, b"elemento", reversale)
+    } else {
+        pen::leaf(m, at, b"elemento", mandato)
     }
-    pen::leaf(m, at, b"elemento", mandato)
 }
 
 fn element(m: &mut [u8], at: usize, kind: u8, code: u64) -> usize
     requires { Room at (tagged (bytes "elemento") (bytes (element_name (words_for kind) code))) }
     ensures { Wrote m.old m.new at (tagged (bytes "elemento") (bytes (element_name (words_for kind) code))) result }
 {
-    if code == 11 {
-        return pen::leaf(m, at, b"elemento", b"tipo_operazione");
-    }
-    if code == 12 {
-        return kind_element(
+    match code {
+        11 => pen::leaf(m, at, b"elemento", b"tipo_operazione"),
+        12 => kind_element(
             m,
             at,
             kind,
             b"progressivo_beneficiario",
             b"progressivo_versante",
-        );
+        ),
+        13 | 19 => kind_element(m, at, kind, b"importo_mandato", b"importo_reversale"),
+        _ => kind_element(m, at, kind, b"numero_mandato", b"numero_reversale"),
     }
-    if code == 13 {
-        return kind_element(m, at, kind, b"importo_mandato", b"importo_reversale");
-    }
-    if code == 19 {
-        return kind_element(m, at, kind, b"importo_mandato", b"importo_reversale");
-    }
-    kind_element(m, at, kind, b"numero_mandato", b"numero_reversale")
 }
 
 // What is wrong with a refused order.
@@ -126,9 +120,10 @@ fn number(m: &mut [u8], at: usize, kind: u8, n: u64) -> usize
     ensures { Wrote m.old m.new at (tagged (bytes (number_name (words_for kind))) (decimal n)) result }
 {
     if kind == 2 {
-        return pen::number_leaf(m, at, b"numero_reversale", n);
+        pen::number_leaf(m, at, b"numero_reversale", n)
+    } else {
+        pen::number_leaf(m, at, b"numero_mandato", n)
     }
-    pen::number_leaf(m, at, b"numero_mandato", n)
 }
 
 fn date(m: &mut [u8], at: usize, kind: u8, d: Date) -> usize
@@ -136,9 +131,10 @@ fn date(m: &mut [u8], at: usize, kind: u8, d: Date) -> usize
     ensures { Wrote m.old m.new at (tagged (bytes (date_name (words_for kind))) (dated d)) result }
 {
     if kind == 2 {
-        return pen::date_leaf(m, at, b"data_reversale", d);
+        pen::date_leaf(m, at, b"data_reversale", d)
+    } else {
+        pen::date_leaf(m, at, b"data_mandato", d)
     }
-    pen::date_leaf(m, at, b"data_mandato", d)
 }
 
 // An entry's flow and esercizio.
@@ -155,9 +151,8 @@ fn order(m: &mut [u8], at: usize, v: Saying) -> usize
     requires { RoomFor at (order_out v) }
     ensures { WroteAll m.old m.new at (order_out v) result }
 {
-    let day = v.date;
     let a = number(m, at, v.kind, v.number);
-    let b = date(m, a, v.kind, day);
+    let b = date(m, a, v.kind, v.date);
     pen::amount_leaf(m, b, b"importo", v.total)
 }
 
@@ -195,9 +190,10 @@ pub fn entry(m: &mut [u8], at: usize, v: Saying, flow: &[u8], time: &[u8]) -> us
         (node (entry_name v.kind) (entry_out (words_for v.kind) (entry_with v flow.now time.now))) result }
 {
     if v.kind == 2 {
-        return entry_named(m, at, b"esito_reversali", v, flow, time);
+        entry_named(m, at, b"esito_reversali", v, flow, time)
+    } else {
+        entry_named(m, at, b"esito_mandati", v, flow, time)
     }
-    entry_named(m, at, b"esito_mandati", v, flow, time)
 }
 
 // <name>text</name>, of a text where it stands.
@@ -205,21 +201,17 @@ fn leaf_at(m: &mut [u8], at: usize, name: &[u8], s: &[u8], w: Span) -> usize
     requires { Lies s.now w × Room at (tagged name.now (text_at s.now w)) }
     ensures { Wrote m.old m.new at (tagged name.now (text_at s.now w)) result }
 {
-    let text = header::part_at(s, w);
-    pen::leaf(m, at, name, text)
+    pen::leaf(m, at, name, header::part_at(s, w))
 }
 
 fn head_first(m: &mut [u8], at: usize, abi: &[u8], s: &[u8], g: Given) -> usize
     requires { GivenIn s.now g × RoomFor at (head_first abi.now s.now g) }
     ensures { WroteAll m.old m.new at (head_first abi.now s.now g) result }
 {
-    let x = g.created;
-    let y = g.ente;
-    let z = g.described;
     let a = pen::leaf(m, at, b"codice_ABI_BT", abi);
-    let b = leaf_at(m, a, b"data_ora_creazione_flusso", s, x);
-    let c = leaf_at(m, b, b"codice_ente", s, y);
-    leaf_at(m, c, b"descrizione_ente", s, z)
+    let b = leaf_at(m, a, b"data_ora_creazione_flusso", s, g.created);
+    let c = leaf_at(m, b, b"codice_ente", s, g.ente);
+    leaf_at(m, c, b"descrizione_ente", s, g.described)
 }
 
 // An empty ISTAT code is left out.
@@ -228,22 +220,20 @@ fn istat_code(m: &mut [u8], at: usize, s: &[u8], w: Span) -> usize
     ensures { WroteAll m.old m.new at (istat_out (text_at s.now w) none) result }
 {
     let istat = header::part_at(s, w);
-    if istat.len() == 0 {
-        return at;
+    if istat.is_empty() {
+        at
+    } else {
+        pen::leaf(m, at, b"codice_istat_ente", istat)
     }
-    pen::leaf(m, at, b"codice_istat_ente", istat)
 }
 
 fn head_last(m: &mut [u8], at: usize, s: &[u8], g: Given, body: &[u8]) -> usize
     requires { GivenIn s.now g × RoomFor at (head_last s.now g body.now) }
     ensures { WroteAll m.old m.new at (head_last s.now g body.now) result }
 {
-    let x = g.fiscal;
-    let y = g.tramite;
-    let z = g.bank;
-    let a = leaf_at(m, at, b"codice_fiscale_ente", s, x);
-    let b = leaf_at(m, a, b"codice_tramite_ente", s, y);
-    let c = leaf_at(m, b, b"codice_tramite_BT", s, z);
+    let a = leaf_at(m, at, b"codice_fiscale_ente", s, g.fiscal);
+    let b = leaf_at(m, a, b"codice_tramite_ente", s, g.tramite);
+    let c = leaf_at(m, b, b"codice_tramite_BT", s, g.bank);
     pen::leaf(m, c, b"codice_ente_BT", body)
 }
 
@@ -252,10 +242,9 @@ fn head(m: &mut [u8], at: usize, abi: &[u8], s: &[u8], g: Given, body: &[u8]) ->
     requires { GivenIn s.now g × RoomOf at (head_in abi.now s.now g body.now) }
     ensures { WroteTree m.old m.new at (head_in abi.now s.now g body.now) result }
 {
-    let w = g.istat;
     let a = pen::open_tag(m, at, b"testata_messaggio");
     let b = head_first(m, a, abi, s, g);
-    let c = istat_code(m, b, s, w);
+    let c = istat_code(m, b, s, g.istat);
     let d = head_last(m, c, s, g, body);
     pen::close_tag(m, d, b"testata_messaggio")
 }
@@ -265,7 +254,6 @@ pub fn beginning(m: &mut [u8], at: usize, abi: &[u8], s: &[u8], g: Given, body: 
     requires { GivenIn s.now g × RoomFor at (beginning_in abi.now s.now g body.now) }
     ensures { WroteAll m.old m.new at (beginning_in abi.now s.now g body.now) result }
 {
-    let w = g.flow;
     let a = head(m, at, abi, s, g, body);
-    leaf_at(m, a, b"identificativo_flusso_BT", s, w)
+    leaf_at(m, a, b"identificativo_flusso_BT", s, g.flow)
 }

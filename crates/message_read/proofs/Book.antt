@@ -1,4 +1,5 @@
 -- Reading by positions is reading by the tree: what the code gives keeps the promise (specs/Promise.antt).
+use Rattle.std.specs.Prelude.{Option, Result, Some, None, Ok, Err}
 use mathlib.Core.Path.{◌≡◌, refl, sym, ap, ◌∙◌}
 use mathlib.Core.List.{List, [], ◌∷◌, ◌++◌}
 use mathlib.Core.Bool.{Bool, true, false, cond, ◌&&◌}
@@ -9,8 +10,8 @@ use lib.Dec.{leb}
 use borrow.Author.Tests.{leb-true, leb-false}
 use Rattle.scan.specs.Bytes.{bytes, between, text_is}
 use Rattle.tokens.specs.Tokens.{white_at}
-use Rattle.markup.specs.declared.Markup.TheVariants as markup
 use Rattle.markup.specs.Markup.{markup_of}
+use Rattle.markup.proofs.Laws.{root_parts}
 use Rattle.grammar.specs.Grammar.{content_place}
 use Rattle.grammar.proofs.Complete.{flow_complete}
 use Rattle.fields.specs.declared.Form.TheVariants.{CodiceAbi, CodiceEnte, DataOraZona, Testo}
@@ -48,12 +49,10 @@ use Rattle.message.specs.Message.{Message, count_ok, entry_count}
 use Rattle.message.specs.Read.{first_kids, entry_in, message_in, disagreeing, earlier, entries_off, MessageReading, read, refused, by_place, entries_in, reading_on, max_message, too_long, no_tree, on_tree}
 use Rattle.message.proofs.Blind.{each_length}
 use Rattle.agreement.specs.declared.EntryKind.TheVariants.{Reversale, Mandato}
-use Rattle.agreement.specs.declared.Off.{Off}
-use Rattle.agreement.specs.declared.Off.TheVariants as off
 use Rattle.agreement.specs.Agreement.{entries_off_at, entries_of, off_from}
 use Rattle.message_values.specs.Values.{spans_bytes, values_from}
-use Rattle.message_read.specs.declared.MessageStanding.{MessageStanding}
-use Rattle.message_read.specs.declared.MessageStanding.TheVariants.{Structure, Field, Stands}
+use Rattle.message_read.specs.declared.MessageFlaw.{MessageFlaw}
+use Rattle.message_read.specs.declared.MessageFlaw.TheVariants.{Structure, Field}
 use Rattle.message_read.specs.declared.Reply.{Reply}
 use Rattle.message_read.specs.Steps.{count_from, by_standing, judged_by, judged_of, refusal, ReadGives}
 use Rattle.message_read.specs.Values.{testata_bytes, values_in}
@@ -118,18 +117,18 @@ module _ (s : List ℕ) (i : ℕ) (f : fits_tree 3 MessaggiEsito (trees_from 11 
       rw (a, b, d, e)
 
 -- THE VERDICT BY POSITIONS AND BY THE TREE
-data Both (n : ℕ) (m : Message) : MessageStanding → MessageReading → Type 0 where
-  structure : Both n m Structure (refused 4 0 0)
-  field : {p : ℕ} {c : Cause} → Both n m (Field p c) (refused 5 p (cause_number c))
-  stands : Both n m (Stands n) (read m)
+data Both (n : ℕ) (m : Message) : Result ℕ MessageFlaw → MessageReading → Type 0 where
+  structure : Both n m (Err Structure) (refused 4 0 0)
+  field : {p : ℕ} {c : Cause} → Both n m (Err (Field p c)) (refused 5 p (cause_number c))
+  stands : Both n m (Ok n) (read m)
 
-earlier_both : (n : ℕ) (m : Message) (f : Bad) (o : Off) → Both n m (by_standing (standing_by true f) o n) (by_place m (earlier f (to_bad o)))
-earlier_both n m Nowhere off.Nowhere = stands
-earlier_both n m Nowhere (off.At q) = field
-earlier_both n m (Place p c) off.Nowhere = field
-earlier_both n m (Place p c) (off.At q) = go (leb p q)
+earlier_both : (n : ℕ) (m : Message) (f : Bad) (o : Option ℕ) → Both n m (by_standing (standing_by true f) o n) (by_place m (earlier f (to_bad o)))
+earlier_both n m Nowhere None = stands
+earlier_both n m Nowhere (Some q) = field
+earlier_both n m (Place p c) None = field
+earlier_both n m (Place p c) (Some q) = go (leb p q)
   where
-    go : (b : Bool) → Both n m (cond b (Field p c) (Field q Misformed)) (by_place m (cond b (Place p c) (Place q Misformed)))
+    go : (b : Bool) → Both n m (cond b (Err (Field p c)) (Err (Field q Misformed))) (by_place m (cond b (Place p c) (Place q Misformed)))
     go true = field
     go false = field
 
@@ -159,16 +158,16 @@ module _ {ids : Bool} (s : List ℕ) (t : Tree) (at : ℕ) (r : Root ids s t at)
   unfolding reading_on judged_by standing_at
   both_judged = rw name_is_lem (go (text_is (bytes "messaggi_esito_applicativo") (name_of t)) (held_fits (held_of t) (named (Rows MessaggiEsito))) refl)
     where
-      broken : (c : Bool) (g : Bad) → Both n message (cond c (by_standing (standing_by false g) (off_from s from) n) Structure) (refused 4 0 0)
+      broken : (c : Bool) (g : Bad) → Both n message (cond c (by_standing (standing_by false g) (off_from s from) n) (Err Structure)) (refused 4 0 0)
       broken true g = structure
       broken false g = structure
 
-      counted : (c : Bool) → Both n message (cond c (by_standing (standing_by true (first_bad (fields_of MessaggiEsito t))) (off_from s from) n) Structure) (cond c (by_place message (earlier (first_bad (fields_of MessaggiEsito t)) (to_bad (off_from s from)))) (refused 4 0 0))
+      counted : (c : Bool) → Both n message (cond c (by_standing (standing_by true (first_bad (fields_of MessaggiEsito t))) (off_from s from) n) (Err Structure)) (cond c (by_place message (earlier (first_bad (fields_of MessaggiEsito t)) (to_bad (off_from s from)))) (refused 4 0 0))
       counted true = earlier_both n message (first_bad (fields_of MessaggiEsito t)) (off_from s from)
       counted false = structure
 
       go : (a b : Bool) → held_fits (held_of t) (named (Rows MessaggiEsito)) ≡ b
-          → Both n message (cond a (cond (count_ok n) (by_standing (standing_by (fits_at 3 MessaggiEsito s at) (first_bad (fields_at 3 MessaggiEsito s at))) (off_from s from) n) Structure) Structure)
+          → Both n message (cond a (cond (count_ok n) (by_standing (standing_by (fits_at 3 MessaggiEsito s at) (first_bad (fields_at 3 MessaggiEsito s at))) (off_from s from) n) (Err Structure)) (Err Structure))
           (cond (a && (b && count_ok (entries_in (kids_in (held_of t))))) (by_place message (earlier (first_bad (fields_of MessaggiEsito t)) (disagreeing (kids_in (held_of t))))) (refused 4 0 0))
       go false b e = structure
       go true false e = rw (fits_same ∙ e) (broken (count_ok n) (first_bad (fields_at 3 MessaggiEsito s at)))
@@ -215,7 +214,7 @@ module _ {ids : Bool} (s : List ℕ) (t : Tree) (at : ℕ) (r : Root ids s t at)
 
   -- THE PROMISE, of a tree
   module _ (ed : Edition) (d : ReadsAs (id_allowed ed) s t) (l : length s ≤ max_message) (values : List ℕ) where
-    given : (m : Message) (j : MessageStanding) (q : MessageReading) → Both (count_from s (white_at s at)) m j q → reading_on t ≡ q → (reply : Reply) (left : List ℕ) → ReadGives s values (white_at s at) j reply left → ReadIn ed s values reply left
+    given : (m : Message) (j : Result ℕ MessageFlaw) (q : MessageReading) → Both (count_from s (white_at s at)) m j q → reading_on t ≡ q → (reply : Reply) (left : List ℕ) → ReadGives s values (white_at s at) j reply left → ReadIn ed s values reply left
     given m j q structure e reply left g = rw (g.0, g.1) (refuses (on_tree l d e))
     given m j q field e reply left g = rw (g.0, g.1) (refuses (on_tree l d e))
     given m j q stands e reply left g =
@@ -228,19 +227,19 @@ module _ {ids : Bool} (s : List ℕ) (t : Tree) (at : ℕ) (r : Root ids s t at)
         go false z = no_room (record { short = l; derived = d; reading = e }) (leb-false (80 + 48 * entry_count m) (length values) z)
 
 -- of bytes whose markup stands
-pub root_promise : (ed : Edition) (s values : List ℕ) (lt e at : ℕ) → length s ≤ max_message → markup_of (id_allowed ed) s ≡ markup.Root lt e at → (reply : Reply) (left : List ℕ) → ReadGives s values (white_at s at) (judged_of s lt e at) reply left → ReadIn ed s values reply left
+pub root_promise : (ed : Edition) (s values : List ℕ) (lt e at : ℕ) → length s ≤ max_message → markup_of (id_allowed ed) s ≡ Ok (lt, e, at) → (reply : Reply) (left : List ℕ) → ReadGives s values (white_at s at) (judged_of s lt e at) reply left → ReadIn ed s values reply left
 root_promise ed s values lt e at l h reply left g =
     let x = reads_some s lt e at h in
     let t = x.0 in
     let d = x.1 in
     let r = root_of_lem s t d in
-    let p : markup.Root lt e at ≡ markup.Root r.lt r.end (content_place d.0) = sym h ∙ r.stands in
-    let a : lt ≡ r.lt = cc in
-    let b : e ≡ r.end = cc in
-    let c : at ≡ content_place d.0 = cc in
+    let p = root_parts (sym h ∙ r.stands) in
+    let a = p.0 in
+    let b = p.1 in
+    let c = p.2 in
     given s t (content_place d.0) r ed d l values (message_in (kids_in (held_of t))) (judged_of s r.lt r.end (content_place d.0)) (reading_on t) (both_judged s t (content_place d.0) r) refl reply left (rw (← a, ← b, ← c) g)
 
-pub broken_promise : (ed : Edition) (s values : List ℕ) (q : ℕ) → length s ≤ max_message → markup_of (id_allowed ed) s ≡ markup.Breaks q → (reply : Reply) → reply ≡ refusal 3 0 0 → ReadIn ed s values reply values
+pub broken_promise : (ed : Edition) (s values : List ℕ) (q : ℕ) → length s ≤ max_message → markup_of (id_allowed ed) s ≡ Err q → (reply : Reply) → reply ≡ refusal 3 0 0 → ReadIn ed s values reply values
 broken_promise ed s values q l e reply z = rw z (refuses (no_tree l (λ t d. let m = flow_complete s d.0 in let y : ◌≡◌ {A = ℕ} 0 1 = cc in omega arith)))
 
 pub long_promise : (ed : Edition) (s values : List ℕ) → max_message < length s → (reply : Reply) → reply ≡ refusal 2 0 0 → ReadIn ed s values reply values

@@ -1,4 +1,5 @@
 -- An entry by rows is the entry by name: whether it agrees, and its bytes.
+use Rattle.std.specs.Prelude.{Option, Some, None}
 use mathlib.Core.Path.{◌≡◌, refl, sym, ap, ◌∙◌, subst}
 use mathlib.Core.List.{List, [], ◌∷◌, ◌++◌}
 use mathlib.Core.Bool.{Bool, true, false, cond}
@@ -8,7 +9,7 @@ use borrow.Author.Tests.{ne_eqb}
 use Rattle.scan.specs.Bytes.{bytes, text_is}
 use Rattle.tokens.specs.Tokens.{white_at}
 use Rattle.codes.specs.declared.Esito.{Esito}
-use Rattle.codes.specs.declared.Esito.TheVariants.{Accepted, Refused, NoEsito}
+use Rattle.codes.specs.declared.Esito.TheVariants.{Accepted, Refused}
 use Rattle.codes.specs.Codes.{operation_number, esito_operazione}
 use Rattle.digits.specs.Digits.{esercizio, numero, importo, codice_errore}
 use Rattle.dates.specs.Dates.{data_of}
@@ -18,7 +19,6 @@ use Rattle.words.specs.Numbers.{bytes8}
 use Rattle.schema.specs.declared.Parent.{Parent}
 use Rattle.schema.specs.declared.Holds.TheVariants.{Rows}
 use Rattle.rows.specs.declared.Kept.{Kept}
-use Rattle.rows.specs.declared.Next.TheVariants.{Named, Done}
 use Rattle.rows.specs.Kept.{kept_from, next_of}
 use Rattle.standing.specs.Readings.{Bad, Place, Nowhere}
 use Rattle.orders.specs.Orders.{in_row, text_in, value_of, date_of, inside_of}
@@ -36,25 +36,23 @@ use Rattle.message.specs.Read.{place_named, operation_in, code_in, entry_in, Agr
 use Rattle.message.proofs.Values.{Spelt, spelt_reversale, spelt_mandato}
 use Rattle.agreement.specs.declared.EntryKind.{EntryKind}
 use Rattle.agreement.specs.declared.EntryKind.TheVariants.{Reversale, Mandato}
-use Rattle.agreement.specs.declared.Off.{Off}
-use Rattle.agreement.specs.declared.Off.TheVariants as off
 use Rattle.agreement.specs.Agreement.{words_of, entry_parent, errors_parent, errors_off_at, list_off, is_there, word_stands, entry_off_at, or_off, entries_off_at}
 use Rattle.message_values.specs.Values.{kind_number, span_bytes, facts_bytes, error_code_at, facts_at, entry_at, entries_at}
 use Rattle.message_read.specs.Values.{facts_of, entry_shown, entries_shown}
 use Rattle.message_read.proofs.Match.{Pairs, pairs_none, pairs_next, row_pairs, place_is, text_is_lem, shown_is}
 
 -- A PLACE that is off, as the book has it
-abbrev pub to_bad : Off → Bad
-to_bad (off.At p) = Place p Misformed
-to_bad off.Nowhere = Nowhere
+abbrev pub to_bad : Option ℕ → Bad
+to_bad (Some p) = Place p Misformed
+to_bad None = Nowhere
 
 abbrev pub or_bad : Bad → Bad → Bad
 or_bad (Place p c) rest = Place p c
 or_bad Nowhere rest = rest
 
-pub or_same : (a b : Off) → to_bad (or_off a b) ≡ or_bad (to_bad a) (to_bad b)
-or_same (off.At p) b = refl
-or_same off.Nowhere b = refl
+pub or_same : (a b : Option ℕ) → to_bad (or_off a b) ≡ or_bad (to_bad a) (to_bad b)
+or_same (Some p) b = refl
+or_same None b = refl
 
 first_or : (l : List Agreeing) (rest : Bad) → first_off l rest ≡ or_bad (first_off l Nowhere) rest
 first_or [] rest = refl
@@ -107,7 +105,7 @@ module _ (k : EntryKind) (m : ℕ) (s : List ℕ) (i : ℕ) (f : fits_tree 1 (er
       rw (error_code, b, c, x, y)
       (go (text_is (text_named "codice_errore" kids) (text_named "descrizione" kids)) (text_is (bytes (element_name (words_of k) (value_of (codice_errore (text_named "codice_errore" kids))))) (text_named "elemento" kids)))
     where
-      go : (a b : Bool) → to_bad (cond a (cond b off.Nowhere (off.At (place_named "elemento" kids))) (off.At (place_named "descrizione" kids))) ≡ cond a (cond b Nowhere (Place (place_named "elemento" kids) Misformed)) (Place (place_named "descrizione" kids) Misformed)
+      go : (a b : Bool) → to_bad (cond a (cond b None (Some (place_named "elemento" kids))) (Some (place_named "descrizione" kids))) ≡ cond a (cond b Nowhere (Place (place_named "elemento" kids) Misformed)) (Place (place_named "descrizione" kids) Misformed)
       go true true = refl
       go true false = refl
       go false b = refl
@@ -133,13 +131,13 @@ module _ (k : EntryKind) (m : ℕ) (s : List ℕ) (i : ℕ) (f : fits_tree 2 (en
   list_kids : (x : Kept) (t : Tree) → tree_at (suc (suc m)) s x.child ≡ t → kids_in (held_of t) ≡ trees_from (suc m) s (white_at s (x.child.gt + 1))
   list_kids x t e = ap (λ (y : Tree). kids_in (held_of y)) (sym e) ∙ kids_of (suc m) s x.child
 
-  word_same : (e : Esito) (ks : List Kept) (l : List Tree) → Pairs (tree_at (suc (suc m)) s) (fits_tree 1) (Rows (errors_parent k)) ks l → word_stands e (is_there (next_of ks)) ≡ word_agrees e l
-  word_same (Accepted o) ks l pairs_none = refl
-  word_same (Accepted o) ks l (pairs_next e g ps) = refl
-  word_same (Refused o) ks l pairs_none = refl
-  word_same (Refused o) ks l (pairs_next e g ps) = refl
-  word_same NoEsito ks l pairs_none = refl
-  word_same NoEsito ks l (pairs_next e g ps) = refl
+  word_same : (e : Option Esito) (ks : List Kept) (l : List Tree) → Pairs (tree_at (suc (suc m)) s) (fits_tree 1) (Rows (errors_parent k)) ks l → word_stands e (is_there (next_of ks)) ≡ word_agrees e l
+  word_same (Some (Accepted o)) ks l pairs_none = refl
+  word_same (Some (Accepted o)) ks l (pairs_next e g ps) = refl
+  word_same (Some (Refused o)) ks l pairs_none = refl
+  word_same (Some (Refused o)) ks l (pairs_next e g ps) = refl
+  word_same None ks l pairs_none = refl
+  word_same None ks l (pairs_next e g ps) = refl
 
   list_same : (ks : List Kept) (l : List Tree) → Pairs (tree_at (suc (suc m)) s) (fits_tree 1) (Rows (errors_parent k)) ks l → to_bad (list_off k s (next_of ks)) ≡ first_off (errors_agree (words_of k) l) Nowhere
   list_same ks l pairs_none = refl
@@ -158,7 +156,7 @@ module _ (k : EntryKind) (m : ℕ) (s : List ℕ) (i : ℕ) (f : fits_tree 2 (en
       rw (a, b, c) (go (word_agrees (esito_operazione (text_named "esito_operazione" in_tree)) (children_named ("lista_errori" ∷ []) in_tree)) d)
     where
       go : (b : Bool) → to_bad (list_off k s (next_of (in_row 8 es))) ≡ first_off (errors_agree w (children_named ("lista_errori" ∷ []) in_tree)) Nowhere
-          → to_bad (cond b (list_off k s (next_of (in_row 8 es))) (off.At (place_named "esito_operazione" in_tree))) ≡ cond b (first_off (errors_agree w (children_named ("lista_errori" ∷ []) in_tree)) Nowhere) (Place (place_named "esito_operazione" in_tree) Misformed)
+          → to_bad (cond b (list_off k s (next_of (in_row 8 es))) (Some (place_named "esito_operazione" in_tree))) ≡ cond b (first_off (errors_agree w (children_named ("lista_errori" ∷ []) in_tree)) Nowhere) (Place (place_named "esito_operazione" in_tree) Misformed)
       go true e = e
       go false e = refl
 
@@ -171,7 +169,7 @@ module _ (k : EntryKind) (m : ℕ) (s : List ℕ) (i : ℕ) (f : fits_tree 2 (en
     where
       go : (ks : List Kept) (l : List Tree) → Pairs (tree_at (suc (suc m)) s) (fits_tree 1) (Rows (errors_parent k)) ks l → There 8 (entry_parent k) s i → in_row 8 (kept_from (entry_parent k) s i) ≡ ks → error_code_at k s (span_of_next (next_of ks)) ≡ code_in l
       go ks l pairs_none h z = refl
-      go ks l (pairs_next {k = x} {t = t} {ks = xs} e g ps) (absent d q) z = let y : Named x ≡ Done = ap next_of (sym z) ∙ d in let v : ◌≡◌ {A = ℕ} 0 1 = cc in absurd (omega arith)
+      go ks l (pairs_next {k = x} {t = t} {ks = xs} e g ps) (absent d q) z = let y : ◌≡◌ {A = Option Kept} (Some x) (None) = ap next_of (sym z) ∙ d in let v : ◌≡◌ {A = ℕ} 0 1 = cc in absurd (omega arith)
       go ks l (pairs_next {k = x} {t = t} {ks = xs} e g ps) (present y d q r) z =
           let u = ap (λ (j : List Kept). (span_of_next (next_of j)).to) z in
           let v = list_kids x t e in

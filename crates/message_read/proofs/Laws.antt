@@ -1,4 +1,5 @@
 -- Reading a message, a way out of the code at a time.
+use Rattle.std.specs.Prelude.{Option, Result, Some, None, Ok, Err}
 use mathlib.Core.Path.{◌≡◌, refl, sym, ap, ◌∙◌}
 use mathlib.Core.List.{List, [], ◌∷◌, ◌++◌}
 use mathlib.Core.Bool.{Bool, true, false, cond}
@@ -16,26 +17,23 @@ use Rattle.words.specs.Numbers.{put}
 use Rattle.words.proofs.Laws.{length_put, put_put}
 use Rattle.schema.specs.declared.Parent.TheVariants.{MessaggiEsito, TestataMessaggio}
 use Rattle.rows.specs.declared.Kept.{Kept}
-use Rattle.rows.specs.declared.Next.TheVariants.{Named, Done}
 use Rattle.schema.specs.Table.{name_is}
 use Rattle.rows.specs.Kept.{kept_from, next_of}
 use Rattle.orders.specs.Orders.{in_row, inside_of}
-use Rattle.standing.specs.declared.Standing.{Standing}
-use Rattle.standing.specs.declared.Standing.TheVariants as standing
+use Rattle.standing.specs.declared.Flaw.{Flaw}
+use Rattle.standing.specs.declared.Flaw.TheVariants as standing
 use Rattle.standing.specs.Standing.{standing_at}
 use Rattle.parts.proofs.Laws.{row_at, row_end}
 use Rattle.parts.specs.Parts.{span_in, spans_from, parts_in}
 use Rattle.agreement.specs.declared.EntryKind.{EntryKind}
 use Rattle.agreement.specs.declared.EntryKind.TheVariants.{Reversale, Mandato}
-use Rattle.agreement.specs.declared.Off.{Off}
-use Rattle.agreement.specs.declared.Off.TheVariants as off
 use Rattle.agreement.specs.Agreement.{entry_parent, entry_row, entries_of, off_from}
 use Rattle.message.specs.Message.{count_ok}
 use Rattle.message_values.specs.Values.{span_bytes, spans_bytes, entry_at, entries_at, head_at}
 use Rattle.message_values.proofs.Laws.{entry_length, spans_length}
 use Rattle.schema.specs.declared.Holds.TheVariants.{Rows}
-use Rattle.message_read.specs.declared.MessageStanding.{MessageStanding}
-use Rattle.message_read.specs.declared.MessageStanding.TheVariants.{Structure, Field, Stands}
+use Rattle.message_read.specs.declared.MessageFlaw.{MessageFlaw}
+use Rattle.message_read.specs.declared.MessageFlaw.TheVariants.{Structure, Field}
 use Rattle.message_read.specs.declared.Reply.{Reply}
 use Rattle.message_read.specs.Steps.{count_from, by_standing, judged_by, judged_at, judged_of, refusal, ReadGives}
 
@@ -50,7 +48,7 @@ module _ (k : EntryKind) (s : List ℕ) (from : ℕ) where
   count_start h = record { within = h; sum = omega arith; few = omega arith }
 
   module _ (i n r : ℕ) (t : Counted k s from i n) (e : r ≡ entry_row k) where
-    pub count_end : next_of (in_row r (kept_from MessaggiEsito s i)) ≡ Done → (n ≡ length (entries_of k s from)) × (n ≤ length s)
+    pub count_end : next_of (in_row r (kept_from MessaggiEsito s i)) ≡ None → (n ≡ length (entries_of k s from)) × (n ≤ length s)
     count_end d =
         let z : length (entries_of k s i) ≡ 0 = ap (λ (l : List Kept). length l) (row_end (in_row (entry_row k) (kept_from MessaggiEsito s i)) (rw e at d)) in
         let a = t.sum in
@@ -58,7 +56,7 @@ module _ (k : EntryKind) (s : List ℕ) (from : ℕ) where
         let c = t.within in
         (omega arith, omega arith)
 
-    module _ (x : Kept) (d : next_of (in_row r (kept_from MessaggiEsito s i)) ≡ Named x) where
+    module _ (x : Kept) (d : next_of (in_row r (kept_from MessaggiEsito s i)) ≡ Some x) where
       pub count_step : Counted k s from x.child.after (n + 1)
       count_step =
           let z = ap (λ (l : List Kept). length l) (row_at (entry_row k) MessaggiEsito s i x (rw e at d)).rest in
@@ -68,16 +66,16 @@ module _ (k : EntryKind) (s : List ℕ) (from : ℕ) where
           record { within = l.within; sum = omega arith; few = omega (arith, l.from, l.name, l.inner, l.ends) }
 
 -- JUDGING
-module _ (w : Standing) (off : Off) (n : ℕ) where
-  pub judged_few : n < 1 → Structure ≡ judged_by w off n
+module _ (w : Result Unit Flaw) (off : Option ℕ) (n : ℕ) where
+  pub judged_few : n < 1 → Err Structure ≡ judged_by w off n
   unfolding judged_by
   judged_few h = rw (lt-leb 1 n h)
 
-  pub judged_many : 1 ≤ n → 64 < n → Structure ≡ judged_by w off n
+  pub judged_many : 1 ≤ n → 64 < n → Err Structure ≡ judged_by w off n
   unfolding judged_by
   judged_many h k = rw (le-leb 1 n h, lt-leb n 64 k)
 
-  pub judged_is : 1 ≤ n → n ≤ 64 → {j : MessageStanding} → j ≡ by_standing w off n → j ≡ judged_by w off n
+  pub judged_is : 1 ≤ n → n ≤ 64 → {j : Result ℕ MessageFlaw} → j ≡ by_standing w off n → j ≡ judged_by w off n
   unfolding judged_by
   judged_is h k e = rw (le-leb 1 n h, le-leb n 64 k) e
 
@@ -104,7 +102,7 @@ head_length s ks =
     omega arith
 
 module _ (s values : List ℕ) (i n : ℕ) where
-  pub give_none : length values < 80 + 48 * n → ReadGives s values i (Stands n) (refusal 40 0 0) values
+  pub give_none : length values < 80 + 48 * n → ReadGives s values i (Ok n) (refusal 40 0 0) values
   give_none h = (rw (lt-leb (80 + 48 * n) (length values) h), rw (lt-leb (80 + 48 * n) (length values) h))
 
   module _ (h : 80 + 48 * n ≤ length values) (c : n ≡ count_from s i) where
@@ -118,7 +116,7 @@ module _ (s values : List ℕ) (i n : ℕ) where
     give_second to e = omega arith
 
     pub give_all : {u v x : List ℕ} {to : ℕ} {r : Reply} → u ≡ put values 0 (head_at s (kept_from MessaggiEsito s i)) → to ≡ 80 + 48 * length (entries_of Reversale s i)
-        → v ≡ put u 80 (entries_at Reversale s (entries_of Reversale s i)) → x ≡ put v to (entries_at Mandato s (entries_of Mandato s i)) → r ≡ record { code = 0; place = 0; cause = 0; entries = n } → ReadGives s values i (Stands n) r x
+        → v ≡ put u 80 (entries_at Reversale s (entries_of Reversale s i)) → x ≡ put v to (entries_at Mandato s (entries_of Mandato s i)) → r ≡ record { code = 0; place = 0; cause = 0; entries = n } → ReadGives s values i (Ok n) r x
     give_all {u} {v} {x} {to} {r} eu et ev ex er =
         let a = head_at s (kept_from MessaggiEsito s i) in
         let b = entries_at Reversale s (entries_of Reversale s i) in
@@ -131,39 +129,39 @@ module _ (s values : List ℕ) (i n : ℕ) where
         (rw (le-leb (80 + 48 * n) (length values) h) er, rw (le-leb (80 + 48 * n) (length values) h) (ex ∙ p ∙ q))
 
 -- THE CONTENT
-pub judged_made : (s : List ℕ) (at : ℕ) {w : Standing} {o : Off} {a b from : ℕ} → w ≡ standing_at 3 MessaggiEsito s at → from ≡ white_at s at → o ≡ off_from s from → a ≡ length (entries_of Reversale s from) → b ≡ length (entries_of Mandato s from)
+pub judged_made : (s : List ℕ) (at : ℕ) {w : Result Unit Flaw} {o : Option ℕ} {a b from : ℕ} → w ≡ standing_at 3 MessaggiEsito s at → from ≡ white_at s at → o ≡ off_from s from → a ≡ length (entries_of Reversale s from) → b ≡ length (entries_of Mandato s from)
     → judged_by w o (a + b) ≡ judged_at s at
 judged_made s at {w} {o} {a} {b} {from} ew ef eo ea eb = rw (ew, eo, ea, eb, ef)
 
-pub judged_stands : (w : Standing) (o : Off) (k n : ℕ) → judged_by w o k ≡ Stands n → (n ≡ k) × (n ≤ 64)
+pub judged_stands : (w : Result Unit Flaw) (o : Option ℕ) (k n : ℕ) → judged_by w o k ≡ Ok n → (n ≡ k) × (n ≤ 64)
 unfolding judged_by
 judged_stands w o k n e = go (count_ok k) refl w o e
   where
-    no : {A : Type 0} → Structure ≡ Stands n → A
+    no : {A : Type 0} → ◌≡◌ {A = Result ℕ MessageFlaw} (Err Structure) (Ok n) → A
     no h = let z : ◌≡◌ {A = ℕ} 0 1 = cc in absurd (omega arith)
 
-    not : {A : Type 0} {p : ℕ} {c : Cause} → Field p c ≡ Stands n → A
+    not : {A : Type 0} {p : ℕ} {c : Cause} → ◌≡◌ {A = Result ℕ MessageFlaw} (Err (Field p c)) (Ok n) → A
     not h = let z : ◌≡◌ {A = ℕ} 0 1 = cc in absurd (omega arith)
 
-    go : (b : Bool) → count_ok k ≡ b → (w : Standing) (o : Off) → cond b (by_standing w o k) Structure ≡ Stands n → (n ≡ k) × (n ≤ 64)
+    go : (b : Bool) → count_ok k ≡ b → (w : Result Unit Flaw) (o : Option ℕ) → cond b (by_standing w o k) (Err Structure) ≡ Ok n → (n ≡ k) × (n ≤ 64)
     go false c w o h = no h
-    go true c standing.StructureBreaks o h = no h
-    go true c (standing.FieldBreaks p x) (off.At q) h = both_not (leb p q) h
+    go true c (Err standing.StructureBreaks) o h = no h
+    go true c (Err (standing.FieldBreaks p x)) (Some q) h = both_not (leb p q) h
       where
-        both_not : (b : Bool) → cond b (Field p x) (Field q Misformed) ≡ Stands n → (n ≡ k) × (n ≤ 64)
+        both_not : (b : Bool) → cond b (Err (Field p x)) (Err (Field q Misformed)) ≡ Ok n → (n ≡ k) × (n ≤ 64)
         both_not true h = not h
         both_not false h = not h
-    go true c (standing.FieldBreaks p x) off.Nowhere h = not h
-    go true c standing.Stands (off.At q) h = not h
-    go true c standing.Stands off.Nowhere h = let z : k ≡ n = cc in let l = (in_range 1 64 k c).1 in (sym z, omega arith)
+    go true c (Err (standing.FieldBreaks p x)) None h = not h
+    go true c (Ok tt) (Some q) h = not h
+    go true c (Ok tt) None h = let z : k ≡ n = cc in let l = (in_range 1 64 k c).1 in (sym z, omega arith)
 
-pub gives_as : (s values : List ℕ) {i k : ℕ} {j q : MessageStanding} {r : Reply} {left : List ℕ} → k ≡ i → q ≡ j → ReadGives s values i j r left → ReadGives s values k q r left
+pub gives_as : (s values : List ℕ) {i k : ℕ} {j q : Result ℕ MessageFlaw} {r : Reply} {left : List ℕ} → k ≡ i → q ≡ j → ReadGives s values i j r left → ReadGives s values k q r left
 gives_as s values e f g = rw (e, f) g
 
 -- THE ROOT
 module _ (s values : List ℕ) (lt e at : ℕ) {b : Bool} (n : b ≡ name_is (bytes "messaggi_esito_applicativo") s (lt + 1) e) {r : Reply} {left : List ℕ} where
-  pub gives_other : b ≡ false → ReadGives s values (white_at s at) Structure r left → ReadGives s values (white_at s at) (judged_of s lt e at) r left
-  gives_other f g = gives_as s values {i = white_at s at} {k = white_at s at} {j = Structure} {q = judged_of s lt e at} refl (rw (sym n ∙ f)) g
+  pub gives_other : b ≡ false → ReadGives s values (white_at s at) (Err Structure) r left → ReadGives s values (white_at s at) (judged_of s lt e at) r left
+  gives_other f g = gives_as s values {i = white_at s at} {k = white_at s at} {j = Err Structure} {q = judged_of s lt e at} refl (rw (sym n ∙ f)) g
 
   pub gives_named : b ≡ true → ReadGives s values (white_at s at) (judged_at s at) r left → ReadGives s values (white_at s at) (judged_of s lt e at) r left
   gives_named f g = gives_as s values {i = white_at s at} {k = white_at s at} {j = judged_at s at} {q = judged_of s lt e at} refl (rw (sym n ∙ f)) g

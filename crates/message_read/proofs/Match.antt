@@ -1,4 +1,5 @@
 -- The children of a row are the trees of a name: what positions say of them, the tree says.
+use Rattle.std.specs.Prelude.{Some}
 use mathlib.Core.Path.{◌≡◌, refl, sym, ap, ◌∙◌}
 use mathlib.Core.List.{List, [], ◌∷◌}
 use mathlib.Core.Bool.{Bool, true}
@@ -18,7 +19,6 @@ use Rattle.schema.specs.declared.Parent.{Parent}
 use Rattle.schema.specs.declared.Holds.{Holds}
 use Rattle.schema.specs.declared.Holds.TheVariants.{Text}
 use Rattle.rows.specs.declared.Kept.{Kept}
-use Rattle.rows.specs.declared.Next.TheVariants.{Named}
 use Rattle.schema.specs.Table.{◌is◌, many}
 use Rattle.rows.specs.Kept.{kept_from, next_of}
 use Rattle.structure.specs.Structure.{text_only}
@@ -106,7 +106,7 @@ module _ (m : ℕ) (s : List ℕ) (deeper : Parent → Trees → Bool) (p : Pare
     pub shown_is : span_bytes (span_in n (kept_from p s i)) ≡ shown_named x (trees_from (suc m) s i)
     shown_is = go (in_row n (kept_from p s i)) (children_named (x ∷ []) (trees_from (suc m) s i)) (row_pairs (Text f) h) (λ k e. (row_at n p s i k e).lies)
       where
-        go : (ks : List Kept) (l : List Tree) → Pairs (tree_at (suc m) s) deeper (Text f) ks l → ((k : Kept) → next_of ks ≡ Named k → Lies s i k.child) → span_bytes (span_of_next (next_of ks)) ≡ shown l
+        go : (ks : List Kept) (l : List Tree) → Pairs (tree_at (suc m) s) deeper (Text f) ks l → ((k : Kept) → next_of ks ≡ Some k → Lies s i k.child) → span_bytes (span_of_next (next_of ks)) ≡ shown l
         go ks l pairs_none lies = refl
         go ks l (pairs_next {k = k} {t = t} e fits ps) lies =
             let c = k.child in

@@ -1,4 +1,5 @@
 -- No second answer keeps the promise of reading, and 3,152 bytes always suffice for the values.
+use Rattle.std.specs.Prelude.{Option, Some, None}
 use mathlib.Core.Path.{◌≡◌, refl, sym, ap, subst, ◌∙◌}
 use mathlib.Core.List.{List}
 use Prim.Native.Nat.{ℕ, ◌≤◌}
@@ -6,7 +7,6 @@ use native.Mathlib.Omega.{arith}
 use Rattle.scan.proofs.Laws.{in_range}
 use Rattle.words.specs.Numbers.{put}
 use Rattle.editions.specs.declared.Edition.{Edition}
-use Rattle.editions.specs.declared.Edited.TheVariants.{By, NoEdition}
 use Rattle.tree.specs.Tree.{Tree, held_of, kids_in}
 use Rattle.tree.proofs.Read.{reads_one}
 use Rattle.message.specs.Message.{Message, entry_count}
@@ -45,10 +45,10 @@ in_one s values r q v w (reads f l) (reads g k) =
 
 pub read_one : (ed : ℕ) (s values : List ℕ) (r q : Reply) (v w : List ℕ) → ReadPromise ed s values r v → ReadPromise ed s values q w → (r ≡ q) × (v ≡ w)
 read_one ed s values r q v w (no_edition x) (no_edition y) = (refl, refl)
-read_one ed s values r q v w (no_edition x) (by_edition_lem {e = e} y k) = let h : NoEdition ≡ By e = sym x ∙ y in let z : ◌≡◌ {A = ℕ} 0 1 = cc in absurd (omega arith)
-read_one ed s values r q v w (by_edition_lem {e = e} x k) (no_edition y) = let h : NoEdition ≡ By e = sym y ∙ x in let z : ◌≡◌ {A = ℕ} 0 1 = cc in absurd (omega arith)
+read_one ed s values r q v w (no_edition x) (by_edition_lem {e = e} y k) = let h : ◌≡◌ {A = Option Edition} (None) (Some e) = sym x ∙ y in let z : ◌≡◌ {A = ℕ} 0 1 = cc in absurd (omega arith)
+read_one ed s values r q v w (by_edition_lem {e = e} x k) (no_edition y) = let h : ◌≡◌ {A = Option Edition} (None) (Some e) = sym y ∙ x in let z : ◌≡◌ {A = ℕ} 0 1 = cc in absurd (omega arith)
 read_one ed s values r q v w (by_edition_lem {e = d} x k) (by_edition_lem {e = e} y j) =
-    let h : By e ≡ By d = sym y ∙ x in
+    let h : ◌≡◌ {A = Option Edition} (Some e) (Some d) = sym y ∙ x in
     let z : e ≡ d = cc in
     in_one s values r q v w k (subst (λ (i : Edition). ReadIn i s values q w) z j)
 

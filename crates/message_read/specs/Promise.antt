@@ -1,8 +1,7 @@
 -- Reading a message (document 02, Req 01): its answer, and every byte of the values that it leaves.
-use Rattle.std.specs.Prelude.{◌≡◌, List, ℕ, ◌≤◌, ◌<◌, length}
+use Rattle.std.specs.Prelude.{◌≡◌, List, ℕ, ◌≤◌, ◌<◌, length, Some, None}
 use Rattle.words.specs.Numbers.{put}
 use Rattle.editions.specs.declared.Edition.{Edition}
-use Rattle.editions.specs.declared.Edited.TheVariants.{By, NoEdition}
 use Rattle.editions.specs.Editions.{edition_of}
 use Rattle.flow.specs.Flow.{id_allowed}
 use Rattle.tree.specs.Tree.{Tree, held_of, kids_in, ReadsAs}
@@ -26,5 +25,5 @@ pub data ReadIn (e : Edition) (s values : List ℕ) : Reply → List ℕ → Typ
 
 -- THE PROMISE, of the edition's number ed (Req 05: "Refusals: 23, no such edition, after 1 and before 2")
 pub data ReadPromise (ed : ℕ) (s values : List ℕ) : Reply → List ℕ → Type 0 where
-  no_edition : edition_of ed ≡ NoEdition → ReadPromise ed s values (record { code = 23; place = 0; cause = 0; entries = 0 }) values
-  by_edition_lem : {e : Edition} {r : Reply} {left : List ℕ} → edition_of ed ≡ By e → ReadIn e s values r left → ReadPromise ed s values r left
+  no_edition : edition_of ed ≡ None → ReadPromise ed s values (record { code = 23; place = 0; cause = 0; entries = 0 }) values
+  by_edition_lem : {e : Edition} {r : Reply} {left : List ℕ} → edition_of ed ≡ Some e → ReadIn e s values r left → ReadPromise ed s values r left

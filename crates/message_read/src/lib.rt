@@ -8,18 +8,17 @@ ghost use Rattle.markup.specs.Noted.{Noted};
 ghost use Rattle.flow.specs.Flow.{id_allowed};
 ghost use Rattle.agreement.specs.Agreement.{entries_of};
 ghost use Rattle.message.specs.Read.{max_message};
-ghost use Rattle.message_read.specs.Steps.{count_from, earlier_of, by_off, judged_by, judged_at, judged_of, ReadGives};
+ghost use Rattle.message_read.specs.Steps.{count_from, earlier_of, by_off, by_standing, judged_by, judged_at, judged_of, ReadGives};
 ghost use Rattle.message_read.specs.Promise.{ReadIn, ReadPromise};
 
-use agreement::{EntryKind, Off};
-use editions::{Edited, Edition};
+use agreement::EntryKind;
+use editions::Edition;
 use fields::Cause;
-use markup::Markup;
-use rows::Next;
 use schema::Parent;
-use standing::Standing;
+use standing::Flaw;
 
 // Document 02's numbers of an answer: the code, the place and cause of a field that breaks, how many entries there are.
+// Code and values stand side by side, since C takes them one by one (`hondivole_message_read`).
 #[derive(Clone, Copy)]
 pub struct Reply {
     pub code: u64,
@@ -28,27 +27,19 @@ pub struct Reply {
     pub entries: u64,
 }
 
-// What a message's content comes to.
+// What breaks in a message's content.
 #[derive(Clone, Copy)]
-enum MessageStanding {
+enum MessageFlaw {
     Structure,
     Field(usize, Cause),
-    Stands(usize),
-}
-
-fn wide(n: usize) -> u64
-    ensures { result ≡ n }
-{
-    n as u64
 }
 
 fn refusal(code: u64, place: usize, cause: u64) -> Reply
     ensures { result ≡ record { code = code; place = place; cause = cause; entries = 0 } }
 {
-    let place = wide(place);
     Reply {
         code,
-        place,
+        place: place as u64,
         cause,
         entries: 0,
     }
@@ -61,66 +52,68 @@ fn count_entries(s: &[u8], from: usize, kind: EntryKind, past: &[u32]) -> usize
 {
     let mut i = from;
     let mut n: usize = 0;
-    loop {
-        let Next::Named(k) = parts::next_row(
-            s,
-            i,
-            Parent::MessaggiEsito,
-            agreement::entry_row(kind),
-            past,
-        ) else {
-            return n;
-        };
+    while let Some(k) = parts::next_row(
+        s,
+        i,
+        Parent::MessaggiEsito,
+        agreement::entry_row(kind),
+        past,
+    ) {
         let c = k.child;
         n += 1;
         i = c.after;
     }
+    n
 }
 
 // The earlier of a field that breaks and an element that doesn't agree, which is of the wrong form.
-fn earlier(p: usize, x: Cause, off: Off) -> MessageStanding
+fn earlier(p: usize, x: Cause, off: Option<usize>) -> Result<usize, MessageFlaw>
     ensures { result ≡ earlier_of p x off }
 {
     match off {
-        Off::At(q) => {
+        Some(q) => {
             if p <= q {
-                MessageStanding::Field(p, x)
+                Err(MessageFlaw::Field(p, x))
             } else {
-                MessageStanding::Field(q, Cause::Misformed)
+                Err(MessageFlaw::Field(q, Cause::Misformed))
             }
         }
-        Off::Nowhere => MessageStanding::Field(p, x),
+        None => Err(MessageFlaw::Field(p, x)),
     }
 }
 
-fn by_off(off: Off, n: usize) -> MessageStanding
+fn by_off(off: Option<usize>, n: usize) -> Result<usize, MessageFlaw>
     ensures { result ≡ by_off off n }
 {
     match off {
-        Off::At(q) => MessageStanding::Field(q, Cause::Misformed),
-        Off::Nowhere => MessageStanding::Stands(n),
+        Some(q) => Err(MessageFlaw::Field(q, Cause::Misformed)),
+        None => Ok(n),
+    }
+}
+
+// What a message of as many entries as it may have comes to: its structure, then the first element that breaks.
+fn stood(w: Result<(), Flaw>, off: Option<usize>, n: usize) -> Result<usize, MessageFlaw>
+    ensures { result ≡ by_standing w off n }
+{
+    match w {
+        Err(Flaw::StructureBreaks) => Err(MessageFlaw::Structure),
+        Err(Flaw::FieldBreaks(p, x)) => earlier(p, x, off),
+        Ok(()) => by_off(off, n),
     }
 }
 
 // Structure first, with 1 to 64 entries in all; then the first element that breaks.
-fn settle(w: Standing, off: Off, n: usize) -> MessageStanding
+fn settle(w: Result<(), Flaw>, off: Option<usize>, n: usize) -> Result<usize, MessageFlaw>
     ensures { result ≡ judged_by w off n }
 {
-    if n < 1 {
-        return MessageStanding::Structure;
+    if n < 1 || 64 < n {
+        return Err(MessageFlaw::Structure);
     }
-    if 64 < n {
-        return MessageStanding::Structure;
-    }
-    match w {
-        Standing::StructureBreaks => MessageStanding::Structure,
-        Standing::FieldBreaks(p, x) => earlier(p, x, off),
-        Standing::Stands => by_off(off, n),
-    }
+    stood(w, off, n)
 }
 
 // The content of a message's root.
-fn judge_content(s: &[u8], at: usize, past: &[u32]) -> MessageStanding
+fn judge_content(s: &[u8], at: usize, past: &[u32]) -> Result<usize, MessageFlaw>
     requires { (at ≤ length s.now) × (length s.now ≤ max_message) × Noted s.now past.now }
     ensures { result ≡ judged_at s.now at }
 {
@@ -134,7 +127,7 @@ fn judge_content(s: &[u8], at: usize, past: &[u32]) -> MessageStanding
 // The values of a message of n entries, its root's children from a place on: 40, or they are written.
 fn give(s: &[u8], from: usize, n: usize, values: &mut [u8], past: &[u32]) -> Reply
     requires { (from ≤ length s.now) × (n ≡ count_from s.now from) × (n ≤ 64) × Noted s.now past.now }
-    ensures { ReadGives s.now values.old from (MessageStanding.Stands n) result values.new }
+    ensures { ReadGives s.now values.old from (Ok n) result values.new }
 {
     if values.len() < message_values::HEAD + message_values::ENTRY * n {
         return refusal(40, 0, 0);
@@ -149,12 +142,11 @@ fn give(s: &[u8], from: usize, n: usize, values: &mut [u8], past: &[u32]) -> Rep
         past,
     );
     message_values::put_entries(values, to, s, from, EntryKind::Mandato, past);
-    let entries = wide(n);
     Reply {
         code: 0,
         place: 0,
         cause: 0,
-        entries,
+        entries: n as u64,
     }
 }
 
@@ -164,9 +156,9 @@ fn read_content(s: &[u8], at: usize, values: &mut [u8], past: &[u32]) -> Reply
     ensures { ReadGives s.now values.old (white_at s.now at) (judged_at s.now at) result values.new }
 {
     match judge_content(s, at, past) {
-        MessageStanding::Structure => refusal(4, 0, 0),
-        MessageStanding::Field(p, x) => refusal(5, p, fields::cause_number(x)),
-        MessageStanding::Stands(n) => give(s, scan::white_end(s, at), n, values, past),
+        Err(MessageFlaw::Structure) => refusal(4, 0, 0),
+        Err(MessageFlaw::Field(p, x)) => refusal(5, p, fields::cause_number(x)),
+        Ok(n) => give(s, scan::white_end(s, at), n, values, past),
     }
 }
 
@@ -186,10 +178,7 @@ fn read_root(s: &[u8], lt: usize, e: usize, at: usize, values: &mut [u8], past: 
 fn id_allowed(e: Edition) -> bool
     ensures { result ≡ id_allowed e }
 {
-    match e {
-        Edition::Oil => false,
-        Edition::Opi => true,
-    }
+    matches!(e, Edition::Opi)
 }
 
 // Reads a message that is not too long, noting in `past` where its elements end.
@@ -197,10 +186,9 @@ fn read_noted(s: &[u8], ed: Edition, values: &mut [u8], past: &mut [u32]) -> Rep
     requires { (length s.now ≤ max_message) × Noted s.now past.old }
     ensures { ReadIn ed s.now values.old result values.new }
 {
-    let ids = id_allowed(ed);
-    match markup::markup_noted(s, ids, past) {
-        Markup::Root(lt, e, at) => read_root(s, lt, e, at, values, past),
-        Markup::Breaks(_) => refusal(3, 0, 0),
+    match markup::markup_noted(s, id_allowed(ed), past) {
+        Ok((lt, e, at)) => read_root(s, lt, e, at, values, past),
+        Err(_) => refusal(3, 0, 0),
     }
 }
 
@@ -219,7 +207,7 @@ pub fn read_in(s: &[u8], ed: Edition, values: &mut [u8]) -> Reply
 pub fn read_message(edition: u64, s: &[u8], values: &mut [u8]) -> Reply
     ensures { ReadPromise edition s.now values.old result values.new }
 {
-    let Edited::By(e) = editions::edition_of(edition) else {
+    let Some(e) = editions::edition_of(edition) else {
         return refusal(23, 0, 0);
     };
     read_in(s, e, values)

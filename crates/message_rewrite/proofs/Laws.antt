@@ -1,12 +1,10 @@
 -- A message written from its values: an entry, the entries while they are walked, the header.
 use mathlib.Core.Path.{◌≡◌, refl, sym, ap, subst, ◌∙◌}
 use mathlib.Core.List.{List}
-use Prim.Native.Nat.{ℕ, zero, suc, ◌+◌, ◌*◌, ◌-◌, ◌≤◌}
+use Prim.Native.Nat.{ℕ, zero, suc, ◌+◌, ◌*◌, ◌≤◌}
 use native.Mathlib.Omega.{arith}
 use lib.ListN.{length}
-use borrow.Author.Tests.{eq-eqb, ne_eqb}
 use Rattle.words.specs.Numbers.{be4}
-use Rattle.codes.specs.declared.Operation.TheVariants.{Inserimento, Variazione, Annullo, Sostituzione}
 use Rattle.tree.specs.Tree.{Tree, Trees}
 use Rattle.tree.specs.Written.{node}
 use Rattle.message.specs.Written.{entry_out}
@@ -15,23 +13,7 @@ use Rattle.message_pen.specs.declared.Saying.{Saying}
 use Rattle.message_pen.specs.declared.Given.{Given}
 use Rattle.message_pen.specs.Parts.{RoomFor, WroteAll, RoomOf, WroteTree, words_for, entry_name, entry_with, text_at, Lies, GivenIn, beginning_in}
 use Rattle.message_pen.proofs.Laws.{wrote_none, first_room, first_rest, wrote_first}
-use Rattle.message_rewrite.specs.Again.{span_at, text_shown, PairAt, operation_by, said_at, entry_again, EntryAt, entries_again, EntriesAt, an_entry, given_at, head_again, HeadAt}
-
--- AN OPERATION by its number
-module _ (n : ℕ) where
-  pub by_first : n ≡ 1 → Inserimento ≡ operation_by n
-  by_first e = rw (eq-eqb n 1 e)
-
-  module _ (a : n ≡ 1 → ⊥) where
-    pub by_second : n ≡ 2 → Variazione ≡ operation_by n
-    by_second e = rw (ne_eqb n 1 a, eq-eqb n 2 e)
-
-    module _ (b : n ≡ 2 → ⊥) where
-      pub by_third : n ≡ 3 → Annullo ≡ operation_by n
-      by_third e = rw (ne_eqb n 1 a, ne_eqb n 2 b, eq-eqb n 3 e)
-
-      pub by_fourth : (n ≡ 3 → ⊥) → Sostituzione ≡ operation_by n
-      by_fourth c = rw (ne_eqb n 1 a, ne_eqb n 2 b, ne_eqb n 3 c)
+use Rattle.message_rewrite.specs.Again.{span_at, text_shown, PairAt, said_at, entry_again, EntryAt, entries_again, EntriesAt, an_entry, given_at, head_again, HeadAt}
 
 -- AN ENTRY from what was read of it
 module _ (s v : List ℕ) (at : ℕ) {x : Saying} {flow time : List ℕ} (a : x ≡ said_at v at) (b : flow ≡ text_shown s v (at + 24)) (c : time ≡ text_shown s v (at + 32)) where
@@ -75,13 +57,13 @@ module _ (s v : List ℕ) (n to : ℕ) (m₀ : List ℕ) where
   going_here {m = m} {left = zero} {at = at} {a = a} g k = absurd (k refl)
   going_here {m = m} {left = suc left} {at = at} {a = a} g k = let l = g.there in record { there = omega arith; entry = (first_of g.entries).0; room = first_room g.room }
 
-  pub going_step : {m m' : List ℕ} {left at a q : ℕ} → Going s v n to m₀ m left at a → (left ≡ 0 → ⊥) → WroteTree m m' a (entry_again s v at) q → Going s v n to m₀ m' (left - 1) (at + 48) q
+  pub going_step : {m m' : List ℕ} {left at a q : ℕ} → Going s v n to m₀ m left at a → (left ≡ 0 → ⊥) → WroteTree m m' a (entry_again s v at) q → (left' at' : ℕ) → left' + 1 ≡ left → at' ≡ at + 48 → Going s v n to m₀ m' left' at' q
   unfolding entries_again
-  going_step {m = m} {m' = m'} {left = zero} {at = at} {a = a} {q = q} g k w = absurd (k refl)
-  going_step {m = m} {m' = m'} {left = suc left} {at = at} {a = a} {q = q} g k w =
-      let z : suc left - 1 ≡ left = omega arith in
+  going_step {m = m} {m' = m'} {left = zero} {at = at} {a = a} {q = q} g k w left' at' e f = absurd (k refl)
+  going_step {m = m} {m' = m'} {left = suc left} {at = at} {a = a} {q = q} g k w left' at' e f =
+      let z : left' ≡ left = omega arith in
       let l = g.there in
-      rw z (record {
+      rw (z, f) (record {
         entries = (first_of g.entries).1;
         there = omega arith;
         room = first_rest g.room w;

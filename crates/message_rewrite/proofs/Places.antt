@@ -1,4 +1,5 @@
 -- The text of an element stands where its tree says: after its start tag, in the message itself.
+use Rattle.std.specs.Prelude.{Option, Some, None}
 use mathlib.Core.Path.{◌≡◌, refl, sym, ap, ◌∙◌}
 use mathlib.Core.List.{List, [], ◌∷◌}
 use mathlib.Core.Bool.{Bool, true, false, cond, ◌||◌}
@@ -11,8 +12,6 @@ use Rattle.tokens.specs.Tokens.{white_at}
 use Rattle.grammar.specs.Grammar.{start_tag, content_place}
 use Rattle.grammar.proofs.Parts.{part_length, part_none}
 use Rattle.children.specs.declared.Child.{Child}
-use Rattle.children.specs.declared.Step.{Step}
-use Rattle.children.specs.declared.Step.TheVariants.{One, End}
 use Rattle.children.specs.Child.{child_at, then_from, children_up_to, children_from}
 use Rattle.children.proofs.Laws.{Lies, child_lies}
 use Rattle.tree.specs.Tree.{Tree, tree, Trees, none, more, name_of, held_of, kids_in, ReadsAs}
@@ -74,9 +73,9 @@ module _ (P : Tree → Type 0) (m : ℕ) (s : List ℕ) (each : (c : Child) (i :
   all_by zero i = all_none
   all_by (suc n) i = go (child_at s i) refl (all_by n)
     where
-      go : (w : Step) → child_at s i ≡ w → ((j : ℕ) → AllIn P (trees_by (tree_at m s) (children_up_to n s j))) → AllIn P (trees_by (tree_at m s) (then_from w (children_up_to n s)))
-      go (One c) e ih = all_more (each c i (child_lies s i c e).1) (ih c.after)
-      go End e ih = all_none
+      go : (w : Option Child) → child_at s i ≡ w → ((j : ℕ) → AllIn P (trees_by (tree_at m s) (children_up_to n s j))) → AllIn P (trees_by (tree_at m s) (then_from w (children_up_to n s)))
+      go (Some c) e ih = all_more (each c i (child_lies s i c e).1) (ih c.after)
+      go None e ih = all_none
 
   all_from : (i : ℕ) → AllIn P (trees_from m s i)
   unfolding children_from

@@ -1,9 +1,8 @@
 -- A MESSAGE READ AND WRITTEN AGAIN (document 02, Req 01: "whatever is read and written again has the same meaning"): its answer, and every byte of the
 -- buffer that it leaves. Refusals: 2 to 5 of the message, then 40.
-use Rattle.std.specs.Prelude.{◌≡◌, List, ℕ, ◌≤◌, ◌<◌, length}
+use Rattle.std.specs.Prelude.{◌≡◌, List, ℕ, ◌≤◌, ◌<◌, length, Some, None}
 use Rattle.words.specs.Numbers.{put}
 use Rattle.editions.specs.declared.Edition.{Edition}
-use Rattle.editions.specs.declared.Edited.TheVariants.{By, NoEdition}
 use Rattle.editions.specs.Editions.{edition_of}
 use Rattle.message.specs.Message.{Message}
 use Rattle.message.specs.Written.{message_bytes}
@@ -22,5 +21,5 @@ pub data RewriteIn (e : Edition) (s b : List ℕ) : RewriteReply → List ℕ �
 
 -- THE PROMISE, of the edition's number ed (Req 05: "Refusals: 23, no such edition, after 1 and before 2")
 pub data RewritePromise (ed : ℕ) (s b : List ℕ) : RewriteReply → List ℕ → Type 0 where
-  no_edition : edition_of ed ≡ NoEdition → RewritePromise ed s b (record { code = 23; length = 0 }) b
-  by_edition_lem : {e : Edition} {r : RewriteReply} {left : List ℕ} → edition_of ed ≡ By e → RewriteIn e s b r left → RewritePromise ed s b r left
+  no_edition : edition_of ed ≡ None → RewritePromise ed s b (record { code = 23; length = 0 }) b
+  by_edition_lem : {e : Edition} {r : RewriteReply} {left : List ℕ} → edition_of ed ≡ Some e → RewriteIn e s b r left → RewritePromise ed s b r left

@@ -9,11 +9,12 @@ ghost use Rattle.message_rewrite.specs.Promise.{RewriteIn, RewritePromise};
 
 use calendar::Date;
 use codes::Operation;
-use editions::{Edited, Edition};
+use editions::Edition;
 use header::Span;
 use message_pen::{Given, Saying};
 
 // Document 02's numbers of an answer.
+// Code and values stand side by side, since C takes them one by one (`hondivole_message_rewrite`).
 #[derive(Clone, Copy)]
 pub struct RewriteReply {
     pub code: u64,
@@ -38,29 +39,18 @@ fn text_at<'a>(s: &'a [u8], v: &[u8], at: usize) -> &'a [u8]
     requires { PairAt s.now v.now at }
     ensures { result.now ≡ text_shown s.now v.now at }
 {
-    let w = span_at(v, at);
-    header::part_at(s, w)
+    header::part_at(s, span_at(v, at))
 }
 
 fn operation_by(n: u8) -> Operation
     ensures { result ≡ operation_by n }
 {
-    if n == 1 {
-        return Operation::Inserimento;
+    match n {
+        1 => Operation::Inserimento,
+        2 => Operation::Variazione,
+        3 => Operation::Annullo,
+        _ => Operation::Sostituzione,
     }
-    if n == 2 {
-        return Operation::Variazione;
-    }
-    if n == 3 {
-        return Operation::Annullo;
-    }
-    Operation::Sostituzione
-}
-
-fn wide(x: u8) -> u64
-    ensures { result ≡ x }
-{
-    x as u64
 }
 
 // What an entry says but for its texts, of its 48 bytes.
@@ -70,13 +60,13 @@ fn said_at(v: &[u8], at: usize) -> Saying
 {
     let date = Date {
         year: words::read2(v, at + 12),
-        month: wide(scan::byte(v, at + 14)),
-        day: wide(scan::byte(v, at + 15)),
+        month: u64::from(scan::byte(v, at + 14)),
+        day: u64::from(scan::byte(v, at + 15)),
     };
     Saying {
         kind: scan::byte(v, at),
         operation: operation_by(scan::byte(v, at + 1)),
-        code: wide(scan::byte(v, at + 2)),
+        code: u64::from(scan::byte(v, at + 2)),
         esercizio: words::read2(v, at + 4),
         number: words::read4(v, at + 8),
         date,
@@ -89,10 +79,9 @@ fn entry_again(m: &mut [u8], to: usize, s: &[u8], v: &[u8], at: usize) -> usize
     requires { (at + 48 ≤ length v.now) × EntryAt s.now v.now at × RoomOf to (entry_again s.now v.now at) }
     ensures { WroteTree m.old m.new to (entry_again s.now v.now at) result }
 {
-    let said = said_at(v, at);
     let flow = text_at(s, v, at + 24);
     let time = text_at(s, v, at + 32);
-    message_pen::entry(m, to, said, flow, time)
+    message_pen::entry(m, to, said_at(v, at), flow, time)
 }
 
 // The n entries.
@@ -100,13 +89,9 @@ fn entries_again(m: &mut [u8], to: usize, s: &[u8], v: &[u8], n: usize) -> usize
     requires { (80 + 48 * n ≤ length v.now) × EntriesAt s.now v.now 80 n × RoomFor to (entries_again s.now v.now 80 n) }
     ensures { WroteAll m.old m.new to (entries_again s.now v.now 80 n) result }
 {
-    let mut left = n;
-    let mut at: usize = 80;
     let mut a = to;
-    while left != 0 {
-        a = entry_again(m, a, s, v, at);
-        at += 48;
-        left -= 1;
+    for k in 0..n {
+        a = entry_again(m, a, s, v, 80 + 48 * k);
     }
     a
 }
@@ -135,8 +120,7 @@ fn head_again(m: &mut [u8], to: usize, s: &[u8], v: &[u8]) -> usize
 {
     let abi = text_at(s, v, 0);
     let body = text_at(s, v, 64);
-    let g = given_at(v);
-    message_pen::beginning(m, to, abi, s, g, body)
+    message_pen::beginning(m, to, abi, s, given_at(v), body)
 }
 
 // The whole message.
@@ -156,12 +140,6 @@ fn no_message(code: u64) -> RewriteReply
     RewriteReply { code, length: 0 }
 }
 
-fn count_of(n: usize) -> u64
-    ensures { result ≡ n }
-{
-    n as u64
-}
-
 // Counted first, then 40, or it is written.
 fn counted(b: &mut [u8], s: &[u8], v: &[u8], n: usize) -> RewriteReply
     requires { (80 + 48 * n ≤ length v.now) × AllAt s.now v.now n × RoomOf 0 (message_again s.now v.now n) }
@@ -173,8 +151,10 @@ fn counted(b: &mut [u8], s: &[u8], v: &[u8], n: usize) -> RewriteReply
     if b.len() < to {
         return no_message(40);
     }
-    let length = count_of(again(b, s, v, n));
-    RewriteReply { code: 0, length }
+    RewriteReply {
+        code: 0,
+        length: again(b, s, v, n) as u64,
+    }
 }
 
 // Reads a message of an edition and writes it again.
@@ -193,7 +173,7 @@ fn rewrite_in(s: &[u8], ed: Edition, b: &mut [u8]) -> RewriteReply
 pub fn rewrite_message(edition: u64, s: &[u8], b: &mut [u8]) -> RewriteReply
     ensures { RewritePromise edition s.now b.old result b.new }
 {
-    let Edited::By(e) = editions::edition_of(edition) else {
+    let Some(e) = editions::edition_of(edition) else {
         return no_message(23);
     };
     rewrite_in(s, e, b)

@@ -1,4 +1,5 @@
 -- Values written one after the other.
+use Rattle.std.specs.Prelude.{Option, Some, None}
 use mathlib.Core.Path.{◌≡◌, refl, sym, ap, ◌∙◌}
 use mathlib.Core.List.{List, [], ◌∷◌, ◌++◌}
 use mathlib.Core.Bool.{Bool, true, false, cond}
@@ -12,15 +13,12 @@ use Rattle.digits.proofs.Laws.{refusal_in}
 use Rattle.tokens.specs.Tokens.{white_at}
 use Rattle.calendar.specs.declared.Date.{Date}
 use Rattle.codes.specs.Codes.{operation_number, esito_operazione}
-use Rattle.digits.specs.declared.Number.{Number}
-use Rattle.digits.specs.declared.Number.TheVariants.{Value, NoNumber}
 use Rattle.digits.specs.Digits.{digits, within, esercizio, numero, importo, codice_errore, is_refusal}
 use Rattle.dates.specs.Dates.{data_of}
 use Rattle.words.specs.Numbers.{put, bytes2, bytes4, bytes8}
 use Rattle.words.proofs.Laws.{length_put, put_nil, put_put}
 use Rattle.schema.specs.declared.Parent.TheVariants.{MessaggiEsito, TestataMessaggio}
 use Rattle.rows.specs.declared.Kept.{Kept}
-use Rattle.rows.specs.declared.Next.TheVariants.{Named, Done}
 use Rattle.rows.specs.Kept.{kept_from, next_of}
 use Rattle.orders.specs.Orders.{in_row, value_of, date_of, inside_of}
 use Rattle.parts.specs.declared.Span.{Span}
@@ -38,13 +36,13 @@ pub code_small : (t : List ℕ) → value_of (codice_errore t) ≤ 255
 unfolding codice_errore
 code_small t = go (digits 2 2 t)
   where
-    by : (v : ℕ) (b : Bool) → is_refusal v ≡ b → value_of (cond b (Value v) NoNumber) ≤ 255
+    by : (v : ℕ) (b : Bool) → is_refusal v ≡ b → value_of (cond b (Some v) None) ≤ 255
     by v true e = let r = (refusal_in v e).1 in omega arith
     by v false e = omega arith
 
-    go : (n : Number) → value_of (within is_refusal n) ≤ 255
-    go (Value v) = by v (is_refusal v) refl
-    go NoNumber = omega arith
+    go : (n : Option ℕ) → value_of (within is_refusal n) ≤ 255
+    go (Some v) = by v (is_refusal v) refl
+    go None = omega arith
 
 module _ (k : EntryKind) (s : List ℕ) (list : Span) where
   pub code_none : list.to ≡ 0 → 0 ≡ error_code_at k s list
@@ -139,14 +137,14 @@ module _ (k : EntryKind) (s before : List ℕ) (from at : ℕ) (h : at + 48 * le
   entries_start w = record { within = w; size = refl; place = refl; rest = refl }
 
   module _ (values : List ℕ) (to i n : ℕ) (t : Entries k s before from at values to i) (r : n ≡ entry_row k) where
-    pub entries_end : next_of (in_row n (kept_from MessaggiEsito s i)) ≡ Done → (to ≡ at + 48 * length (entries_of k s from)) × (values ≡ put before at (entries_at k s (entries_of k s from)))
+    pub entries_end : next_of (in_row n (kept_from MessaggiEsito s i)) ≡ None → (to ≡ at + 48 * length (entries_of k s from)) × (values ≡ put before at (entries_at k s (entries_of k s from)))
     unfolding entries_at
     entries_end e =
         let z : entries_of k s i ≡ [] = row_end _ (rw r at e) in
         let p : to + 48 * 0 ≡ at + 48 * length (entries_of k s from) = rw z at t.place in
         (omega arith, sym (put_nil values to) ∙ rw z at t.rest)
 
-    module _ (x : Kept) (e : next_of (in_row n (kept_from MessaggiEsito s i)) ≡ Named x) where
+    module _ (x : Kept) (e : next_of (in_row n (kept_from MessaggiEsito s i)) ≡ Some x) where
       rest_is : entries_of k s i ≡ x ∷ entries_of k s x.child.after
       rest_is = (row_at (entry_row k) MessaggiEsito s i x (rw r at e)).rest
 

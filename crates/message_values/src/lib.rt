@@ -20,10 +20,7 @@ ghost use Rattle.message_values.specs.Values.{entry_room, header_room, kind_numb
 use agreement::EntryKind;
 use calendar::Date;
 use codes::{Esito, Operation};
-use dates::Day;
-use digits::Number;
 use parts::Span;
-use rows::Next;
 use schema::Parent;
 
 pub const ENTRY: usize = 48;
@@ -51,12 +48,12 @@ fn kind_number(k: EntryKind) -> u8
     }
 }
 
-fn date_of(d: Day) -> Date
+fn date_of(d: Option<Date>) -> Date
     ensures { result ≡ date_of d }
 {
     match d {
-        Day::On(date) => date,
-        Day::NoDay => Date {
+        Some(date) => date,
+        None => Date {
             year: 0,
             month: 0,
             day: 0,
@@ -64,23 +61,22 @@ fn date_of(d: Day) -> Date
     }
 }
 
-fn operation_of(e: Esito) -> Operation
+fn operation_of(e: Option<Esito>) -> Operation
     ensures { result ≡ operation_in e }
 {
     match e {
-        Esito::Accepted(o) => o,
-        Esito::Refused(o) => o,
-        Esito::NoEsito => Operation::Sostituzione,
+        Some(Esito::Accepted(o)) | Some(Esito::Refused(o)) => o,
+        None => Operation::Sostituzione,
     }
 }
 
-fn small(n: Number) -> u8
+fn small(n: Option<u64>) -> u8
     requires { value_of n ≤ 255 }
     ensures { result ≡ value_of n }
 {
     match n {
-        Number::Value(v) => v as u8,
-        Number::NoNumber => 0,
+        Some(v) => v as u8,
+        None => 0,
     }
 }
 
@@ -183,19 +179,13 @@ fn put_facts(values: &mut [u8], at: usize, f: Facts)
     words::write8(values, at + 16, f.total);
 }
 
-fn wide(n: usize) -> u64
-    ensures { result ≡ n }
-{
-    n as u64
-}
-
 // Where a text begins, and its length.
 fn put_span(values: &mut [u8], at: usize, w: Span)
     requires { (at + 8 ≤ length values.old) × (w.from ≤ w.to) }
     ensures { values.new ≡ put values.old at (span_bytes w) }
 {
-    words::write4(values, at, wide(w.from));
-    words::write4(values, at + 4, wide(w.to - w.from));
+    words::write4(values, at, w.from as u64);
+    words::write4(values, at + 4, (w.to - w.from) as u64);
 }
 
 // Nine texts.
@@ -203,10 +193,8 @@ fn put_spans(values: &mut [u8], each: [Span; 9])
     requires { (72 ≤ length values.old) × ((n : ℕ) → n < 9 → (get_or each n no_span).from ≤ (get_or each n no_span).to) }
     ensures { values.new ≡ put values.old 0 (spans_bytes each) }
 {
-    let mut i: usize = 0;
-    while i < 9 {
-        put_span(values, 8 * i, each[i]);
-        i += 1;
+    for (i, &w) in each.iter().enumerate() {
+        put_span(values, 8 * i, w);
     }
 }
 
@@ -228,9 +216,7 @@ fn put_entry(values: &mut [u8], at: usize, s: &[u8], from: usize, kind: EntryKin
 {
     let each = parts::parts_of(s, from, agreement::entry_parent(kind), past);
     let f = facts_of(s, each, kind, past);
-    let flow = each[0];
-    let time = each[7];
-    put_parts(values, at, f, flow, time);
+    put_parts(values, at, f, each[0], each[7]);
 }
 
 // The entries of a kind among the root's children from a place on: where the next would stand.
@@ -249,15 +235,13 @@ pub fn put_entries(
     let row = agreement::entry_row(kind);
     let mut to = at;
     let mut i = from;
-    loop {
-        let Next::Named(k) = parts::next_row(s, i, Parent::MessaggiEsito, row, past) else {
-            return to;
-        };
+    while let Some(k) = parts::next_row(s, i, Parent::MessaggiEsito, row, past) {
         let c = k.child;
         put_entry(values, to, s, scan::white_end(s, c.gt + 1), kind, past);
         to += ENTRY;
         i = c.after;
     }
+    to
 }
 
 // The header, of the root's children from a place on.
@@ -266,14 +250,12 @@ pub fn put_head(values: &mut [u8], s: &[u8], from: usize, past: &[u32])
     ensures { values.new ≡ put values.old 0 (head_at s.now (kept_from MessaggiEsito s.now from)) }
 {
     let root = parts::parts_of(s, from, Parent::MessaggiEsito, past);
-    let testata = root[0];
-    let flow = root[1];
     let each = parts::parts_of(
         s,
-        scan::white_end(s, testata.from),
+        scan::white_end(s, root[0].from),
         Parent::TestataMessaggio,
         past,
     );
     put_spans(values, each);
-    put_span(values, 72, flow);
+    put_span(values, 72, root[1]);
 }

@@ -1,4 +1,5 @@
 -- The writer of a flow's message: entries while the orders are walked, the whole, and one law for each way out of the call.
+use Rattle.std.specs.Prelude.{Option, Result, Some, None, Ok, Err}
 use mathlib.Core.Path.{◌≡◌, refl, sym, ap, subst, ◌∙◌}
 use mathlib.Core.List.{List, [], ◌∷◌}
 use mathlib.Core.Bool.{Bool, true, false, cond, ◌&&◌, and-false}
@@ -16,7 +17,6 @@ use Rattle.tokens.specs.Tokens.{white_at}
 use Rattle.markup.specs.Noted.{Noted}
 use Rattle.schema.specs.declared.Parent.{Parent}
 use Rattle.rows.specs.declared.Kept.{Kept}
-use Rattle.rows.specs.declared.Next.TheVariants.{Named, Done}
 use Rattle.rows.specs.Kept.{kept_from, next_of}
 use Rattle.structure.proofs.Laws.{fits_parts}
 use Rattle.order.specs.declared.Order.{Order}
@@ -24,8 +24,6 @@ use Rattle.order.specs.Ordinativo.{Ordinativo, ordinativo}
 use Rattle.orders.specs.Shape.{Filled}
 use Rattle.orders.specs.Orders.{those, is_order, order_of}
 use Rattle.editions.specs.declared.Edition.{Edition}
-use Rattle.editions.specs.declared.Edited.{Edited}
-use Rattle.editions.specs.declared.Edited.TheVariants.{By, NoEdition}
 use Rattle.editions.specs.Editions.{edition_of}
 use Rattle.header.specs.Header.{root_of, header_in}
 use Rattle.orders.proofs.Laws.{OrderAt, order_at, orders_end, standing}
@@ -33,8 +31,8 @@ use Rattle.header.specs.declared.Span.{Span}
 use Rattle.header.specs.declared.Heading.{Heading}
 use Rattle.header.specs.Heading.{root_rows, heading_from, header_by, Within}
 use Rattle.header.proofs.Laws.{heading_header, heading_within}
-use Rattle.flow.specs.declared.Verdict.{Verdict}
-use Rattle.flow.specs.declared.Verdict.TheVariants.{MarkupBreaks, StructureBreaks, FieldBreaks, Stands}
+use Rattle.flow.specs.declared.Breakage.{Breakage}
+use Rattle.flow.specs.declared.Breakage.TheVariants.{MarkupBreaks, StructureBreaks, FieldBreaks}
 use Rattle.flow.specs.Flow.{verdict_of, flow_orders}
 use Rattle.flow.proofs.Laws.{flow_stood}
 use Rattle.grammar.specs.Grammar.{start_tag, end_tag}
@@ -54,8 +52,8 @@ use Rattle.message_fit.specs.Fit.{caller_ok}
 use Rattle.message_fit.specs.Holding.{caller_in, HeldIn, Holds}
 use Rattle.message_fit.specs.Walk.{orders_from, Rooted}
 use Rattle.message_fit.proofs.Laws.{drop_byte, drop_first, caller_told}
-use Rattle.message_write.specs.declared.WriteAnswer.{WriteAnswer}
-use Rattle.message_write.specs.declared.WriteAnswer.TheVariants.{UnknownEdition, TooLong, Unfit, NoRoom, Written}
+use Rattle.message_write.specs.declared.WriteRefusal.{WriteRefusal}
+use Rattle.message_write.specs.declared.WriteRefusal.TheVariants.{UnknownEdition, TooLong, Unfit, NoRoom}
 use Rattle.message_write.specs.Write.{writes, writing_of, write_in, write_by, Leaves, WritePromise}
 use Rattle.message_write.specs.Parts.{entry_if, kind_out, entry_here, kind_from, header_with, flow_name, message_at, message_by, Written as Made}
 
@@ -86,11 +84,11 @@ module _ (root : Parent) (f past out : List ℕ) (kind : ℕ) (name : List ℕ) 
   entering_start r e h = record { rooted = r; within = omega arith; fits = e; room = h; size = refl; on = λ u q w. w }
 
   module _ {m : List ℕ} {i k to : ℕ} (s : Entering root f past out kind name year time from at m₀ m i k to) where
-    pub entering_end : next_of (those is_order (kept_from root f i)) ≡ Done → WroteAll m₀ m at (kind_from kind name year time root f from out) to
+    pub entering_end : next_of (those is_order (kept_from root f i)) ≡ None → WroteAll m₀ m at (kind_from kind name year time root f from out) to
     unfolding entries_from
     entering_end e = s.on m to (rw (orders_end root f i e) (wrote_none m to))
 
-    module _ (n : Kept) (e : next_of (those is_order (kept_from root f i)) ≡ Named n) where
+    module _ (n : Kept) (e : next_of (those is_order (kept_from root f i)) ≡ Some n) where
       pub entering_order : OrderAt root f i n
       entering_order = order_at root f i n s.rooted.holds e
 
@@ -223,26 +221,26 @@ module _ (abi body : List ℕ) (year : ℕ) (name : List ℕ) (root : Parent) (f
 
 -- COUNTED, then refused or written
 module _ (m : List ℕ) (x : Message) {s u : List ℕ} {n : ℕ} (w : WroteTree s u 0 (message_tree x) n) where
-  pub counted_none : length m < n → Leaves m (writes x) NoRoom m
+  pub counted_none : length m < n → Leaves m (writes x) (Err NoRoom) m
   counted_none l = let t = w.wrote.to in rw (lt-leb (length (message_bytes x)) (length m) (omega arith)) (refl, refl)
 
-  pub counted_some : {m' : List ℕ} {r : ℕ} → n ≤ length m → WroteTree m m' 0 (message_tree x) r → Leaves m (writes x) (Written r) m'
+  pub counted_some : {m' : List ℕ} {r : ℕ} → n ≤ length m → WroteTree m m' 0 (message_tree x) r → Leaves m (writes x) (Ok r) m'
   counted_some {m'} {r} l v =
       let t = w.wrote.to in
       let q = v.wrote.to in
       let z : r ≡ length (message_bytes x) = omega arith in
-      rw (le-leb (length (message_bytes x)) (length m) (omega arith)) (ap Written z, v.wrote.wrote (omega arith))
+      rw (le-leb (length (message_bytes x)) (length m) (omega arith)) (ap Ok z, v.wrote.wrote (omega arith))
 
 -- A FLOW THAT STANDS, its root's children from a place on
 module _ (e : Edition) (f : List ℕ) (at from : ℕ) (z : from ≡ white_at f at) where
-  pub flow_filled : verdict_of e f ≡ Stands at → Filled (root_rows e) 3 (root_of e) f 0 from
+  pub flow_filled : verdict_of e f ≡ Ok at → Filled (root_rows e) 3 (root_of e) f 0 from
   flow_filled v =
       let s = flow_stood e f at v in
       let b = fits_parts 3 (root_of e) f at s.fits in
       subst (λ (x : ℕ). Filled (root_rows e) 3 (root_of e) f 0 x) (sym z) (record { within = run_within is_white f at s.within; rows = b.0; each = b.1 })
 
   module _ (root : Parent) (q : root ≡ root_of e) where
-    pub flow_rooted : (past : List ℕ) → verdict_of e f ≡ Stands at → Noted f past → Rooted root f past from
+    pub flow_rooted : (past : List ℕ) → verdict_of e f ≡ Ok at → Noted f past → Rooted root f past from
     flow_rooted past v n =
         let s = flow_stood e f at v in
         let r : Rooted (root_of e) f past (white_at f at) = record { within = run_within is_white f at s.within; holds = standing (root_of e) f at s.fits; noted = n } in
@@ -252,11 +250,11 @@ module _ (e : Edition) (f : List ℕ) (at from : ℕ) (z : from ≡ white_at f a
       fit_is : outcomes_fit (orders_from (root_of e) f (white_at f at)) o ≡ g
       fit_is = ap (λ (x : ℕ). outcomes_fit (orders_from (root_of e) f x) o) (sym z) ∙ ap (λ (p : Parent). outcomes_fit (orders_from p f from) o) (sym q) ∙ sym eg
 
-      pub unfit_outcomes : g ≡ false → Leaves m (writing_of e f o c (Stands at)) Unfit m
+      pub unfit_outcomes : g ≡ false → Leaves m (writing_of e f o c (Ok at)) (Err Unfit) m
       unfit_outcomes n = rw (fit_is, n) (refl, refl)
 
       module _ (y : g ≡ true) {k : Bool} (ek : k ≡ caller_ok c) where
-        pub unfit_caller : k ≡ false → Leaves m (writing_of e f o c (Stands at)) Unfit m
+        pub unfit_caller : k ≡ false → Leaves m (writing_of e f o c (Ok at)) (Err Unfit) m
         unfit_caller n = rw (fit_is, y, ← ek, n) (refl, refl)
 
         -- its header's values and identificativo_flusso where they stand
@@ -266,11 +264,11 @@ module _ (e : Edition) (f : List ℕ) (at from : ℕ) (z : from ≡ white_at f a
               let a : header_by f h ≡ header_in e f (kept_from (root_of e) f from) = ap (header_by f) d ∙ heading_header e f from in
               (λ i. message_from (a i) (n i) (orders_from (q i) f from) o c) ∙ ap (λ (x : ℕ). message_at e f x o c) z
 
-          pub fit_written : {a : WriteAnswer} {m' : List ℕ} → Leaves m (writes (message_by f from root h w o c)) a m' → Leaves m (writing_of e f o c (Stands at)) a m'
+          pub fit_written : {a : Result ℕ WriteRefusal} {m' : List ℕ} → Leaves m (writes (message_by f from root h w o c)) a m' → Leaves m (writing_of e f o c (Ok at)) a m'
           fit_written {a} {m'} x = rw (fit_is, y, ← ek, v) (subst (λ (i : Message). Leaves m (writes i) a m') same_message x)
 
           -- the longest message is far below what a count can hold
-          pub fit_room : verdict_of e f ≡ Stands at → RoomOf 0 (message_tree (message_by f from root h w o c))
+          pub fit_room : verdict_of e f ≡ Ok at → RoomOf 0 (message_tree (message_by f from root h w o c))
           fit_room x =
               let ok = written_ok e f at x o c (fit_is ∙ y) ((caller_told c).sound (sym ek ∙ v)) in
               let l = message_short (message_at e f (white_at f at) o c) ok in
@@ -282,7 +280,7 @@ heading_there e f from h d = subst (Within f) (sym d) (heading_within e f from)
 -- what its writer is given
 module _ (e : Edition) (f past : List ℕ) (at from : ℕ) (z : from ≡ white_at f at) (root : Parent) (q : root ≡ root_of e) (m o : List ℕ) {c : Held} {t : List ℕ} {g : Bool} (eg : g ≡ outcomes_fit (orders_from root f from) o) (y : g ≡ true)
     (k : HeldIn c t) (v : c.right ≡ true) (h : Heading) (w : Span) (d : h ≡ heading_from e f from) (n : (part f w.from w.to ≡ flow_name e f from) × (w.from ≤ w.to) × (w.to ≤ length f)) where
-  pub fit_made : verdict_of e f ≡ Stands at → Noted f past → Made f past from root h w o c t
+  pub fit_made : verdict_of e f ≡ Ok at → Noted f past → Made f past from root h w o c t
   fit_made x i = record {
     rooted = flow_rooted e f at from z root q past x i;
     fits = sym eg ∙ y;
@@ -294,31 +292,31 @@ module _ (e : Edition) (f past : List ℕ) (at from : ℕ) (z : from ≡ white_a
 
 -- WHAT IS HELD is written as what the caller gave: where they differ, both are wrong
 module _ (e : Edition) (f o : List ℕ) {h : Held} {t : List ℕ} {c : Caller} (k : Holds h t c) where
-  alike : (v : Verdict) (x : Bool) → h.right ≡ x → writing_of e f o (caller_in h t) v ≡ writing_of e f o c v
+  alike : (v : Result ℕ Breakage) (x : Bool) → h.right ≡ x → writing_of e f o (caller_in h t) v ≡ writing_of e f o c v
   alike v true y = ap (λ (d : Caller). writing_of e f o d v) (k.same y)
-  alike (MarkupBreaks p) false y = refl
-  alike StructureBreaks false y = refl
-  alike (FieldBreaks p w) false y = refl
-  alike (Stands at) false y = rw (← k.held.right, ← k.right, y, and-false (outcomes_fit (flow_orders e f at) o))
+  alike (Err (MarkupBreaks p)) false y = refl
+  alike (Err StructureBreaks) false y = refl
+  alike (Err (FieldBreaks p w)) false y = refl
+  alike (Ok at) false y = rw (← k.held.right, ← k.right, y, and-false (outcomes_fit (flow_orders e f at) o))
 
-  pub write_held : (m : List ℕ) {m' : List ℕ} {a : WriteAnswer} → Leaves m (write_in e f o (caller_in h t)) a m' → Leaves m (write_in e f o c) a m'
+  pub write_held : (m : List ℕ) {m' : List ℕ} {a : Result ℕ WriteRefusal} → Leaves m (write_in e f o (caller_in h t)) a m' → Leaves m (write_in e f o c) a m'
   unfolding write_in
   write_held m w = rw (alike (verdict_of e f) h.right refl) at w
 
 -- THE CALL
 module _ (f o : List ℕ) (c : Caller) (m : List ℕ) where
   module _ (e : Edition) where
-    pub write_long : max_flow < length f → Leaves m (write_in e f o c) TooLong m
+    pub write_long : max_flow < length f → Leaves m (write_in e f o c) (Err TooLong) m
     unfolding write_in
     write_long l = rw (lt-leb (length f) max_flow l) (refl, refl)
 
-    pub write_read : {v : Verdict} {a : WriteAnswer} {m' : List ℕ} → length f ≤ max_flow → verdict_of e f ≡ v → Leaves m (writing_of e f o c v) a m' → Leaves m (write_in e f o c) a m'
+    pub write_read : {v : Result ℕ Breakage} {a : Result ℕ WriteRefusal} {m' : List ℕ} → length f ≤ max_flow → verdict_of e f ≡ v → Leaves m (writing_of e f o c v) a m' → Leaves m (write_in e f o c) a m'
     unfolding write_in
-    write_read {v} {a} {m'} l x w = rw (le-leb (length f) max_flow l) (subst (λ (i : Verdict). Leaves m (writing_of e f o c i) a m') (sym x) w)
+    write_read {v} {a} {m'} l x w = rw (le-leb (length f) max_flow l) (subst (λ (i : Result ℕ Breakage). Leaves m (writing_of e f o c i) a m') (sym x) w)
 
   module _ (ed : ℕ) where
-    pub write_unknown : edition_of ed ≡ NoEdition → WritePromise ed f o c m UnknownEdition m
-    write_unknown x = subst (λ (i : Edited). Leaves m (write_by f o c i) UnknownEdition m) (sym x) (refl, refl)
+    pub write_unknown : edition_of ed ≡ None → WritePromise ed f o c m (Err UnknownEdition) m
+    write_unknown x = subst (λ (i : Option Edition). Leaves m (write_by f o c i) (Err UnknownEdition) m) (sym x) (refl, refl)
 
-    pub write_known : {e : Edition} {a : WriteAnswer} {m' : List ℕ} → edition_of ed ≡ By e → Leaves m (write_in e f o c) a m' → WritePromise ed f o c m a m'
-    write_known {e} {a} {m'} x w = subst (λ (i : Edited). Leaves m (write_by f o c i) a m') (sym x) w
+    pub write_known : {e : Edition} {a : Result ℕ WriteRefusal} {m' : List ℕ} → edition_of ed ≡ Some e → Leaves m (write_in e f o c) a m' → WritePromise ed f o c m a m'
+    write_known {e} {a} {m'} x w = subst (λ (i : Option Edition). Leaves m (write_by f o c i) a m') (sym x) w

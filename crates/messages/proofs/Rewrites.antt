@@ -1,4 +1,5 @@
 -- What the promise of the call that reads and writes again comes to.
+use Rattle.std.specs.Prelude.{Option, Some, None}
 use mathlib.Core.Path.{◌≡◌, refl, sym, ap, subst, ◌∙◌}
 use mathlib.Core.List.{List}
 use Prim.Native.Nat.{ℕ, ◌≤◌}
@@ -7,7 +8,6 @@ use lib.ListN.{length, take}
 use Rattle.words.specs.Numbers.{put}
 use Rattle.grammar.specs.XML.{WellFormedXML}
 use Rattle.editions.specs.declared.Edition.{Edition}
-use Rattle.editions.specs.declared.Edited.TheVariants.{By, NoEdition}
 use Rattle.editions.specs.Editions.{edition_of}
 use Rattle.message.specs.Message.{Message}
 use Rattle.message.specs.Written.{message_bytes}
@@ -27,14 +27,14 @@ one : {y : Edition} {s : List ℕ} {m n : Message} → MessageOf y s (read m) �
 one {y} {s} {m} {n} i j = let e = reading_one s (read m) (read n) i j in (cc)
 
 -- one number names one edition, or none
-unlike : {A : Type 0} {y : Edition} → NoEdition ≡ By y → A
+unlike : {A : Type 0} {y : Edition} → ◌≡◌ {A = Option Edition} (None) (Some y) → A
 unlike e = let z : ◌≡◌ {A = ℕ} 0 1 = cc in absurd (omega arith)
 
-alike : {x y : Edition} → By x ≡ By y → x ≡ y
+alike : {x y : Edition} → ◌≡◌ {A = Option Edition} (Some x) (Some y) → x ≡ y
 alike e = (cc)
 
 -- WRITTEN AGAIN
-made : (ed : ℕ) (y : Edition) (s b : List ℕ) (m : Message) → edition_of ed ≡ By y → MessageOf y s (read m) → length (message_bytes m) ≤ length b → WrittenAgain ed s b (put b 0 (message_bytes m)) (length (message_bytes m))
+made : (ed : ℕ) (y : Edition) (s b : List ℕ) (m : Message) → edition_of ed ≡ Some y → MessageOf y s (read m) → length (message_bytes m) ≤ length b → WrittenAgain ed s b (put b 0 (message_bytes m)) (length (message_bytes m))
 made ed y s b m i x l =
     let t = front b (message_bytes m) in
     record {

@@ -1,4 +1,5 @@
 -- What the promise of the call that writes comes to.
+use Rattle.std.specs.Prelude.{Option, Result, Some, None, Ok, Err}
 use mathlib.Core.Path.{◌≡◌, refl, sym, ap, subst, ◌∙◌}
 use mathlib.Core.List.{List}
 use mathlib.Core.Bool.{Bool, true, false, cond, ◌&&◌}
@@ -15,11 +16,9 @@ use Rattle.words.specs.Numbers.{put}
 use Rattle.grammar.specs.XML.{WellFormedXML}
 use Rattle.grammar.proofs.XML.{flow_well_formed}
 use Rattle.editions.specs.declared.Edition.{Edition}
-use Rattle.editions.specs.declared.Edited.{Edited}
-use Rattle.editions.specs.declared.Edited.TheVariants.{By, NoEdition}
 use Rattle.editions.specs.Editions.{edition_of}
-use Rattle.flow.specs.declared.Verdict.{Verdict}
-use Rattle.flow.specs.declared.Verdict.TheVariants.{MarkupBreaks, StructureBreaks, FieldBreaks, Stands}
+use Rattle.flow.specs.declared.Breakage.{Breakage}
+use Rattle.flow.specs.declared.Breakage.TheVariants.{MarkupBreaks, StructureBreaks, FieldBreaks}
 use Rattle.flow.specs.Flow.{verdict_of, flow_orders}
 use Rattle.message.specs.Message.{Message}
 use Rattle.message.specs.Written.{message_bytes}
@@ -29,8 +28,8 @@ use Rattle.message.proofs.From.{written_ok, from_read}
 use Rattle.message.proofs.Short.{message_short}
 use Rattle.message_fit.specs.Fit.{caller_ok}
 use Rattle.message_fit.proofs.Laws.{caller_told}
-use Rattle.message_write.specs.declared.WriteAnswer.{WriteAnswer}
-use Rattle.message_write.specs.declared.WriteAnswer.TheVariants as answer
+use Rattle.message_write.specs.declared.WriteRefusal.{WriteRefusal}
+use Rattle.message_write.specs.declared.WriteRefusal.TheVariants as answer
 use Rattle.message_write.specs.declared.WriteReply.{WriteReply}
 use Rattle.message_write.specs.Write.{Writing, writing_of, write_in, write_by, write_reads, write_answer, write_buffer, write_reply}
 use Rattle.message_write.specs.Write as write
@@ -39,52 +38,52 @@ use Rattle.messages.specs.Writes.{WrittenOut, WrittenSaid, RefusedKept, NoSecond
 -- WHEN a message is to be written
 record When (ed : ℕ) (f o : List ℕ) (c : Caller) (m : Message) : Type 0 where
   edition : Edition
-  numbered : edition_of ed ≡ By edition
+  numbered : edition_of ed ≡ Some edition
   short : length f ≤ max_flow
   begins : ℕ
-  stands : verdict_of edition f ≡ Stands begins
+  stands : verdict_of edition f ≡ Ok begins
   fits : outcomes_fit (flow_orders edition f begins) o ≡ true
   caller : CallerOk c
   is : flow_message edition f begins o c ≡ m
 
-never : {a : WriteAnswer} {m : Message} {A : Type 0} → write.refused a ≡ write.writes m → A
+never : {a : Result ℕ WriteRefusal} {m : Message} {A : Type 0} → write.refused a ≡ write.writes m → A
 never e = let z : ◌≡◌ {A = ℕ} 0 1 = cc in absurd (omega arith)
 
 when : (ed : ℕ) (f o : List ℕ) (c : Caller) (m : Message) → write_reads ed f o c ≡ write.writes m → When ed f o c m
 unfolding write_in
 when ed f o c m h = edition_by (edition_of ed) refl h
   where
-    fit_by : (y : Edition) → edition_of ed ≡ By y → (at : ℕ) → length f ≤ max_flow → verdict_of y f ≡ Stands at → (b : Bool) → (outcomes_fit (flow_orders y f at) o && caller_ok c) ≡ b
-        → cond b (write.writes (flow_message y f at o c)) (write.refused answer.Unfit) ≡ write.writes m → When ed f o c m
+    fit_by : (y : Edition) → edition_of ed ≡ Some y → (at : ℕ) → length f ≤ max_flow → verdict_of y f ≡ Ok at → (b : Bool) → (outcomes_fit (flow_orders y f at) o && caller_ok c) ≡ b
+        → cond b (write.writes (flow_message y f at o c)) (write.refused (Err answer.Unfit)) ≡ write.writes m → When ed f o c m
     fit_by y i at l s true h e =
         let p = both (outcomes_fit (flow_orders y f at) o) (caller_ok c) h in
         record { edition = y; numbered = i; short = l; begins = at; stands = s; fits = p.0; caller = (caller_told c).sound p.1; is = cc }
     fit_by y i at l s false h e = never e
 
-    verdict_by : (y : Edition) → edition_of ed ≡ By y → (v : Verdict) → length f ≤ max_flow → verdict_of y f ≡ v → writing_of y f o c v ≡ write.writes m → When ed f o c m
-    verdict_by y i (MarkupBreaks p) l s e = never e
-    verdict_by y i StructureBreaks l s e = never e
-    verdict_by y i (FieldBreaks p x) l s e = never e
-    verdict_by y i (Stands at) l s e = fit_by y i at l s (outcomes_fit (flow_orders y f at) o && caller_ok c) refl e
+    verdict_by : (y : Edition) → edition_of ed ≡ Some y → (v : Result ℕ Breakage) → length f ≤ max_flow → verdict_of y f ≡ v → writing_of y f o c v ≡ write.writes m → When ed f o c m
+    verdict_by y i (Err (MarkupBreaks p)) l s e = never e
+    verdict_by y i (Err StructureBreaks) l s e = never e
+    verdict_by y i (Err (FieldBreaks p x)) l s e = never e
+    verdict_by y i (Ok at) l s e = fit_by y i at l s (outcomes_fit (flow_orders y f at) o && caller_ok c) refl e
 
-    length_by : (y : Edition) → edition_of ed ≡ By y → (b : Bool) → leb (length f) max_flow ≡ b → cond b (writing_of y f o c (verdict_of y f)) (write.refused answer.TooLong) ≡ write.writes m → When ed f o c m
+    length_by : (y : Edition) → edition_of ed ≡ Some y → (b : Bool) → leb (length f) max_flow ≡ b → cond b (writing_of y f o c (verdict_of y f)) (write.refused (Err answer.TooLong)) ≡ write.writes m → When ed f o c m
     length_by y i true h e = verdict_by y i (verdict_of y f) (leb-true (length f) max_flow h) refl e
     length_by y i false h e = never e
 
-    edition_by : (x : Edited) → edition_of ed ≡ x → write_by f o c x ≡ write.writes m → When ed f o c m
-    edition_by (By y) i e = length_by y i (leb (length f) max_flow) refl e
-    edition_by NoEdition i e = never e
+    edition_by : (x : Option Edition) → edition_of ed ≡ x → write_by f o c x ≡ write.writes m → When ed f o c m
+    edition_by (Some y) i e = length_by y i (leb (length f) max_flow) refl e
+    edition_by None i e = never e
 
 -- no refusal is Written
-abbrev is_refusal : WriteAnswer → Bool
-is_refusal answer.UnknownEdition = true
-is_refusal answer.TooLong = true
-is_refusal answer.BrokenMarkup = true
-is_refusal answer.BrokenStructure = true
-is_refusal answer.BrokenField = true
-is_refusal answer.Unfit = true
-is_refusal answer.NoRoom = true
-is_refusal (answer.Written n) = false
+abbrev is_refusal : Result ℕ WriteRefusal → Bool
+is_refusal (Err answer.UnknownEdition) = true
+is_refusal (Err answer.TooLong) = true
+is_refusal (Err answer.BrokenMarkup) = true
+is_refusal (Err answer.BrokenStructure) = true
+is_refusal (Err answer.BrokenField) = true
+is_refusal (Err answer.Unfit) = true
+is_refusal (Err answer.NoRoom) = true
+is_refusal (Ok n) = false
 
 abbrev refuses_well : Writing → Bool
 refuses_well (write.refused a) = is_refusal a
@@ -94,23 +93,23 @@ refuses_well_lem : (ed : ℕ) (f o : List ℕ) (c : Caller) → refuses_well (wr
 unfolding write_in
 refuses_well_lem ed f o c = edition_by (edition_of ed)
   where
-    fit_by : (y : Edition) (at : ℕ) (b : Bool) → refuses_well (cond b (write.writes (flow_message y f at o c)) (write.refused answer.Unfit)) ≡ true
+    fit_by : (y : Edition) (at : ℕ) (b : Bool) → refuses_well (cond b (write.writes (flow_message y f at o c)) (write.refused (Err answer.Unfit))) ≡ true
     fit_by y at true = refl
     fit_by y at false = refl
 
-    verdict_by : (y : Edition) (v : Verdict) → refuses_well (writing_of y f o c v) ≡ true
-    verdict_by y (MarkupBreaks p) = refl
-    verdict_by y StructureBreaks = refl
-    verdict_by y (FieldBreaks p x) = refl
-    verdict_by y (Stands at) = fit_by y at (outcomes_fit (flow_orders y f at) o && caller_ok c)
+    verdict_by : (y : Edition) (v : Result ℕ Breakage) → refuses_well (writing_of y f o c v) ≡ true
+    verdict_by y (Err (MarkupBreaks p)) = refl
+    verdict_by y (Err StructureBreaks) = refl
+    verdict_by y (Err (FieldBreaks p x)) = refl
+    verdict_by y (Ok at) = fit_by y at (outcomes_fit (flow_orders y f at) o && caller_ok c)
 
-    length_by : (y : Edition) (b : Bool) → refuses_well (cond b (writing_of y f o c (verdict_of y f)) (write.refused answer.TooLong)) ≡ true
+    length_by : (y : Edition) (b : Bool) → refuses_well (cond b (writing_of y f o c (verdict_of y f)) (write.refused (Err answer.TooLong))) ≡ true
     length_by y true = verdict_by y (verdict_of y f)
     length_by y false = refl
 
-    edition_by : (x : Edited) → refuses_well (write_by f o c x) ≡ true
-    edition_by (By y) = length_by y (leb (length f) max_flow)
-    edition_by NoEdition = refl
+    edition_by : (x : Option Edition) → refuses_well (write_by f o c x) ≡ true
+    edition_by (Some y) = length_by y (leb (length f) max_flow)
+    edition_by None = refl
 
 -- a message that is read is well-formed
 pub read_xml : {y : Edition} {s : List ℕ} {r : MessageReading} → MessageOf y s r → (m : Message) → r ≡ read m → WellFormedXML s
@@ -157,7 +156,7 @@ module _ (ed : ℕ) (f o : List ℕ) (c : Caller) (b u : List ℕ) (n : ℕ) (m 
 pub written : WrittenSaid
 written ed f o c b u n (a, p) = go (write_reads ed f o c) refl a p
   where
-    go : (w : Writing) → write_reads ed f o c ≡ w → answer.Written n ≡ write_answer (length b) w → u ≡ write_buffer b w → WrittenOut ed f o c b u n
+    go : (w : Writing) → write_reads ed f o c ≡ w → Ok n ≡ write_answer (length b) w → u ≡ write_buffer b w → WrittenOut ed f o c b u n
     go (write.refused x) e a p =
         let r : is_refusal x ≡ true = rw e at (refuses_well_lem ed f o c) in
         let z : false ≡ true = rw (← a) at r in
@@ -165,7 +164,7 @@ written ed f o c b u n (a, p) = go (write_reads ed f o c) refl a p
         absurd (omega arith)
     go (write.writes m) e a p = room_by (leb (length (message_bytes m)) (length b)) refl a p
       where
-        room_by : (g : Bool) → leb (length (message_bytes m)) (length b) ≡ g → answer.Written n ≡ cond g (answer.Written (length (message_bytes m))) answer.NoRoom
+        room_by : (g : Bool) → leb (length (message_bytes m)) (length b) ≡ g → Ok n ≡ cond g (Ok (length (message_bytes m))) (Err answer.NoRoom)
             → u ≡ cond g (put b 0 (message_bytes m)) b → WrittenOut ed f o c b u n
         room_by true h a p = let z : n ≡ length (message_bytes m) = cc in let l = leb-true (length (message_bytes m)) (length b) h in out ed f o c b u n m (when ed f o c m e) z (omega (arith, l)) p
         room_by false h a p = let y : ◌≡◌ {A = ℕ} 0 1 = cc in absurd (omega arith)
@@ -177,7 +176,7 @@ refused_kept ed f o c b u x (a, p) k = go (write_reads ed f o c) a p
     go (write.refused y) a p = p
     go (write.writes m) a p = room_by (leb (length (message_bytes m)) (length b)) a p
       where
-        room_by : (g : Bool) → x ≡ cond g (answer.Written (length (message_bytes m))) answer.NoRoom → u ≡ cond g (put b 0 (message_bytes m)) b → u ≡ b
+        room_by : (g : Bool) → x ≡ cond g (Ok (length (message_bytes m))) (Err answer.NoRoom) → u ≡ cond g (put b 0 (message_bytes m)) b → u ≡ b
         room_by true a p = absurd (k (length (message_bytes m)) a)
         room_by false a p = p
 

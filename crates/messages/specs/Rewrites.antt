@@ -1,15 +1,13 @@
 -- THE CALL THAT READS AND WRITES AGAIN, said of its promise alone (document 02, Req 01). Proved in proofs/Rewrites.antt: `written-again`, `rewritten-same`,
 -- `again-same`, `Again-kept`, `no-second-again`.
-use Rattle.std.specs.Prelude.{◌≡◌, List, ℕ, ◌≤◌, length, take, drop}
+use Rattle.std.specs.Prelude.{◌≡◌, List, ℕ, ◌≤◌, length, take, drop, Some, Ok}
 use Rattle.grammar.specs.XML.{WellFormedXML}
 use Rattle.editions.specs.declared.Edition.{Edition}
-use Rattle.editions.specs.declared.Edited.TheVariants.{By}
 use Rattle.editions.specs.Editions.{edition_of}
 use Rattle.message.specs.Message.{Message}
 use Rattle.message.specs.Written.{message_bytes}
 use Rattle.message.specs.Read.{MessageReading, MessageOf}
 use Rattle.message.specs.From.{Caller}
-use Rattle.message_write.specs.declared.WriteAnswer.TheVariants.{Written}
 use Rattle.message_write.specs.Write.{WritePromise}
 use Rattle.message_rewrite.specs.declared.RewriteReply.{RewriteReply}
 use Rattle.message_rewrite.specs.Promise.{RewritePromise}
@@ -17,7 +15,7 @@ use Rattle.message_rewrite.specs.Promise.{RewritePromise}
 -- WRITTEN AGAIN, n bytes into the buffer b, which is u afterwards
 pub record WrittenAgain (ed : ℕ) (s b u : List ℕ) (n : ℕ) : Type 0 where
   pub edition : Edition
-  pub numbered : edition_of ed ≡ By edition
+  pub numbered : edition_of ed ≡ Some edition
   -- the message s was read as, an Id on its root left out
   pub message : Message
   pub said : MessageOf edition s (MessageReading.read message)
@@ -34,11 +32,11 @@ AgainSaid = (ed : ℕ) (s b u : List ℕ) (r : RewriteReply) → RewritePromise 
 
 -- IT IS REWRITTEN BYTE FOR BYTE, in any edition and into any buffer that has room: the same answer, and the same bytes at its front
 abbrev pub SameAgain : List ℕ → ℕ → Type 0
-SameAgain t n = (ed : ℕ) (e : Edition) (d w : List ℕ) (r : RewriteReply) → edition_of ed ≡ By e → n ≤ length d → RewritePromise ed t d r w → (r.code ≡ 0) × (r.length ≡ n) × (take n w ≡ t)
+SameAgain t n = (ed : ℕ) (e : Edition) (d w : List ℕ) (r : RewriteReply) → edition_of ed ≡ Some e → n ≤ length d → RewritePromise ed t d r w → (r.code ≡ 0) × (r.length ≡ n) × (take n w ≡ t)
 
 -- what the call that writes wrote
 abbrev pub RewrittenSame : Type 0
-RewrittenSame = (ed : ℕ) (f o : List ℕ) (c : Caller) (b u : List ℕ) (n : ℕ) → WritePromise ed f o c b (Written n) u → SameAgain (take n u) n
+RewrittenSame = (ed : ℕ) (f o : List ℕ) (c : Caller) (b u : List ℕ) (n : ℕ) → WritePromise ed f o c b (Ok n) u → SameAgain (take n u) n
 
 -- and what this call wrote
 abbrev pub AgainSame : Type 0

@@ -1,4 +1,5 @@
 -- What a name's length comes to: of a plain text its bytes, never more than them, and at most six bytes for each that is counted.
+use Rattle.std.specs.Prelude.{Result, Ok, Err}
 use mathlib.Core.Path.{◌≡◌, refl, ◌∙◌}
 use mathlib.Core.List.{List, [], ◌∷◌}
 use mathlib.Core.Bool.{Bool, true, false, not, ◌&&◌}
@@ -7,8 +8,6 @@ use native.Mathlib.Omega.{arith}
 use lib.ListN.{length, drop}
 use lib.Dec.{leb, eqb}
 use borrow.Author.Tests.{eqb-true, eqb-false, leb-true, leb-false, le-leb}
-use Rattle.scan.specs.declared.Walk.{Walk}
-use Rattle.scan.specs.declared.Walk.TheVariants.{Past, Broken}
 use Rattle.scan.specs.Bytes.{byte_at, between, all}
 use Rattle.scan.specs.Characters.{char_size_at, char_at}
 use Rattle.scan.specs.References.{Reference, ref_at}
@@ -46,14 +45,14 @@ module _ (t : List ℕ) where
   next : (i : ℕ) → i < length t → Next t i
   next i h = go (eqb (byte_at t i) 38) refl (ref_at t i) refl (char_at t i) refl
     where
-      go : (k : Bool) → eqb (byte_at t i) 38 ≡ k → (r : Walk) → ref_at t i ≡ r → (c : Walk) → char_at t i ≡ c → Next t i
-      go true e (Past q) f c g =
+      go : (k : Bool) → eqb (byte_at t i) 38 ≡ k → (r : Result ℕ ℕ) → ref_at t i ≡ r → (c : Result ℕ ℕ) → char_at t i ≡ c → Next t i
+      go true e (Ok q) f c g =
           let r = ref_is (λ (r : Reference). length r.written ≤ 6) t i q (omega arith, (omega arith, (omega arith, (omega arith, (omega arith, tt))))) f in
           record { end = q; one = past_ref_lem t i h q f; six = omega (arith, r.holds, r.past) }
-      go true e (Broken q) f c g = record { end = i + 1; one = past_amp t i h q (eqb-true (byte_at t i) 38 e) f; six = omega arith }
-      go false e r f (Past q) g =
+      go true e (Err q) f c g = record { end = i + 1; one = past_amp t i h q (eqb-true (byte_at t i) 38 e) f; six = omega arith }
+      go false e r f (Ok q) g =
           record { end = q; one = past_char t i h (eqb-false (byte_at t i) 38 e) q g; six = omega (arith, char_sized t i q g, char_most t i h) }
-      go false e r f (Broken q) g = record { end = i + 1; one = past_none t i h (eqb-false (byte_at t i) 38 e) q g; six = omega arith }
+      go false e r f (Err q) g = record { end = i + 1; one = past_none t i h (eqb-false (byte_at t i) 38 e) q g; six = omega arith }
 
   six_each : (n i : ℕ) → length t - i ≤ n → length t ≤ i + 6 * characters (references_replaced (drop i t))
   six_each zero i h = omega arith

@@ -1,4 +1,6 @@
 -- Laws of a text's characters, once the five references are replaced.
+use Rattle.std.specs.Prelude.{Result, Ok, Err}
+use Rattle.std.specs.Result.{result_unwrap_or}
 use mathlib.Core.Path.{◌≡◌, refl, sym, ap, subst, ◌∙◌}
 use mathlib.Core.List.{List, [], ◌∷◌}
 use mathlib.Core.Option.{none, some}
@@ -11,7 +13,6 @@ use lib.ListN.{length, drop, drop_of_length-le}
 use lib.Seq.{drop-cons, drop-drop, get_or-drop}
 use lib.Dec.{leb}
 use borrow.Author.Tests.{ne_eqb, le-leb, lt-leb}
-use Rattle.scan.specs.declared.Walk.TheVariants.{Past, Broken}
 use Rattle.scan.specs.Bytes.{byte_at, between, starts_with, has_at}
 use Rattle.scan.specs.Characters.{is_char, sized, is_tail, char_size, char_size_at, char_at}
 use Rattle.scan.specs.References.{Reference, references, which_at, ref_at}
@@ -208,21 +209,28 @@ module _ (t : List ℕ) (i : ℕ) (h : i < length t) where
     pub past_ascii : byte_at t i ≤ 127 → OnePast t i (i + 1)
     past_ascii = ascii_past (plain_here n)
 
-    pub past_char : (q : ℕ) → char_at t i ≡ Past q → OnePast t i q
+    pub past_char : (q : ℕ) → char_at t i ≡ Ok q → OnePast t i q
     past_char q e =
         let w = char_past t i q e in
         let s = char_sized t i q e in
         let z : suc i + (char_size_at t i - 1) ≡ q = omega arith in
         record { on = w.on; within = w.within; counted = rw z at (char_counted (plain_here n)) }
 
-    pub past_none : (q : ℕ) → char_at t i ≡ Broken q → OnePast t i (i + 1)
+    pub past_none : (q : ℕ) → char_at t i ≡ Err q → OnePast t i (i + 1)
     past_none q e =
         let s = char_unsized t i q e in
         let z : suc i + (char_size_at t i - 1) ≡ i + 1 = omega arith in
         record { on = omega arith; within = omega arith; counted = rw z at (char_counted (plain_here n)) }
 
+    pub past_char_or : OnePast t i (result_unwrap_or (char_at t i) (i + 1))
+    past_char_or = go (char_at t i) refl
+      where
+        go : (r : Result ℕ ℕ) → char_at t i ≡ r → OnePast t i (result_unwrap_or r (i + 1))
+        go (Ok q) e = past_char q e
+        go (Err q) e = past_none q e
+
   -- a reference
-  pub past_amp : (q : ℕ) → byte_at t i ≡ 38 → ref_at t i ≡ Broken q → OnePast t i (i + 1)
+  pub past_amp : (q : ℕ) → byte_at t i ≡ 38 → ref_at t i ≡ Err q → OnePast t i (i + 1)
   past_amp q b e = ascii_past (ref_is_none t i q e) (omega arith)
 
   ref_counted : (r : Reference) (n : ℕ) → length r.written ≡ suc n → r.means ≤ 127 → i + length r.written ≤ length t → which_at references t i ≡ some r → characters (references_replaced (drop i t)) ≡ suc (characters (references_replaced (drop (i + length r.written) t)))
@@ -231,13 +239,20 @@ module _ (t : List ℕ) (i : ℕ) (h : i < length t) where
       let q : i + suc n ≡ suc i + n = omega arith in
       rw (drop-cons t i 0 h, which_here ∙ e, l, q, sub-one, ascii_size r.means _ _ _ m) (ap (λ (x : List ℕ). suc (characters x)) (replaced_skip n t (suc i) (omega arith)))
 
-  pub past_ref_lem : (q : ℕ) → ref_at t i ≡ Past q → OnePast t i q
+  pub past_ref_lem : (q : ℕ) → ref_at t i ≡ Ok q → OnePast t i q
   past_ref_lem q e =
       let r = ref_is Written t i q five e in
       let w = has_within r.which.written t i (omega arith) r.there in
       let c = ref_counted r.which r.holds.0 r.holds.1 r.holds.2 w r.is in
       let g = ref_past t i q e in
       record { on = g.on; within = g.within; counted = rw r.past at c }
+
+  pub past_ref_or : byte_at t i ≡ 38 → OnePast t i (result_unwrap_or (ref_at t i) (i + 1))
+  past_ref_or b = go (ref_at t i) refl
+    where
+      go : (r : Result ℕ ℕ) → ref_at t i ≡ r → OnePast t i (result_unwrap_or r (i + 1))
+      go (Ok q) e = past_ref_lem q e
+      go (Err q) e = past_amp q b e
 
 pub characters_end : (t : List ℕ) (i : ℕ) → length t ≤ i → characters (references_replaced (drop i t)) ≡ 0
 characters_end t i h = rw (drop_of_length-le t h) (none_left 0)

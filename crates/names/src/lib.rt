@@ -6,33 +6,18 @@ ghost use Rattle.scan.specs.Bytes.{byte_at};
 ghost use Rattle.names.specs.Names.{references_replaced, characters, anagrafica};
 ghost use Rattle.names.specs.Inner.{OnePast};
 
-use scan::Walk;
-
-// Past the reference at a position, or past its & alone.
-fn past_ref(t: &[u8], at: usize) -> usize
-    requires { (at < length t.now) × (byte_at t.now at ≡ 38) }
-    ensures { OnePast t.now at result }
-{
-    match scan::reference(t, at) {
-        Walk::Past(q) => q,
-        Walk::Broken(p) => at + 1,
-    }
-}
-
-// Past what counts as one character at a position.
+// Past what counts as one character at a position: a reference, a character, or else one byte.
+#[tactic(auto, using(crate::proofs::Laws::past_ascii, crate::proofs::Laws::past_ref_or, crate::proofs::Laws::past_char_or))]
 fn past_one(t: &[u8], at: usize) -> usize
     requires { at < length t.now }
     ensures { OnePast t.now at result }
 {
     if t[at] == b'&' {
-        return past_ref(t, at);
-    }
-    if t[at] <= 127 {
-        return at + 1;
-    }
-    match scan::character(t, at) {
-        Walk::Past(e) => e,
-        Walk::Broken(p) => at + 1,
+        scan::reference(t, at).unwrap_or(at + 1)
+    } else if t[at] <= 127 {
+        at + 1
+    } else {
+        scan::character(t, at).unwrap_or(at + 1)
     }
 }
 
@@ -50,14 +35,9 @@ pub fn characters_of(t: &[u8]) -> usize
 }
 
 // anagrafica_beneficiario, anagrafica_versante. No text has more characters than bytes, so most are not counted.
+#[tactic(auto, using(crate::proofs::Laws::name_empty, crate::proofs::Laws::name_short, crate::proofs::Laws::name_counted))]
 pub fn anagrafica_of(t: &[u8]) -> bool
     ensures { result ≡ anagrafica t.now }
 {
-    if t.len() < 1 {
-        return false;
-    }
-    if t.len() <= 140 {
-        return true;
-    }
-    characters_of(t) <= 140
+    1 <= t.len() && (t.len() <= 140 || characters_of(t) <= 140)
 }

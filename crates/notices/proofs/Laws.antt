@@ -1,4 +1,5 @@
 -- Laws of notices and totals, a way out of the code at a time.
+use Rattle.std.specs.Prelude.{Result, Ok, Err}
 use mathlib.Core.Path.{◌≡◌, refl, sym, ap, ◌∙◌}
 use mathlib.Core.List.{List}
 use mathlib.Core.Bool.{Bool, cond}
@@ -13,14 +14,13 @@ use Rattle.body.specs.Body.{cents_of}
 use Rattle.body.proofs.Laws.{cents_most}
 use Rattle.bounds.specs.Bounds.{max_cents, max_slots}
 use Rattle.entries.specs.Entry.{kept}
-use Rattle.rules.specs.declared.Noticed.{Noticed}
 use Rattle.service.specs.Service.{notice_comes, notice_leaves}
 use Rattle.service.specs.Inner.{Served}
 use Rattle.service.proofs.Totals.{agrees_is}
-use Rattle.address.specs.declared.Addressed.{Addressed}
-use Rattle.address.specs.declared.Addressed.TheVariants.{Invalid, Unknown, Body}
-use Rattle.notices.specs.declared.NoticeAnswer.{NoticeAnswer}
-use Rattle.notices.specs.declared.NoticeAnswer.TheVariants.{InvalidTable, WrongDay, UnknownBody}
+use Rattle.address.specs.declared.NoBody.{NoBody}
+use Rattle.address.specs.declared.NoBody.TheVariants.{Invalid, Unknown}
+use Rattle.notices.specs.declared.NoticeRefusal.{NoticeRefusal}
+use Rattle.notices.specs.declared.NoticeRefusal.TheVariants.{InvalidTable, WrongDay, UnknownBody}
 use Rattle.notices.specs.declared.TotalsAnswer.{TotalsAnswer}
 use Rattle.table.specs.Table.{table_ok}
 use Rattle.address.specs.Address.{addressed}
@@ -29,41 +29,41 @@ use Rattle.address.proofs.Laws.{Slots}
 
 -- A NOTICE
 module _ (t code : List ℕ) (x : Bool) (k : Key) (line : ℕ) where
-  pub no_table : addressed t code ≡ Invalid → (InvalidTable ≡ notice_by t x k line (addressed t code)) × (t ≡ notice_table_by t x k line (addressed t code))
+  pub no_table : addressed t code ≡ Err Invalid → (Err InvalidTable ≡ notice_by t x k line (addressed t code)) × (t ≡ notice_table_by t x k line (addressed t code))
   unfolding notice_by notice_table_by
   no_table e = (sym (ap (notice_by t x k line) e), sym (ap (notice_table_by t x k line) e))
 
-  pub no_body : addressed t code ≡ Unknown → (UnknownBody ≡ notice_by t x k line (addressed t code)) × (t ≡ notice_table_by t x k line (addressed t code))
+  pub no_body : addressed t code ≡ Err Unknown → (Err UnknownBody ≡ notice_by t x k line (addressed t code)) × (t ≡ notice_table_by t x k line (addressed t code))
   unfolding notice_by notice_table_by
   no_body e = (sym (ap (notice_by t x k line) e), sym (ap (notice_table_by t x k line) e))
 
-  pub served : {e base n : ℕ} {m : Noticed} {r : NoticeAnswer} {u : List ℕ} → addressed t code ≡ Body e base n
+  pub served : {e base n : ℕ} {m : Result (ℕ × ℕ) ℕ} {r : Result ℕ NoticeRefusal} {u : List ℕ} → addressed t code ≡ Ok (e, base, n)
       → m ≡ notice_comes t base n x k line → u ≡ notice_leaves t e base n x k line → r ≡ noticed m
       → (r ≡ notice_by t x k line (addressed t code)) × (u ≡ notice_table_by t x k line (addressed t code))
   unfolding notice_by notice_table_by
   served q f g h = (h ∙ ap noticed f ∙ sym (ap (notice_by t x k line) q), g ∙ sym (ap (notice_table_by t x k line) q))
 
   -- ON A DATE of code 0, or of another
-  pub on_target : {r : NoticeAnswer} {u : List ℕ} (d : Date) → target_code d ≡ 0
+  pub on_target : {r : Result ℕ NoticeRefusal} {u : List ℕ} (d : Date) → target_code d ≡ 0
       → (r ≡ notice_by t x k line (addressed t code)) × (u ≡ notice_table_by t x k line (addressed t code)) → NoticePromise t x code k line d r u
   on_target d e p =
       (p.0 ∙ ap (λ c. on_day c t (notice_by t x k line (addressed t code))) (sym e), p.1 ∙ ap (λ c. table_on_day c t (notice_table_by t x k line (addressed t code))) (sym e))
 
-  pub only_target : {r : NoticeAnswer} {u : List ℕ} (d : Date) → target_code d ≡ 0 → NoticePromise t x code k line d r u
+  pub only_target : {r : Result ℕ NoticeRefusal} {u : List ℕ} (d : Date) → target_code d ≡ 0 → NoticePromise t x code k line d r u
       → (r ≡ notice_by t x k line (addressed t code)) × (u ≡ notice_table_by t x k line (addressed t code))
   only_target d e p =
       (p.0 ∙ ap (λ c. on_day c t (notice_by t x k line (addressed t code))) e, p.1 ∙ ap (λ c. table_on_day c t (notice_table_by t x k line (addressed t code))) e)
 
-  pub off_target : (d : Date) (c : ℕ) → target_code d ≡ c → (c ≡ 0 → ⊥) → (b : Bool) → table_ok t ≡ b → NoticePromise t x code k line d (cond b (WrongDay c) InvalidTable) t
+  pub off_target : (d : Date) (c : ℕ) → target_code d ≡ c → (c ≡ 0 → ⊥) → (b : Bool) → table_ok t ≡ b → NoticePromise t x code k line d (cond b (Err (WrongDay c)) (Err InvalidTable)) t
   off_target d zero e h b f = absurd (h refl)
   off_target d (suc c) e h b f = (
-    sym (ap (λ n. on_day n t (notice_by t x k line (addressed t code))) e ∙ ap (λ y. cond y (WrongDay (suc c)) InvalidTable) f),
+    sym (ap (λ n. on_day n t (notice_by t x k line (addressed t code))) e ∙ ap (λ y. cond y (Err (WrongDay (suc c))) (Err InvalidTable)) f),
     sym (ap (λ n. table_on_day n t (notice_table_by t x k line (addressed t code))) e),
   )
 
 -- TOTALS
 module _ (t code : List ℕ) where
-  pub totals_at : {r : TotalsAnswer} {a : Addressed} → addressed t code ≡ a → r ≡ totals_by t a → r ≡ totals_of t code
+  pub totals_at : {r : TotalsAnswer} {a : Result (ℕ × ℕ × ℕ) NoBody} → addressed t code ≡ a → r ≡ totals_by t a → r ≡ totals_of t code
   unfolding totals_of
   totals_at e f = f ∙ sym (ap (totals_by t) e)
 

@@ -7,22 +7,25 @@ ghost use Rattle.address.specs.Address.{addressed};
 ghost use Rattle.service.specs.Inner.{Served};
 ghost use Rattle.notices.specs.Notices.{noticed, notice_by, notice_table_by, notice_reply, NoticePromise, zero_totals, body_totals, TotalsPromise};
 
-use address::Addressed;
+use address::NoBody;
 use calendar::Date;
 use record::Key;
 use rules::Noticed;
 
-// What a notice's call answers.
+// Why a notice is refused.
 #[derive(Clone, Copy)]
-pub enum NoticeAnswer {
+pub enum NoticeRefusal {
     InvalidTable,
     WrongDay(u64),
     UnknownBody,
-    Done(u64),
     Declined(u8),
 }
 
+// What a notice's call answers: the line's cents, or why it is refused.
+pub type NoticeAnswer = Result<u64, NoticeRefusal>;
+
 // Document 01's numbers of an answer.
+// Code and values stand side by side, since C takes them one by one (`hondivole_execute`).
 #[derive(Clone, Copy)]
 pub struct NoticeReply {
     pub code: u64,
@@ -43,10 +46,7 @@ pub struct TotalsAnswer {
 pub fn answer_of(n: Noticed) -> NoticeAnswer
     ensures { result ≡ noticed n }
 {
-    match n {
-        Noticed::Moved(_, cents) => NoticeAnswer::Done(cents),
-        Noticed::Unmoved(c) => NoticeAnswer::Declined(c),
-    }
+    n.map(|(_, cents)| cents).map_err(NoticeRefusal::Declined)
 }
 
 // A notice of a TARGET day.
@@ -55,11 +55,9 @@ fn notice(t: &mut [u8], code: &[u8], executing: bool, key: Key, line: u64) -> No
         × (t.new ≡ notice_table_by t.old executing key line (addressed t.old code.now)) }
 {
     match address::addressed_by(t, code) {
-        Addressed::Invalid => NoticeAnswer::InvalidTable,
-        Addressed::Unknown => NoticeAnswer::UnknownBody,
-        Addressed::Body(e, base, n) => answer_of(service::serve_notice(
-            t, e, base, n, executing, key, line,
-        )),
+        Err(NoBody::Invalid) => Err(NoticeRefusal::InvalidTable),
+        Err(NoBody::Unknown) => Err(NoticeRefusal::UnknownBody),
+        Ok((e, base, n)) => answer_of(service::serve_notice(t, e, base, n, executing, key, line)),
     }
 }
 
@@ -69,12 +67,12 @@ fn dated(t: &mut [u8], code: &[u8], executing: bool, key: Key, line: u64, day: D
 {
     let refused = target_days::code_of(day);
     if refused == 0 {
-        return notice(t, code, executing, key, line);
+        notice(t, code, executing, key, line)
+    } else if table::table_ok(t) {
+        Err(NoticeRefusal::WrongDay(refused))
+    } else {
+        Err(NoticeRefusal::InvalidTable)
     }
-    if table::table_ok(t) {
-        return NoticeAnswer::WrongDay(refused);
-    }
-    NoticeAnswer::InvalidTable
 }
 
 // Takes the bank's notice that a line was executed on a date.
@@ -96,11 +94,11 @@ pub fn reply_of(a: NoticeAnswer) -> NoticeReply
     ensures { (result.code ≡ (notice_reply a).code) × (result.cents ≡ (notice_reply a).cents) }
 {
     match a {
-        NoticeAnswer::InvalidTable => NoticeReply { code: 1, cents: 0 },
-        NoticeAnswer::WrongDay(c) => NoticeReply { code: c, cents: 0 },
-        NoticeAnswer::UnknownBody => NoticeReply { code: 7, cents: 0 },
-        NoticeAnswer::Done(cents) => NoticeReply { code: 0, cents },
-        NoticeAnswer::Declined(c) => NoticeReply {
+        Err(NoticeRefusal::InvalidTable) => NoticeReply { code: 1, cents: 0 },
+        Err(NoticeRefusal::WrongDay(c)) => NoticeReply { code: c, cents: 0 },
+        Err(NoticeRefusal::UnknownBody) => NoticeReply { code: 7, cents: 0 },
+        Ok(cents) => NoticeReply { code: 0, cents },
+        Err(NoticeRefusal::Declined(c)) => NoticeReply {
             code: c as u64,
             cents: 0,
         },
@@ -151,8 +149,8 @@ pub fn totals(t: &[u8], code: &[u8]) -> TotalsAnswer
     ensures { TotalsPromise t.now code.now result }
 {
     match address::addressed_by(t, code) {
-        Addressed::Invalid => no_totals(1),
-        Addressed::Unknown => no_totals(7),
-        Addressed::Body(e, base, n) => body_totals(t, e, base, n),
+        Err(NoBody::Invalid) => no_totals(1),
+        Err(NoBody::Unknown) => no_totals(7),
+        Ok((e, base, n)) => body_totals(t, e, base, n),
     }
 }

@@ -1,5 +1,6 @@
 -- ONE BODY, TWO WAYS TO KEEP IT: in its slots of a table, and as a plain list in order of arrival (document 02, Req 12): "it is proved, over all flows and notices, to
 -- give every answer and outcome the table engine gives, and its lists are what the records say". Proved: `one_list : OneList`.
+use Rattle.std.specs.Prelude.{Result}
 use Prim.Native.Nat.{ℕ, ◌≤◌}
 use mathlib.Core.Path.{◌≡◌}
 use mathlib.Core.Bool.{Bool}
@@ -9,7 +10,6 @@ use Rattle.order.specs.Ordinativo.{Ordinativo}
 use Rattle.record.specs.declared.Record.{Record}
 use Rattle.record.specs.declared.Key.{Key}
 use Rattle.slots.specs.Slots.{records_at}
-use Rattle.rules.specs.declared.Noticed.{Noticed}
 use Rattle.rules.specs.Rules.{judge_notice}
 use Rattle.rules.specs.Effects.{all_records, records_moved}
 use Rattle.rules.proofs.Kept.{Writables}
@@ -26,7 +26,7 @@ pub data Call : Type 0 where
 -- how many orders were accepted, the steps of their searches and their outcome bytes; what a notice came to
 pub data Answer : Type 0 where
   of_orders : ℕ → ℕ → List ℕ → Answer
-  of_notice : Noticed → Answer
+  of_notice : Result (ℕ × ℕ) ℕ → Answer
 
 -- one body alone, kept as S: its calls name no other, and nothing is said of parts
 abbrev pub alone : (S : Type 0) → (Call → S → Answer) → (Call → S → S) → Machine

@@ -7,10 +7,8 @@ ghost use Rattle.scan.specs.Bytes.{bytes, has_at};
 ghost use Rattle.markup.specs.Noted.{Noted};
 ghost use Rattle.onward.specs.Onward.{Reaches, Unless, Starts, Passed, Told, Tagged, Inner, Ended, Taken};
 
-use fields::{Form, Valued};
-use scan::Walk;
-use schema::{Holds, Parent, Spot};
-use tags::Tag;
+use fields::Form;
+use schema::{Holds, Parent};
 
 // How far content was read: up to a place; `row` is the last named child's, and `count` how many stand in it.
 #[derive(Clone, Copy)]
@@ -38,18 +36,13 @@ fn start_by_name(s: &[u8], i: usize, parent: Parent) -> Start
         return Start::Other;
     }
     let a = i + 1;
-    let Walk::Past(e) = tokens::name_end(s, a) else {
+    let Ok(e) = tokens::name_end(s, a) else {
         return Start::Other;
     };
     match rows::spot_of(s, a, e, parent) {
-        Spot::At(row, h) => {
-            if scan::byte(s, e) == b'>' {
-                Start::Named(e, row, h)
-            } else {
-                Start::Other
-            }
-        }
-        Spot::Passed => Start::Unnamed,
+        Some((row, h)) if scan::byte(s, e) == b'>' => Start::Named(e, row, h),
+        Some(_) => Start::Other,
+        None => Start::Unnamed,
     }
 }
 
@@ -59,8 +52,8 @@ fn start_at(s: &[u8], i: usize, parent: Parent, want: usize) -> Start
     ensures { Starts parent s.now i result }
 {
     match tags::expected(s, i, parent, want) {
-        Tag::Opening(e, row, h) => Start::Named(e, row, h),
-        Tag::Other => start_by_name(s, i, parent),
+        Some((e, row, h)) => Start::Named(e, row, h),
+        None => start_by_name(s, i, parent),
     }
 }
 
@@ -70,8 +63,8 @@ fn passed(s: &[u8], i: usize, depth: usize, past: &mut [u32]) -> usize
     ensures { Unless result (Passed depth s.now i result) × Noted s.now past.new }
 {
     match markup::element(s, i + 1, depth, past) {
-        Walk::Past(q) => scan::white_end(s, q),
-        Walk::Broken(_) => 0,
+        Ok(q) => scan::white_end(s, q),
+        Err(_) => 0,
     }
 }
 
@@ -80,12 +73,12 @@ fn field(s: &[u8], at: usize, f: Form) -> usize
     requires { at ≤ length s.now }
     ensures { Unless result (Told f s.now at result) }
 {
-    let Walk::Past(p) = tokens::text(s, at) else {
+    let Ok(p) = tokens::text(s, at) else {
         return 0;
     };
     match fields::value_of(f, &s[at..p]) {
-        Valued::Some(_) => p,
-        Valued::None => 0,
+        Some(_) => p,
+        None => 0,
     }
 }
 

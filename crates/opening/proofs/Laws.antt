@@ -1,13 +1,13 @@
 -- Laws of the bytes that opening writes.
+use Rattle.std.specs.Prelude.{Ok, Err}
 use mathlib.Core.Path.{◌≡◌, sym, ap, ◌∙◌}
-use mathlib.Core.List.{List, [], ◌∷◌, ◌++◌}
+use mathlib.Core.List.{List, ◌++◌}
 use mathlib.Core.Bool.{true, false}
-use Prim.Native.Nat.{ℕ, ◌+◌, ◌*◌, ◌≤◌, ◌<◌}
+use Prim.Native.Nat.{ℕ, ◌+◌, ◌*◌}
 use native.Mathlib.Nat.{zero-add}
-use native.Mathlib.Numerals.{add-one}
 use native.Mathlib.Omega.{arith}
-use lib.ListN.{length, take, drop, set, replicate, length-append, length-replicate, replicate-append-replicate}
-use lib.Seq.{take-length, take-suc-set, drop_at}
+use lib.ListN.{length, drop, replicate, length-append, length-replicate, replicate-append-replicate}
+use lib.Seq.{drop_at}
 use borrow.Author.Tests.{eq-eqb, ne_eqb}
 use Rattle.scan.specs.Bytes.{part}
 use Rattle.words.specs.Numbers.{put}
@@ -19,21 +19,10 @@ use Rattle.contents.proofs.Laws.{length_part, length_head, length_entries}
 use Rattle.table.specs.Table.{head_size}
 use Rattle.request.specs.Request.{first_body, asked, slots_asked, needed, request_ok}
 use Rattle.request.proofs.Laws.{request}
-use Rattle.opening.specs.declared.Opened.TheVariants.{Open, WrongRequest, WrongLength}
+use Rattle.opening.specs.declared.OpenRefusal.TheVariants.{WrongRequest, WrongLength}
 use Rattle.opening.specs.Opening.{no_cents, opened, open_of}
 
 -- WHAT IS WRITTEN
-
--- one more byte cleared
-pub cleared_more : (t : List ℕ) (i : ℕ) → i < length t → take i t ≡ replicate i 0 → take (i + 1) (set t i 0) ≡ replicate (i + 1) 0
-cleared_more t i h e =
-    ap (λ (k : ℕ). take k (set t i 0)) (add-one i) ∙ take-suc-set t i 0 h ∙ ap (λ (l : List ℕ). l ++ (0 ∷ [])) e ∙ replicate-append-replicate i 1 0
-
-pub cleared_all : (t : List ℕ) (n i : ℕ) → length t ≡ n → i ≤ n → n ≤ i → take i t ≡ replicate i 0 → t ≡ replicate n 0
-cleared_all t n i l le ge e =
-    let a : length t ≡ i = omega arith in
-    let b : i ≡ n = omega arith in
-    sym (take-length t) ∙ ap (λ (k : ℕ). take k t) a ∙ e ∙ ap (λ (k : ℕ). replicate k 0) b
 
 drop_zeros : (k n m : ℕ) → n ≡ k + m → drop {A = ℕ} k (replicate n 0) ≡ replicate m 0
 drop_zeros k n m e =
@@ -65,15 +54,15 @@ filled q t₁ t₂ t₃ n len m ok e f g e₁ e₂ e₃ =
 -- THE ANSWER
 
 module _ (q : List ℕ) (n : ℕ) where
-  pub open_not : request_ok q ≡ false → open_of q n ≡ WrongRequest
+  pub open_not : request_ok q ≡ false → open_of q n ≡ Err WrongRequest
   unfolding open_of
   open_not h = rw h
 
   module _ (g : request_ok q ≡ true) (m : ℕ) (e : m ≡ needed q) where
-    pub open_other : (n ≡ m → ⊥) → open_of q n ≡ WrongLength
+    pub open_other : (n ≡ m → ⊥) → open_of q n ≡ Err WrongLength
     unfolding open_of
     open_other h = rw (g, ← e, ne_eqb n m h)
 
-    pub open_done : n ≡ m → open_of q n ≡ Open
+    pub open_done : n ≡ m → open_of q n ≡ Ok tt
     unfolding open_of
     open_done h = rw (g, ← e, eq-eqb n m h)

@@ -10,23 +10,15 @@ ghost use Rattle.contents.specs.Contents.{entries_bytes};
 ghost use Rattle.request.specs.Request.{first_body, asked, needed, request_ok};
 ghost use Rattle.opening.specs.Opening.{no_cents, opened, open_code, OpenPromise};
 
-// What opening answers.
+// Why no table is opened.
 #[derive(Clone, Copy)]
-pub enum Opened {
-    Open,
+pub enum OpenRefusal {
     WrongRequest,
     WrongLength,
 }
 
-fn clear(t: &mut [u8])
-    ensures { t.new ≡ replicate (length t.old) 0 }
-{
-    let mut i = 0;
-    while i < t.len() {
-        t[i] = 0;
-        i += 1;
-    }
-}
+// What opening answers.
+pub type Opened = Result<(), OpenRefusal>;
 
 // Writes the entries of n bodies, after the head.
 fn put_entries(t: &mut [u8], q: &[u8], n: usize)
@@ -34,17 +26,12 @@ fn put_entries(t: &mut [u8], q: &[u8], n: usize)
     ensures { t.new ≡ put t.old head_size
         (entries_bytes request_size no_cents q.now first_body n (head_size + entry_size * n)) }
 {
-    let mut to = table::HEAD;
-    let mut at = request::FIRST;
     let mut p = table::HEAD + entries::ENTRY * n;
-    let mut left = n;
-    while 0 < left {
-        let e = at + entries::REQUEST;
-        contents::put_entry(t, to, &q[at..e], p, 0, 0);
+    for i in 0..n {
+        let at = request::FIRST + entries::REQUEST * i;
+        let form = &q[at..at + entries::REQUEST];
+        contents::put_entry(t, table::HEAD + entries::ENTRY * i, form, p, 0, 0);
         p += record::SLOT * entries::slots_of(q, at);
-        to += entries::ENTRY;
-        at = e;
-        left -= 1;
     }
 }
 
@@ -53,7 +40,7 @@ fn fill(t: &mut [u8], q: &[u8], n: usize)
     requires { (request_ok q.now ≡ true) × (n ≡ asked q.now) × (length t.old ≡ needed q.now) }
     ensures { t.new ≡ opened q.now }
 {
-    clear(t);
+    t.fill(0);
     contents::put_head(t, n, request::length_for(q, n), &q[0..request::FIRST]);
     put_entries(t, q, n);
 }
@@ -63,14 +50,14 @@ pub fn open_table(q: &[u8], t: &mut [u8]) -> Opened
     ensures { OpenPromise q.now t.old result t.new }
 {
     if !request::request_ok(q) {
-        return Opened::WrongRequest;
+        return Err(OpenRefusal::WrongRequest);
     }
     let n = (q.len() - request::FIRST) / entries::REQUEST;
     if t.len() != request::length_for(q, n) {
-        return Opened::WrongLength;
+        return Err(OpenRefusal::WrongLength);
     }
     fill(t, q, n);
-    Opened::Open
+    Ok(())
 }
 
 // Document 01's code of an answer.
@@ -78,8 +65,8 @@ pub fn code_of(o: Opened) -> u64
     ensures { result ≡ open_code o }
 {
     match o {
-        Opened::Open => 0,
-        Opened::WrongRequest => 9,
-        Opened::WrongLength => 10,
+        Ok(()) => 0,
+        Err(OpenRefusal::WrongRequest) => 9,
+        Err(OpenRefusal::WrongLength) => 10,
     }
 }

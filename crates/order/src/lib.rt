@@ -24,6 +24,7 @@ pub struct Line {
 }
 
 // An order's lines: how many, and each of them, zeros after them.
+// Places and a count, not a Vec: nothing here is on a heap.
 #[derive(Clone, Copy)]
 pub struct Lines {
     pub count: usize,
@@ -45,5 +46,5 @@ pub struct Order {
 pub fn count_of(ls: Lines) -> usize
     ensures { (result ≡ length (lines_there ls)) × (result ≤ 8) }
 {
-    if ls.count <= 8 { ls.count } else { 8 }
+    ls.count.min(8)
 }

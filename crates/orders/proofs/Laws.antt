@@ -1,4 +1,5 @@
 -- Laws of the named children by rows, of lines and of orders.
+use Rattle.std.specs.Prelude.{Option, Some, None}
 use mathlib.Core.Path.{◌≡◌, refl, sym, ap, subst, ◌∙◌}
 use mathlib.Core.Logic.{◌⊎◌, inl, inr, ⊎_elim}
 use mathlib.Core.List.{List, [], ◌∷◌}
@@ -15,12 +16,6 @@ use Rattle.tokens.specs.Tokens.{white_at}
 use Rattle.fields.specs.declared.Form.{Form}
 use Rattle.fields.specs.declared.Form.TheVariants.{Esercizio, TipoOperazione, Numero, Data, Importo, Progressivo}
 use Rattle.fields.specs.Fields.{of_number, of_day, of_operation}
-use Rattle.codes.specs.declared.Asked.{Asked}
-use Rattle.codes.specs.declared.Asked.TheVariants.{Operazione, NoOperation}
-use Rattle.digits.specs.declared.Number.{Number}
-use Rattle.digits.specs.declared.Number.TheVariants.{Value, NoNumber}
-use Rattle.dates.specs.declared.Day.{Day}
-use Rattle.dates.specs.declared.Day.TheVariants.{On, NoDay}
 use Rattle.children.specs.declared.Child.{Child}
 use Rattle.rows.specs.Read.{read_at, field_read}
 use Rattle.orders.specs.Said.{number_of, date_read, said_operation}
@@ -32,8 +27,6 @@ use Rattle.schema.specs.declared.Parent.TheVariants.{FlussoOrdinativi, Mandato, 
 use Rattle.schema.specs.declared.Holds.{Holds}
 use Rattle.schema.specs.declared.Holds.TheVariants.{Text, Rows}
 use Rattle.rows.specs.declared.Kept.{Kept}
-use Rattle.rows.specs.declared.Next.{Next}
-use Rattle.rows.specs.declared.Next.TheVariants.{Named, Done}
 use Rattle.schema.specs.Table.{table}
 use Rattle.rows.specs.Kept.{kept_from, next_of}
 use Rattle.rows.specs.Replaces.{replaces, as_replacing, rows_for}
@@ -47,8 +40,10 @@ use Rattle.order.specs.declared.Order.{Order}
 use Rattle.order.specs.Ordinativo.{no_name, no_line}
 use Rattle.orders.specs.Shape.{ranges_of, order_rows, line_rows, named_rows, is_replacing, line_rows_of, Shaped, Filled}
 use Rattle.orders.specs.Orders.{those, of_row, in_row, text_in, inside, operation_of, value_of, date_of, named_by, named_of, named_in, line_by, line_of, lines_of, eight, lines_in, kind_of, order_by, order_of, orders_of, holds_order, is_order, orders_in}
+use Rattle.codes.specs.declared.Operation.{Operation}
+use Rattle.calendar.specs.declared.Date.{Date}
 
-no_next : {k : Kept} {A : Type 0} → Done ≡ Named k → A
+no_next : {k : Kept} {A : Type 0} → ◌≡◌ {A = Option Kept} (None) (Some k) → A
 no_next e = let z : ◌≡◌ {A = ℕ} 0 1 = cc in absurd (omega arith)
 
 no_kind : {A : Type 0} → ◌≡◌ {A = Bool} false true → A
@@ -178,16 +173,16 @@ module _ (r : Bool) (s : List ℕ) (at : ℕ) where
   unfolding rows_for
   reversale_rows = refl
 
-pub held_at : (p : Parent) (s : List ℕ) (i : ℕ) (k : Kept) → next_of (kept_from p s i) ≡ Named k → HeldIn (table p) k.row k.holds
+pub held_at : (p : Parent) (s : List ℕ) (i : ℕ) (k : Kept) → next_of (kept_from p s i) ≡ Some k → HeldIn (table p) k.row k.holds
 held_at p s i k e = kept_held p s i k (kept_from p s k.child.after) (next_at p s i k e).rest
 
 -- THOSE OF WHICH f HOLDS, as the walk over the named children goes
 module _ (f : Kept → Bool) (p : Parent) (s : List ℕ) (i : ℕ) where
-  pub those_done : next_of (kept_from p s i) ≡ Done → those f (kept_from p s i) ≡ []
+  pub those_done : next_of (kept_from p s i) ≡ None → those f (kept_from p s i) ≡ []
   unfolding those
   those_done e = rw (next_done p s i e)
 
-  module _ (k : Kept) (e : next_of (kept_from p s i) ≡ Named k) where
+  module _ (k : Kept) (e : next_of (kept_from p s i) ≡ Some k) where
     pub those_other : f k ≡ false → those f (kept_from p s i) ≡ those f (kept_from p s k.child.after)
     unfolding those
     those_other g = rw ((next_at p s i k e).rest, g)
@@ -203,18 +198,18 @@ pub record ThoseAt (f : Kept → Bool) (p : Parent) (s : List ℕ) (i : ℕ) (k 
   pub is : f k ≡ true
   pub every : (g : Kept → Bool) → all_kept g (kept_from p s i) ≡ true → (g k ≡ true) × (all_kept g (kept_from p s k.child.after) ≡ true)
 
-those_by : (m : ℕ) (f : Kept → Bool) (p : Parent) (s : List ℕ) (i : ℕ) (k : Kept) → length s - i < m → next_of (those f (kept_from p s i)) ≡ Named k → ThoseAt f p s i k
+those_by : (m : ℕ) (f : Kept → Bool) (p : Parent) (s : List ℕ) (i : ℕ) (k : Kept) → length s - i < m → next_of (those f (kept_from p s i)) ≡ Some k → ThoseAt f p s i k
 those_by zero f p s i k h e = absurd (omega arith)
 those_by (suc m) f p s i k h e = go (next_of (kept_from p s i)) refl (those_by m f p s)
   where
-    go : (w : Next) → next_of (kept_from p s i) ≡ w → ((j : ℕ) (k : Kept) → length s - j < m → next_of (those f (kept_from p s j)) ≡ Named k → ThoseAt f p s j k) → ThoseAt f p s i k
-    go Done n ih = no_next (ap next_of (sym (those_done f p s i n)) ∙ e)
-    go (Named c) n ih = at (f c) refl
+    go : (w : Option Kept) → next_of (kept_from p s i) ≡ w → ((j : ℕ) (k : Kept) → length s - j < m → next_of (those f (kept_from p s j)) ≡ Some k → ThoseAt f p s j k) → ThoseAt f p s i k
+    go None n ih = no_next (ap next_of (sym (those_done f p s i n)) ∙ e)
+    go (Some c) n ih = at (f c) refl
       where
         at : (b : Bool) → f c ≡ b → ThoseAt f p s i k
         at true g =
             let m = those_one f p s i c n g in
-            let z : Named c ≡ Named k = ap next_of (sym m) ∙ e in
+            let z : ◌≡◌ {A = Option Kept} (Some c) (Some k) = ap next_of (sym m) ∙ e in
             let u : c ≡ k = cc in
             rw (← u) (record { rest = m; lies = (next_at p s i c n).lies; is = g; every = all_next p s i c n })
         at false g =
@@ -224,10 +219,10 @@ those_by (suc m) f p s i k h e = go (next_of (kept_from p s i)) refl (those_by m
             let y = r.lies in
             record { rest = m ∙ r.rest; lies = record { from = omega arith; name = y.name; inner = y.inner; ends = y.ends; within = y.within }; is = r.is; every = λ g a. r.every g (all_next p s i c n g a).1 }
 
-pub those_at : (f : Kept → Bool) (p : Parent) (s : List ℕ) (i : ℕ) (k : Kept) → next_of (those f (kept_from p s i)) ≡ Named k → ThoseAt f p s i k
+pub those_at : (f : Kept → Bool) (p : Parent) (s : List ℕ) (i : ℕ) (k : Kept) → next_of (those f (kept_from p s i)) ≡ Some k → ThoseAt f p s i k
 those_at f p s i k e = those_by (suc (length s - i)) f p s i k (omega arith) e
 
-pub those_end : (ks : List Kept) → next_of ks ≡ Done → ks ≡ []
+pub those_end : (ks : List Kept) → next_of ks ≡ None → ks ≡ []
 those_end [] e = refl
 those_end (k ∷ ks) e = no_next (sym e)
 
@@ -238,7 +233,7 @@ those_all f [] e = refl
 those_all f (k ∷ ks) e = let b = both (f k) (all_kept f ks) e in rw b.0 (ap (λ t. k ∷ t) (those_all f ks b.1))
 
 -- BY ROWS
-module _ (n : ℕ) (p : Parent) (s : List ℕ) (i : ℕ) (k : Kept) (e : next_of (kept_from p s i) ≡ Named k) where
+module _ (n : ℕ) (p : Parent) (s : List ℕ) (i : ℕ) (k : Kept) (e : next_of (kept_from p s i) ≡ Some k) where
   pub row_other : (k.row ≡ n → ⊥) → in_row n (kept_from p s i) ≡ in_row n (kept_from p s k.child.after)
   row_other f = those_other (of_row n) p s i k e (ne_eqb _ _ f)
 
@@ -250,9 +245,9 @@ none_by : (m n : ℕ) (p : Parent) (s : List ℕ) (i : ℕ) → length s - i < m
 none_by zero n p s i h l = absurd (omega arith)
 none_by (suc m) n p s i h l = go (next_of (kept_from p s i)) refl (none_by m n p s)
   where
-    go : (w : Next) → next_of (kept_from p s i) ≡ w → ((j : ℕ) → length s - j < m → length (ranges (table p)) ≤ n → in_row n (kept_from p s j) ≡ []) → in_row n (kept_from p s i) ≡ []
-    go Done e ih = those_done (of_row n) p s i e
-    go (Named k) e ih =
+    go : (w : Option Kept) → next_of (kept_from p s i) ≡ w → ((j : ℕ) → length s - j < m → length (ranges (table p)) ≤ n → in_row n (kept_from p s j) ≡ []) → in_row n (kept_from p s i) ≡ []
+    go None e ih = those_done (of_row n) p s i e
+    go (Some k) e ih =
         let a = next_at p s i k e in
         let y = a.lies in
         let r = kept_row p s i k (kept_from p s k.child.after) a.rest in
@@ -275,10 +270,10 @@ pub record Found (rs : List Range) (d : ℕ) (p : Parent) (s : List ℕ) (n i : 
   pub texts : (m : ℕ) → n < m → text_in m s (kept_from p s i) ≡ text_in m s (kept_from p s k.child.after)
 
 module _ {rs : List Range} (d : ℕ) (p : Parent) (s : List ℕ) (n i : ℕ) (f : Filled (one ∷ rs) d p s n i) where
-  pub found_some : next_of (kept_from p s i) ≡ Done → ⊥
+  pub found_some : next_of (kept_from p s i) ≡ None → ⊥
   found_some e = once_done p s i rs n f.rows e
 
-  pub found : (k : Kept) → next_of (kept_from p s i) ≡ Named k → Found rs d p s n i k
+  pub found : (k : Kept) → next_of (kept_from p s i) ≡ Some k → Found rs d p s n i k
   unfolding text_in
   found k e =
       let a = next_at p s i k e in
@@ -396,7 +391,7 @@ module _ (p : Parent) (s : List ℕ) (from : ℕ) where
         let w : eight (lines_of s (in_row 4 (kept_from p s from))) ≡ each = rw e at f.filled in
         (rw (z, w), omega arith)
 
-    pub lining_end : next_of (kept_from p s i) ≡ Done → (record { count = count; each = each } ≡ lines_in s (kept_from p s from)) × (count ≤ 8)
+    pub lining_end : next_of (kept_from p s i) ≡ None → (record { count = count; each = each } ≡ lines_in s (kept_from p s from)) × (count ≤ 8)
     lining_end e = lining_empty (next_done p s i e)
 
     pub lining_full : 8 ≤ count → (record { count = count; each = each } ≡ lines_in s (kept_from p s from)) × (count ≤ 8)
@@ -406,7 +401,7 @@ module _ (p : Parent) (s : List ℕ) (from : ℕ) where
         none [] h = refl
         none (k ∷ ks) h = absurd (omega arith)
 
-    module _ (k : Kept) (e : next_of (kept_from p s i) ≡ Named k) where
+    module _ (k : Kept) (e : next_of (kept_from p s i) ≡ Some k) where
       pub lining_shaped : ranges (table p) ≡ order_rows → Shaped (line_rows_of k.holds) 2 s k
       lining_shaped t =
           let l = (next_at p s i k e).lies in
@@ -437,17 +432,17 @@ unfolding lines_in
 lines_same s ks js e = rw e
 
 -- WHAT A FIELD SAYS is the value of its form's text
-number_said : (c : Child) (n : Number) → number_of (read_at c (of_number n)) ≡ value_of n
-number_said c (Value v) = refl
-number_said c NoNumber = refl
+number_said : (c : Child) (n : Option ℕ) → number_of (read_at c (of_number n)) ≡ value_of n
+number_said c (Some v) = refl
+number_said c None = refl
 
-day_said : (c : Child) (d : Day) → date_read (read_at c (of_day d)) ≡ date_of d
-day_said c (On d) = refl
-day_said c NoDay = refl
+day_said : (c : Child) (d : Option Date) → date_read (read_at c (of_day d)) ≡ date_of d
+day_said c (Some d) = refl
+day_said c None = refl
 
-operation_said : (c : Child) (a : Asked) → said_operation (read_at c (of_operation a)) ≡ operation_of a
-operation_said c (Operazione o) = refl
-operation_said c NoOperation = refl
+operation_said : (c : Child) (a : Option Operation) → said_operation (read_at c (of_operation a)) ≡ operation_of a
+operation_said c (Some o) = refl
+operation_said c None = refl
 
 module _ (s : List ℕ) (c : Child) (t : List ℕ) (e : t ≡ part s (c.gt + 1) c.to) where
   pub says_progressivo : number_of (field_read s Progressivo c) ≡ value_of (progressivo t)
@@ -480,7 +475,7 @@ module _ (p : Parent) (s : List ℕ) (i : ℕ) where
   unfolding named_in
   named_none e = let z : length (ranges (table p)) ≡ 3 = ap length e in rw (no_row 3 p s i (omega arith))
 
-  pub named_there : (j : ℕ) (k : Kept) → in_row 3 (kept_from p s i) ≡ in_row 3 (kept_from p s j) → next_of (kept_from p s j) ≡ Named k → k.row ≡ 3 → named_in s (kept_from p s i) ≡ named_of s k
+  pub named_there : (j : ℕ) (k : Kept) → in_row 3 (kept_from p s i) ≡ in_row 3 (kept_from p s j) → next_of (kept_from p s j) ≡ Some k → k.row ≡ 3 → named_in s (kept_from p s i) ≡ named_of s k
   unfolding named_in
   named_there j k l e z = rw (l, row_one 3 p s j k e z)
 
@@ -489,7 +484,7 @@ unfolding named_in
 named_same s ks js e = rw e
 
 -- the structure that holds it, as the code that reads it asks for it
-pub named_shaped : (p : Parent) (s : List ℕ) (i : ℕ) → is_replacing p ≡ true → Filled (one ∷ []) 1 p s 3 i → (k : Kept) → next_of (kept_from p s i) ≡ Named k → Shaped named_rows 1 s k
+pub named_shaped : (p : Parent) (s : List ℕ) (i : ℕ) → is_replacing p ≡ true → Filled (one ∷ []) 1 p s 3 i → (k : Kept) → next_of (kept_from p s i) ≡ Some k → Shaped named_rows 1 s k
 named_shaped p s i r f k e =
     let o = found 1 p s 3 i f k e in
     let l = o.lies in
@@ -523,11 +518,11 @@ module _ (s : List ℕ) (k : Kept) (p : Parent) (w : ℕ) (z : w ≡ white_at s 
 
 -- ORDERS, as the walk goes
 module _ (p : Parent) (s : List ℕ) (i : ℕ) where
-  pub orders_end : next_of (those is_order (kept_from p s i)) ≡ Done → orders_in s (kept_from p s i) ≡ []
+  pub orders_end : next_of (those is_order (kept_from p s i)) ≡ None → orders_in s (kept_from p s i) ≡ []
   unfolding orders_of
   orders_end e = rw (those_end (those is_order (kept_from p s i)) e)
 
-  pub orders_one : (k : Kept) → next_of (those is_order (kept_from p s i)) ≡ Named k → orders_in s (kept_from p s i) ≡ order_of s k ∷ orders_in s (kept_from p s k.child.after)
+  pub orders_one : (k : Kept) → next_of (those is_order (kept_from p s i)) ≡ Some k → orders_in s (kept_from p s i) ≡ order_of s k ∷ orders_in s (kept_from p s k.child.after)
   unfolding orders_of
   orders_one k e = rw (those_at is_order p s i k e).rest
 
@@ -563,7 +558,7 @@ pub record OrderAt (p : Parent) (s : List ℕ) (i : ℕ) (k : Kept) : Type 0 whe
   pub shaped : Shaped order_rows 3 s k
   pub on : Standing p s k.child.after
 
-pub order_at : (p : Parent) (s : List ℕ) (i : ℕ) (k : Kept) → Standing p s i → next_of (those is_order (kept_from p s i)) ≡ Named k → OrderAt p s i k
+pub order_at : (p : Parent) (s : List ℕ) (i : ℕ) (k : Kept) → Standing p s i → next_of (those is_order (kept_from p s i)) ≡ Some k → OrderAt p s i k
 order_at p s i k h e =
     let a = those_at is_order p s i k e in
     let l = a.lies in

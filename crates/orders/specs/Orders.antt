@@ -1,16 +1,10 @@
 -- The orders of a flow as values: everything after this speaks of them, and no longer of the flow's bytes.
-use Rattle.std.specs.Prelude.{ℕ, ◌+◌, List, [], ◌∷◌, ◌++◌, Bool, cond, length, take, replicate, eqb, leb}
+use Rattle.std.specs.Prelude.{ℕ, ◌+◌, List, [], ◌∷◌, ◌++◌, Bool, cond, length, take, replicate, eqb, leb, Option, Some, None}
 use Rattle.scan.specs.Bytes.{part}
 use Rattle.tokens.specs.Tokens.{white_at}
 use Rattle.calendar.specs.declared.Date.{Date}
-use Rattle.digits.specs.declared.Number.{Number}
-use Rattle.digits.specs.declared.Number.TheVariants.{Value, NoNumber}
-use Rattle.dates.specs.declared.Day.{Day}
-use Rattle.dates.specs.declared.Day.TheVariants.{On, NoDay}
 use Rattle.codes.specs.declared.Operation.{Operation}
 use Rattle.codes.specs.declared.Operation.TheVariants.{Sostituzione}
-use Rattle.codes.specs.declared.Asked.{Asked}
-use Rattle.codes.specs.declared.Asked.TheVariants.{Operazione, NoOperation}
 use Rattle.codes.specs.Codes.{tipo_operazione}
 use Rattle.digits.specs.Digits.{numero, importo, progressivo, esercizio}
 use Rattle.dates.specs.Dates.{data_of}
@@ -18,8 +12,6 @@ use Rattle.schema.specs.declared.Parent.TheVariants.{FlussoOrdinativi, Mandato, 
 use Rattle.schema.specs.declared.Holds.{Holds}
 use Rattle.schema.specs.declared.Holds.TheVariants.{Text, Rows}
 use Rattle.rows.specs.declared.Kept.{Kept}
-use Rattle.rows.specs.declared.Next.{Next}
-use Rattle.rows.specs.declared.Next.TheVariants.{Named, Done}
 use Rattle.rows.specs.Kept.{kept_from, next_of}
 use Rattle.rows.specs.Replaces.{rows_for}
 use Rattle.order.specs.declared.NamedLine.{NamedLine}
@@ -40,26 +32,26 @@ of_row n k = eqb k.row n
 abbrev pub in_row : ℕ → List Kept → List Kept
 in_row n = those (of_row n)
 
-abbrev pub text_of_next : List ℕ → Next → List ℕ
-text_of_next s (Named k) = part s (k.child.gt + 1) k.child.to
-text_of_next s Done = []
+abbrev pub text_of_next : List ℕ → Option Kept → List ℕ
+text_of_next s (Some k) = part s (k.child.gt + 1) k.child.to
+text_of_next s None = []
 
 -- the text of the child in a row that holds one (once the structure stands there is one: proved in proofs/)
 unfoldable pub text_in : ℕ → List ℕ → List Kept → List ℕ
 text_in n s ks = text_of_next s (next_of (in_row n ks))
 
 -- VALUES of fields that stand. (The defaults are never used once structure and fields stand)
-abbrev pub value_of : Number → ℕ
-value_of (Value v) = v
-value_of NoNumber = 0
+abbrev pub value_of : Option ℕ → ℕ
+value_of (Some v) = v
+value_of None = 0
 
-abbrev pub date_of : Day → Date
-date_of (On d) = d
-date_of NoDay = record { year = 0; month = 0; day = 0 }
+abbrev pub date_of : Option Date → Date
+date_of (Some d) = d
+date_of None = record { year = 0; month = 0; day = 0 }
 
-abbrev pub operation_of : Asked → Operation
-operation_of (Operazione o) = o
-operation_of NoOperation = Sostituzione
+abbrev pub operation_of : Option Operation → Operation
+operation_of (Some o) = o
+operation_of None = Sostituzione
 
 -- a named child's own named children
 abbrev pub inside_of : List ℕ → Kept → Holds → List Kept
@@ -82,9 +74,9 @@ named_by s ks = record { number = value_of (numero (text_in 0 s ks)); line = val
 unfoldable pub named_of : List ℕ → Kept → NamedLine
 named_of s k = named_by s (inside s k)
 
-abbrev pub named_next : List ℕ → Next → NamedLine
-named_next s (Named k) = named_of s k
-named_next s Done = no_name
+abbrev pub named_next : List ℕ → Option Kept → NamedLine
+named_next s (Some k) = named_of s k
+named_next s None = no_name
 
 -- A LINE: progressivo is row 0 of its table, importo row 1, and the structure row 3, which only lines of an order that replaces others have
 unfoldable pub named_in : List ℕ → List Kept → NamedLine

@@ -5,7 +5,6 @@ ghost use Rattle.std.specs.Prelude.{◌≡◌, ℕ, ◌+◌, ◌≤◌, ◌<◌,
 ghost use Rattle.markup.specs.Noted.{Noted};
 ghost use Rattle.tokens.specs.Tokens.{white_at};
 ghost use Rattle.schema.specs.declared.Holds.TheVariants.{Rows};
-ghost use Rattle.rows.specs.declared.Next.TheVariants.{Named, Done};
 ghost use Rattle.order.specs.Ordinativo.{no_name, no_line};
 ghost use Rattle.schema.specs.Table.{table};
 ghost use Rattle.rows.specs.Kept.{kept_from, next_of};
@@ -19,7 +18,7 @@ use children::Child;
 use codes::Operation;
 use fields::{Form, Value};
 use order::{Line, Lines, NamedLine, Order};
-use rows::{FieldRead, Kept, Next};
+use rows::{FieldRead, Kept};
 use schema::{Holds, Parent};
 
 // The number, the date or the operation that a field says. (The defaults are never used: the field stands.)
@@ -27,12 +26,8 @@ fn number_said(v: Value) -> u64
     ensures { result ≡ number_said v }
 {
     match v {
-        Value::Text => 0,
         Value::Number(n) => n,
-        Value::Day(_) => 0,
-        Value::Operation(_) => 0,
-        Value::Accepted(_) => 0,
-        Value::Refused(_) => 0,
+        _ => 0,
     }
 }
 
@@ -40,26 +35,21 @@ pub fn number_of(r: FieldRead) -> u64
     ensures { result ≡ number_of r }
 {
     match r {
-        FieldRead::Said(v, _) => number_said(v),
-        FieldRead::Broken(_) => 0,
+        Ok((v, _)) => number_said(v),
+        Err(_) => 0,
     }
 }
 
 fn day_said(v: Value) -> Date
     ensures { result ≡ day_said v }
 {
-    let none = Date {
-        year: 0,
-        month: 0,
-        day: 0,
-    };
     match v {
-        Value::Text => none,
-        Value::Number(_) => none,
         Value::Day(d) => d,
-        Value::Operation(_) => none,
-        Value::Accepted(_) => none,
-        Value::Refused(_) => none,
+        _ => Date {
+            year: 0,
+            month: 0,
+            day: 0,
+        },
     }
 }
 
@@ -67,8 +57,8 @@ fn day_of(r: FieldRead) -> Date
     ensures { result ≡ date_read r }
 {
     match r {
-        FieldRead::Said(v, _) => day_said(v),
-        FieldRead::Broken(_) => Date {
+        Ok((v, _)) => day_said(v),
+        Err(_) => Date {
             year: 0,
             month: 0,
             day: 0,
@@ -80,12 +70,8 @@ fn operation_said(v: Value) -> Operation
     ensures { result ≡ operation_said v }
 {
     match v {
-        Value::Text => Operation::Sostituzione,
-        Value::Number(_) => Operation::Sostituzione,
-        Value::Day(_) => Operation::Sostituzione,
-        Value::Operation(o) => o,
-        Value::Accepted(o) => o,
-        Value::Refused(o) => o,
+        Value::Operation(o) | Value::Accepted(o) | Value::Refused(o) => o,
+        _ => Operation::Sostituzione,
     }
 }
 
@@ -93,29 +79,26 @@ fn operation_of(r: FieldRead) -> Operation
     ensures { result ≡ said_operation r }
 {
     match r {
-        FieldRead::Said(v, _) => operation_said(v),
-        FieldRead::Broken(_) => Operation::Sostituzione,
+        Ok((v, _)) => operation_said(v),
+        Err(_) => Operation::Sostituzione,
     }
 }
 
 // The first named child from a place on, where the structure says that there is one.
 pub fn first_named(s: &[u8], from: usize, parent: Parent, past: &[u32]) -> Kept
-    requires { (from ≤ length s.now) × Noted s.now past.now × (next_of (kept_from parent s.now from) ≡ Done → ⊥) }
-    ensures { next_of (kept_from parent s.now from) ≡ Named result }
+    requires { (from ≤ length s.now) × Noted s.now past.now × (next_of (kept_from parent s.now from) ≡ None → ⊥) }
+    ensures { next_of (kept_from parent s.now from) ≡ Some result }
 {
-    match rows::next_named(s, from, parent, past) {
-        Next::Named(k) => k,
-        Next::Done => Kept {
-            child: Child {
-                lt: 0,
-                gt: 0,
-                to: 0,
-                after: 0,
-            },
-            row: 0,
-            holds: Holds::Rows(parent),
+    rows::next_named(s, from, parent, past).unwrap_or(Kept {
+        child: Child {
+            lt: 0,
+            gt: 0,
+            to: 0,
+            after: 0,
         },
-    }
+        row: 0,
+        holds: Holds::Rows(parent),
+    })
 }
 
 // The line that is named, whose fields begin at a place.
@@ -152,11 +135,9 @@ fn named_of(s: &[u8], k: Kept, past: &[u32]) -> NamedLine
     requires { Shaped named_rows 1 s.now k × Noted s.now past.now }
     ensures { result ≡ named_of s.now k }
 {
-    let c = k.child;
-    let h = k.holds;
-    match h {
+    match k.holds {
         Holds::Text(_) => none_named(),
-        Holds::Rows(p) => named_from(s, scan::white_end(s, c.gt + 1), p, past),
+        Holds::Rows(p) => named_from(s, scan::white_end(s, k.child.gt + 1), p, past),
     }
 }
 
@@ -165,23 +146,8 @@ fn is_replacing(parent: Parent) -> bool
     ensures { result ≡ is_replacing parent }
 {
     match parent {
-        Parent::FlussoOrdinativi => false,
-        Parent::Mandato(_) => false,
-        Parent::Reversale(_) => false,
-        Parent::InformazioniBeneficiario(r) => r,
-        Parent::InformazioniVersante(r) => r,
-        Parent::SostituzioneMandato => false,
-        Parent::SostituzioneReversale => false,
-        Parent::Beneficiario => false,
-        Parent::Versante => false,
-        Parent::MessaggiEsito => false,
-        Parent::TestataMessaggio => false,
-        Parent::EsitoReversali => false,
-        Parent::EsitoMandati => false,
-        Parent::ErroriReversali => false,
-        Parent::ErroriMandati => false,
-        Parent::FlussoOpi => false,
-        Parent::TestataFlusso => false,
+        Parent::InformazioniBeneficiario(r) | Parent::InformazioniVersante(r) => r,
+        _ => false,
     }
 }
 
@@ -206,16 +172,25 @@ fn line_from(s: &[u8], from: usize, parent: Parent, past: &[u32]) -> Line
     let progressivo = number_of(rows::read_field(s, a, Form::Progressivo));
     let b = first_named(s, a.after, parent, past).child;
     let amount = number_of(rows::read_field(s, b, Form::Importo));
-    if is_replacing(parent) {
-        return Line {
-            progressivo,
-            amount,
-            named: named_after(s, b.after, parent, past),
-        };
-    }
+    let named = if is_replacing(parent) {
+        named_after(s, b.after, parent, past)
+    } else {
+        none_named()
+    };
     Line {
         progressivo,
         amount,
+        named,
+    }
+}
+
+// What stands where there is no line.
+fn no_line() -> Line
+    ensures { result ≡ no_line }
+{
+    Line {
+        progressivo: 0,
+        amount: 0,
         named: none_named(),
     }
 }
@@ -225,19 +200,9 @@ fn line_of(s: &[u8], k: Kept, past: &[u32]) -> Line
     requires { Shaped (line_rows_of k.holds) 2 s.now k × Noted s.now past.now }
     ensures { result ≡ line_of s.now k }
 {
-    let c = k.child;
-    let h = k.holds;
-    match h {
-        Holds::Text(_) => Line {
-            progressivo: 0,
-            amount: 0,
-            named: NamedLine {
-                number: 0,
-                line: 0,
-                esercizio: 0,
-            },
-        },
-        Holds::Rows(p) => line_from(s, scan::white_end(s, c.gt + 1), p, past),
+    match k.holds {
+        Holds::Text(_) => no_line(),
+        Holds::Rows(p) => line_from(s, scan::white_end(s, k.child.gt + 1), p, past),
     }
 }
 
@@ -246,51 +211,25 @@ fn lines_from(s: &[u8], from: usize, parent: Parent, past: &[u32]) -> Lines
     requires { (ranges (table parent) ≡ order_rows) × Filled (drop 4 order_rows) 2 parent s.now 4 from × Noted s.now past.now }
     ensures { (result ≡ lines_in s.now (kept_from parent s.now from)) × (result.count ≤ 8) }
 {
-    let none = Line {
-        progressivo: 0,
-        amount: 0,
-        named: NamedLine {
-            number: 0,
-            line: 0,
-            esercizio: 0,
-        },
-    };
-    let mut each: [Line; 8] = [none; 8];
-    let mut count: usize = 0;
+    let mut each: [Line; 8] = [no_line(); 8];
     let mut i = from;
-    while count < 8 {
-        let Next::Named(k) = rows::next_named(s, i, parent, past) else {
+    for count in 0..8 {
+        let Some(k) = rows::next_named(s, i, parent, past) else {
             return Lines { count, each };
         };
-        let c = k.child;
         each[count] = line_of(s, k, past);
-        count += 1;
-        i = c.after;
+        i = k.child.after;
     }
-    Lines { count, each }
+    Lines { count: 8, each }
 }
 
 fn kind_of(parent: Parent) -> u8
     ensures { result ≡ kind_of (Rows parent) }
 {
     match parent {
-        Parent::FlussoOrdinativi => 0,
         Parent::Mandato(_) => 1,
         Parent::Reversale(_) => 2,
-        Parent::InformazioniBeneficiario(_) => 0,
-        Parent::InformazioniVersante(_) => 0,
-        Parent::SostituzioneMandato => 0,
-        Parent::SostituzioneReversale => 0,
-        Parent::Beneficiario => 0,
-        Parent::Versante => 0,
-        Parent::MessaggiEsito => 0,
-        Parent::TestataMessaggio => 0,
-        Parent::EsitoReversali => 0,
-        Parent::EsitoMandati => 0,
-        Parent::ErroriReversali => 0,
-        Parent::ErroriMandati => 0,
-        Parent::FlussoOpi => 0,
-        Parent::TestataFlusso => 0,
+        _ => 0,
     }
 }
 
@@ -308,9 +247,8 @@ fn order_from(s: &[u8], from: usize, parent: Parent, past: &[u32]) -> Order
     let d = first_named(s, c.after, parent, past).child;
     let total = number_of(rows::read_field(s, d, Form::Importo));
     let lines = lines_from(s, d.after, parent, past);
-    let kind = kind_of(parent);
     Order {
-        kind,
+        kind: kind_of(parent),
         operation,
         number,
         date,
@@ -324,12 +262,10 @@ pub fn order_of(s: &[u8], k: Kept, past: &[u32]) -> Order
     requires { Shaped order_rows 3 s.now k × Noted s.now past.now }
     ensures { (result ≡ order_of s.now k) × (result.lines.count ≤ 8) }
 {
-    let c = k.child;
-    let h = k.holds;
-    match h {
+    match k.holds {
         Holds::Text(_) => order_from(s, 0, Parent::Mandato(false), past),
         Holds::Rows(p) => {
-            let at = c.gt + 1;
+            let at = k.child.gt + 1;
             let q = rows::rows_for(s, at, p, past);
             order_from(s, scan::white_end(s, at), q, past)
         }
@@ -347,22 +283,18 @@ fn holds_order(h: Holds) -> bool
 }
 
 // The first order among a root's named children from a place on.
-pub fn next_order(s: &[u8], from: usize, root: Parent, past: &[u32]) -> Next
+pub fn next_order(s: &[u8], from: usize, root: Parent, past: &[u32]) -> Option<Kept>
     requires { (from ≤ length s.now) × Noted s.now past.now }
     ensures { result ≡ next_of (those is_order (kept_from root s.now from)) }
 {
     let mut i = from;
-    loop {
-        let Next::Named(k) = rows::next_named(s, i, root, past) else {
-            return Next::Done;
-        };
-        let c = k.child;
-        let h = k.holds;
-        if holds_order(h) {
-            return Next::Named(k);
+    while let Some(k) = rows::next_named(s, i, root, past) {
+        if holds_order(k.holds) {
+            return Some(k);
         }
-        i = c.after;
+        i = k.child.after;
     }
+    None
 }
 
 // How many orders there are among a root's named children from a place on.
@@ -372,12 +304,9 @@ pub fn count_orders(s: &[u8], from: usize, root: Parent, past: &[u32]) -> usize
 {
     let mut i = from;
     let mut n: usize = 0;
-    loop {
-        let Next::Named(k) = next_order(s, i, root, past) else {
-            return n;
-        };
-        let c = k.child;
+    while let Some(k) = next_order(s, i, root, past) {
         n += 1;
-        i = c.after;
+        i = k.child.after;
     }
+    n
 }

@@ -1,9 +1,7 @@
 -- The parts of an element by the rows of its table: names for the contracts of the code.
-use Rattle.std.specs.Prelude.{ℕ, zero, suc, ◌+◌, ◌≤◌, ◌<◌, List, [], ◌∷◌, length, get_or}
+use Rattle.std.specs.Prelude.{ℕ, zero, suc, ◌+◌, ◌≤◌, ◌<◌, List, [], ◌∷◌, length, get_or, Option, Some, None}
 use Rattle.scan.specs.Bytes.{part}
 use Rattle.rows.specs.declared.Kept.{Kept}
-use Rattle.rows.specs.declared.Next.{Next}
-use Rattle.rows.specs.declared.Next.TheVariants.{Named, Done}
 use Rattle.rows.specs.Kept.{next_of}
 use Rattle.orders.specs.Orders.{in_row}
 use Rattle.parts.specs.declared.Span.{Span}
@@ -12,9 +10,9 @@ abbrev pub no_span : Span
 no_span = record { lt = 0; from = 0; to = 0 }
 
 -- where a child stands: the place of its <, and its text
-abbrev pub span_of_next : Next → Span
-span_of_next (Named k) = record { lt = k.child.lt; from = k.child.gt + 1; to = k.child.to }
-span_of_next Done = no_span
+abbrev pub span_of_next : Option Kept → Span
+span_of_next (Some k) = record { lt = k.child.lt; from = k.child.gt + 1; to = k.child.to }
+span_of_next None = no_span
 
 -- the first of row n
 abbrev pub span_in : ℕ → List Kept → Span

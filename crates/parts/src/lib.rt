@@ -8,7 +8,7 @@ ghost use Rattle.rows.specs.Kept.{kept_from, next_of};
 ghost use Rattle.orders.specs.Orders.{in_row};
 ghost use Rattle.parts.specs.Parts.{parts_in};
 
-use rows::Next;
+use rows::Kept;
 use schema::Parent;
 
 // Where a child stands: the place of its `<`, and its text; zeros where there is none.
@@ -24,27 +24,22 @@ pub fn text_at(s: &[u8], w: Span) -> &[u8]
     requires { (w.from ≤ w.to) × (w.to ≤ length s.now) }
     ensures { result.now ≡ part s.now w.from w.to }
 {
-    let a = w.from;
-    let e = w.to;
-    &s[a..e]
+    &s[w.from..w.to]
 }
 
 // The first child from a place on that stands in a row of the parent.
-pub fn next_row(s: &[u8], from: usize, parent: Parent, row: usize, past: &[u32]) -> Next
+pub fn next_row(s: &[u8], from: usize, parent: Parent, row: usize, past: &[u32]) -> Option<Kept>
     requires { (from ≤ length s.now) × Noted s.now past.now }
     ensures { result ≡ next_of (in_row row (kept_from parent s.now from)) }
 {
     let mut i = from;
-    loop {
-        let Next::Named(k) = rows::next_named(s, i, parent, past) else {
-            return Next::Done;
-        };
-        let c = k.child;
+    while let Some(k) = rows::next_named(s, i, parent, past) {
         if k.row == row {
-            return Next::Named(k);
+            return Some(k);
         }
-        i = c.after;
+        i = k.child.after;
     }
+    None
 }
 
 // The children of the first nine rows, from a place on.
@@ -59,22 +54,17 @@ pub fn parts_of(s: &[u8], from: usize, parent: Parent, past: &[u32]) -> [Span; 9
     };
     let mut each: [Span; 9] = [none; 9];
     let mut i = from;
-    loop {
-        let Next::Named(k) = rows::next_named(s, i, parent, past) else {
-            return each;
-        };
+    while let Some(k) = rows::next_named(s, i, parent, past) {
         let c = k.child;
         let row = k.row;
-        if row < 9 {
-            let w = each[row];
-            if w.to == 0 {
-                each[row] = Span {
-                    lt: c.lt,
-                    from: c.gt + 1,
-                    to: c.to,
-                };
-            }
+        if row < 9 && each[row].to == 0 {
+            each[row] = Span {
+                lt: c.lt,
+                from: c.gt + 1,
+                to: c.to,
+            };
         }
         i = c.after;
     }
+    each
 }

@@ -1,8 +1,7 @@
 -- THE PLAIN ENGINE (document 02, Req 12): "a version that keeps each body's orders as a simple list in order of arrival, unpacked, as many as the body has slots". It
 -- takes flows (Flows) and notices and totals (Notices), and "gets no close" (Req 14). It has no bytes: of a table only Says speaks, which tells the room that a table says.
-use Rattle.std.specs.Prelude.{ℕ, Bool, true, ◌&&◌, List, [], ◌∷◌, map, get_or, set, leb}
+use Rattle.std.specs.Prelude.{ℕ, Bool, true, ◌&&◌, List, [], ◌∷◌, map, get_or, set, leb, Option}
 use Rattle.bounds.specs.Bounds.{max_cents}
-use Rattle.ranges.specs.declared.Found.{Found}
 use Rattle.record.specs.declared.Record.{Record}
 use Rattle.entries.specs.Entry.{find_code}
 
@@ -25,7 +24,7 @@ abbrev pub body_in : Plain → ℕ → Listed
 body_in s b = get_or s.bodies b no_body
 
 -- the number of the body with a code, compared byte by byte: "000471 and 471 are two bodies" (document 01)
-abbrev pub numbered : Plain → List ℕ → Found
+abbrev pub numbered : Plain → List ℕ → Option ℕ
 numbered s code = find_code (map (λ l. l.code) s.bodies) 0 code
 
 -- the same body with other orders, and the same room with other orders of body b

@@ -1,8 +1,6 @@
 -- Tests of the bytes from one index up to another, and where a search stops.
-use Rattle.std.specs.Prelude.{ℕ, Bool, true, false, ◌||◌, List, eqb}
+use Rattle.std.specs.Prelude.{ℕ, Bool, true, false, ◌||◌, List, eqb, Option, Some, None}
 use Rattle.scan.specs.Bytes.{byte, part, all, is_digit, is_alnum}
-use Rattle.ranges.specs.declared.Found.{Found}
-use Rattle.ranges.specs.declared.Found.TheVariants.{At, Nothing}
 use Rattle.ranges.specs.declared.Class.{Class}
 use Rattle.ranges.specs.declared.Class.TheVariants.{Digits, Alphanumeric, Identifying, Zero}
 
@@ -22,6 +20,6 @@ is_of Identifying b = is_identifying b
 is_of Zero b = eqb b 0
 
 -- nothing was found
-abbrev pub is_nothing : Found → Bool
-is_nothing Nothing = true
-is_nothing (At i) = false
+abbrev pub is_nothing : Option ℕ → Bool
+is_nothing None = true
+is_nothing (Some i) = false

@@ -2,22 +2,13 @@
 // what is wrong with it and the form that document 01 asks of it.
 #![tactic(auto)]
 
-ghost use Rattle.std.specs.Prelude.{length};
 ghost use Rattle.std.specs.Counts.{IsPrefixLen};
 
 use fields::{Form, Longest};
-use markup::Markup;
-use printing::{say, say_number};
-use schema::{Holds, Parent, Spot};
+use printing::say;
+use schema::{Holds, Parent};
 use std::io;
 use std::io::Write;
-
-// The form that document 01 asks of an element, if it names it as a field.
-#[derive(Clone, Copy)]
-enum Wanted {
-    By(Form),
-    Nothing,
-}
 
 // What document 01's field table says of a form.
 fn say_form<W: Write>(to: &mut W, f: Form) -> io::Result<()> {
@@ -57,73 +48,49 @@ fn say_form<W: Write>(to: &mut W, f: Form) -> io::Result<()> {
     }
 }
 
-fn wanted_in(name: &[u8], parent: Parent) -> Wanted {
-    let Spot::At(_, holds) = rows::spot_of(name, 0, name.len(), parent) else {
-        return Wanted::Nothing;
+fn wanted_in(name: &[u8], parent: Parent) -> Option<Form> {
+    let Some((_, holds)) = rows::spot_of(name, 0, name.len(), parent) else {
+        return None;
     };
     match holds {
-        Holds::Text(f) => Wanted::By(f),
-        Holds::Rows(_) => Wanted::Nothing,
+        Holds::Text(f) => Some(f),
+        Holds::Rows(_) => None,
     }
 }
 
-fn parent_at(i: usize) -> Parent {
-    match i {
-        0 => Parent::FlussoOrdinativi,
-        1 => Parent::Mandato(true),
-        2 => Parent::Reversale(true),
-        3 => Parent::InformazioniBeneficiario(true),
-        4 => Parent::InformazioniVersante(true),
-        5 => Parent::Beneficiario,
-        6 => Parent::Versante,
-        7 => Parent::SostituzioneMandato,
-        _ => Parent::SostituzioneReversale,
-    }
+// The parents that name fields.
+const PARENTS: [Parent; 9] = [
+    Parent::FlussoOrdinativi,
+    Parent::Mandato(true),
+    Parent::Reversale(true),
+    Parent::InformazioniBeneficiario(true),
+    Parent::InformazioniVersante(true),
+    Parent::Beneficiario,
+    Parent::Versante,
+    Parent::SostituzioneMandato,
+    Parent::SostituzioneReversale,
+];
+
+// The form that document 01 asks of an element, if it names it as a field. A name has one form, whichever parent names it.
+fn wanted_of(name: &[u8]) -> Option<Form> {
+    PARENTS.iter().find_map(|&parent| wanted_in(name, parent))
 }
 
-// A name has one form, whichever parent names it.
-fn wanted_of(name: &[u8]) -> Wanted {
-    for i in 0..9 {
-        match wanted_in(name, parent_at(i)) {
-            Wanted::By(f) => {
-                return Wanted::By(f);
-            }
-            Wanted::Nothing => {}
-        }
-    }
-    Wanted::Nothing
-}
-
-// A control character would spoil the line.
-fn shown(b: u8) -> u8 {
-    if b < 32 {
-        46
-    } else if b == 127 {
-        46
-    } else {
-        b
-    }
-}
-
+// Writes a text's first bytes into out, as far as there is room: how many bytes that is. A control character would spoil the line.
 fn show(t: &[u8], out: &mut [u8]) -> usize
     ensures { IsPrefixLen result out.new }
 {
-    let mut n: usize = 0;
-    while n < out.len() {
-        if t.len() <= n {
-            return n;
-        }
-        out[n] = shown(t[n]);
-        n += 1;
+    for (to, &b) in out.iter_mut().zip(t) {
+        *to = if b.is_ascii_control() { b'.' } else { b };
     }
-    n
+    t.len().min(out.len())
 }
 
 // A text between quotes, its first 160 bytes.
-fn say_text<W: Write>(to: &mut W, t: &[u8]) -> io::Result<()> {
+fn say_quoted<W: Write>(to: &mut W, t: &[u8]) -> io::Result<()> {
     let mut out = [0u8; 160];
     let n = show(t, &mut out);
-    say(to, b" '")?;
+    say(to, b"'")?;
     say(to, &out[..n])?;
     say(to, b"'")
 }
@@ -131,14 +98,8 @@ fn say_text<W: Write>(to: &mut W, t: &[u8]) -> io::Result<()> {
 // The longest text that a form allows.
 fn say_longest<W: Write>(to: &mut W, f: Form) -> io::Result<()> {
     match fields::longest_of(f) {
-        Longest::Bytes(n) => {
-            say_number(to, n as u64)?;
-            say(to, b" bytes")
-        }
-        Longest::Characters(n) => {
-            say_number(to, n as u64)?;
-            say(to, b" characters, each reference counting as one")
-        }
+        Longest::Bytes(n) => write!(to, " {n} bytes"),
+        Longest::Characters(n) => write!(to, " {n} characters, each reference counting as one"),
     }
 }
 
@@ -156,24 +117,21 @@ fn say_cause<W: Write>(to: &mut W, cause: u64, f: Form) -> io::Result<()> {
 }
 
 fn say_wanted<W: Write>(to: &mut W, name: &[u8], cause: u64) -> io::Result<()> {
-    match wanted_of(name) {
-        Wanted::By(f) => {
-            say_cause(to, cause, f)?;
-            say(to, b"; its form: ")?;
-            say_form(to, f)
-        }
-        Wanted::Nothing => Ok(()),
+    if let Some(f) = wanted_of(name) {
+        say_cause(to, cause, f)?;
+        say(to, b"; its form: ")?;
+        say_form(to, f)?;
     }
+    Ok(())
 }
 
 fn say_field<W: Write>(to: &mut W, flow: &[u8], place: u64, cause: u64) -> io::Result<()> {
     let name = children::name_at(flow, place as usize);
-    let text = children::text_at(flow, place as usize);
     say(to, b"  5, a field breaks: ")?;
     say(to, name)?;
-    say_text(to, text)?;
-    say(to, b" at byte")?;
-    say_number(to, place)?;
+    say(to, b" ")?;
+    say_quoted(to, children::text_at(flow, place as usize))?;
+    write!(to, " at byte {place}")?;
     say_wanted(to, name, cause)?;
     say(to, b"\n")
 }
@@ -183,19 +141,16 @@ fn say_from<W: Write>(to: &mut W, flow: &[u8], place: usize) -> io::Result<()> {
     if flow.len() <= place {
         return say(to, b", its end");
     }
-    let mut out = [0u8; 40];
-    let n = show(&flow[place..], &mut out);
-    say(to, b", before '")?;
-    say(to, &out[..n])?;
-    say(to, b"'")
+    say(to, b", before ")?;
+    let rest = &flow[place..];
+    say_quoted(to, rest.get(..40).unwrap_or(rest))
 }
 
 fn say_markup<W: Write>(to: &mut W, flow: &[u8]) -> io::Result<()> {
     match markup::markup_of(flow, false) {
-        Markup::Root(_, _, _) => Ok(()),
-        Markup::Breaks(p) => {
-            say(to, b"  3, the markup breaks at byte")?;
-            say_number(to, p as u64)?;
+        Ok((_, _, _)) => Ok(()),
+        Err(p) => {
+            write!(to, "  3, the markup breaks at byte {p}")?;
             say_from(to, flow, p)?;
             say(to, b"\n")
         }

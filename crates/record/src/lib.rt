@@ -30,6 +30,7 @@ pub const EXECUTED: u8 = 2;
 pub const REPLACED: u8 = 3;
 
 // What a slot holds of an order.
+// States and amounts are two lists of eight, as the slot has their bytes.
 #[derive(Clone, Copy)]
 pub struct Record {
     pub kind: u8,
@@ -51,49 +52,20 @@ pub struct Key {
     pub number: u64,
 }
 
-pub fn wide(x: u8) -> u64
-    ensures { (result ≡ x) × (result < 256) }
-{
-    x as u64
-}
-
-// Both, where a branch on the first would cost more than the second.
-pub fn both(a: bool, b: bool) -> bool
-    ensures { result ≡ (a && b) }
-{
-    if a { b } else { false }
-}
-
 fn amounts_at(t: &[u8], at: usize) -> [u64; 8]
     requires { at + 64 ≤ length t.now }
     ensures { result ≡ be8s t.now at }
 {
-    [
-        words::read8(t, at),
-        words::read8(t, at + 8),
-        words::read8(t, at + 16),
-        words::read8(t, at + 24),
-        words::read8(t, at + 32),
-        words::read8(t, at + 40),
-        words::read8(t, at + 48),
-        words::read8(t, at + 56),
-    ]
+    std::array::from_fn(|k| words::read8(t, at + 8 * k))
 }
 
 fn states_at(t: &[u8], at: usize) -> [u8; 8]
     requires { at + 8 ≤ length t.now }
     ensures { result ≡ eight_at t.now at }
 {
-    [
-        t[at],
-        t[at + 1],
-        t[at + 2],
-        t[at + 3],
-        t[at + 4],
-        t[at + 5],
-        t[at + 6],
-        t[at + 7],
-    ]
+    let mut states = [0; 8];
+    states.copy_from_slice(&t[at..at + 8]);
+    states
 }
 
 fn date_at(t: &[u8], at: usize) -> Date
@@ -102,12 +74,13 @@ fn date_at(t: &[u8], at: usize) -> Date
 {
     Date {
         year: words::read2(t, at),
-        month: wide(t[at + 2]),
-        day: wide(t[at + 3]),
+        month: u64::from(t[at + 2]),
+        day: u64::from(t[at + 3]),
     }
 }
 
 // The record in the slot at a place.
+#[tactic(auto, unfolding(crate::specs::Slot::record_at))]
 pub fn record_at(t: &[u8], at: usize) -> Record
     requires { at + slot_size ≤ length t.now }
     ensures { result ≡ record_at t.now at }
@@ -129,14 +102,16 @@ pub fn record_at(t: &[u8], at: usize) -> Record
 }
 
 // Whether the slot's bytes that hold nothing are zero.
+#[tactic(auto, unfolding(crate::specs::Slot::rest_zero))]
 pub fn rest_zero(t: &[u8], at: usize) -> bool
     requires { at + slot_size ≤ length t.now }
     ensures { result ≡ rest_zero t.now at }
 {
-    both(t[at + 3] == 0, words::read2(t, at + 6) == 0)
+    (t[at + 3] == 0) & (words::read2(t, at + 6) == 0)
 }
 
 // The key of the record in the slot at a place.
+#[tactic(auto, unfolding(crate::specs::Slot::record_at))]
 pub fn key_at(t: &[u8], at: usize) -> Key
     requires { at + slot_size ≤ length t.now }
     ensures { result ≡ key_of (record_at t.now at) }
@@ -144,74 +119,28 @@ pub fn key_at(t: &[u8], at: usize) -> Key
     let esercizio = words::read2(t, at + 4);
     let number = words::read4(t, at + 8);
     Key {
-        kind: wide(t[at]),
+        kind: u64::from(t[at]),
         esercizio,
         number,
     }
 }
 
 // Whether the record in the slot at a place has this key, read where the bytes stand.
+#[tactic(auto, unfolding(crate::specs::Slot::record_at, crate::specs::Slot::key_is))]
 pub fn hit_at(t: &[u8], at: usize, k: Key) -> bool
     requires { at + slot_size ≤ length t.now }
     ensures { result ≡ key_is (record_at t.now at) k }
 {
-    if words::read4(t, at + 8) != k.number {
-        return false;
-    }
-    both(
-        wide(t[at]) == k.kind,
-        words::read2(t, at + 4) == k.esercizio,
-    )
-}
-
-fn head_bytes(r: Record) -> [u8; STATES]
-    ensures { result ≡ slot_head r }
-{
-    let esercizio = r.esercizio;
-    let number = r.number;
-    let number_high = number / 65536;
-    let date = r.date;
-    let year = date.year;
-    let total = r.total;
-    let upper = total / 4294967296;
-    let top = upper / 65536;
-    let lower = total / 65536;
-    [
-        r.kind,
-        r.state,
-        r.lines,
-        0,
-        (esercizio / 256 % 256) as u8,
-        (esercizio % 256) as u8,
-        0,
-        0,
-        (number_high / 256 % 256) as u8,
-        (number_high % 256) as u8,
-        (number / 256 % 256) as u8,
-        (number % 256) as u8,
-        (year / 256 % 256) as u8,
-        (year % 256) as u8,
-        (date.month % 256) as u8,
-        (date.day % 256) as u8,
-        (top / 256 % 256) as u8,
-        (top % 256) as u8,
-        (upper / 256 % 256) as u8,
-        (upper % 256) as u8,
-        (lower / 256 % 256) as u8,
-        (lower % 256) as u8,
-        (total / 256 % 256) as u8,
-        (total % 256) as u8,
-    ]
+    words::read4(t, at + 8) == k.number
+        && (u64::from(t[at]) == k.kind) & (words::read2(t, at + 4) == k.esercizio)
 }
 
 fn put_amounts(t: &mut [u8], at: usize, a: &[u64])
     requires { at + 8 * length a.now ≤ length t.old }
     ensures { t.new ≡ put t.old at (flat8 a.now) }
 {
-    let mut i = 0;
-    while i < a.len() {
-        words::write8(t, at + 8 * i, a[i]);
-        i += 1;
+    for (i, &v) in a.iter().enumerate() {
+        words::write8(t, at + 8 * i, v);
     }
 }
 
@@ -220,10 +149,14 @@ pub fn put_record(t: &mut [u8], at: usize, r: Record)
     requires { at + slot_size ≤ length t.old }
     ensures { t.new ≡ put t.old at (record_bytes r) }
 {
-    let head = head_bytes(r);
-    words::copy_in(t, at, &head);
-    let states = r.states;
-    words::copy_in(t, at + STATES, &states);
-    let amounts = r.amounts;
-    put_amounts(t, at + AMOUNTS, &amounts);
+    words::copy_in(t, at, &[r.kind, r.state, r.lines, 0]);
+    words::write2(t, at + 4, r.esercizio);
+    words::copy_in(t, at + 6, &[0, 0]);
+    words::write4(t, at + 8, r.number);
+    words::write2(t, at + 12, r.date.year);
+    let day = [(r.date.month % 256) as u8, (r.date.day % 256) as u8];
+    words::copy_in(t, at + 14, &day);
+    words::write8(t, at + 16, r.total);
+    words::copy_in(t, at + STATES, &r.states);
+    put_amounts(t, at + AMOUNTS, &r.amounts);
 }

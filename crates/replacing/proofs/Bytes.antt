@@ -1,4 +1,5 @@
 -- Named lines on the table's bytes: one state after another is set, and the records are the book's.
+use Rattle.std.specs.Prelude.{Option, Some, None}
 use Prim.Native.Nat.{ℕ, suc, ◌+◌, ◌-◌, ◌*◌, ◌≤◌, ◌<◌}
 use mathlib.Core.List.{List, [], ◌∷◌}
 use mathlib.Core.Path.{◌≡◌, refl, sym, ap, ◌∙◌}
@@ -8,8 +9,6 @@ use lib.ListN.{length, drop}
 use lib.Seq.{drop-cons, drop-length}
 use Rattle.words.specs.Numbers.{put}
 use Rattle.words.proofs.Laws.{length_put}
-use Rattle.ranges.specs.declared.Found.{Found}
-use Rattle.ranges.specs.declared.Found.TheVariants.{At, Nothing}
 use Rattle.order.specs.declared.Line.{Line}
 use Rattle.order.specs.Ordinativo.{no_line}
 use Rattle.record.specs.declared.Record.{Record}
@@ -25,12 +24,12 @@ use Rattle.replacing.proofs.Marks.{Takes, takes, inside_list, or_zero}
 -- WHAT A SEARCH TOLD
 
 module _ (t : List ℕ) (base n : ℕ) where
-  module _ (m : Naming) {f : Found} (e : f ≡ find_in (records_at t base n) 0 m.key) where
-    pub named_none : f ≡ Nothing → named_code (records_at t base n) m ≡ 24
+  module _ (m : Naming) {f : Option ℕ} (e : f ≡ find_in (records_at t base n) 0 m.key) where
+    pub named_none : f ≡ None → named_code (records_at t base n) m ≡ 24
     unfolding named_code named_at
     named_none g = ap (named_at (records_at t base n) m) (sym e ∙ g)
 
-    pub named_found : {i : ℕ} {r : Record} → f ≡ At i → r ≡ record_at t (base + slot_size * i) → named_code (records_at t base n) m ≡ line_named_in r m.line m.amount
+    pub named_found : {i : ℕ} {r : Record} → f ≡ Some i → r ≡ record_at t (base + slot_size * i) → named_code (records_at t base n) m ≡ line_named_in r m.line m.amount
     unfolding named_code named_at
     named_found g q = ap (named_at (records_at t base n) m) (sym e ∙ g) ∙ ap (λ (x : Record). line_named_in x m.line m.amount) ((search_held t base n m.key e g).same ∙ sym q)
 
@@ -52,16 +51,16 @@ module _ (t : List ℕ) (base n : ℕ) (m : Naming) (e : named_code (records_at 
       omega arith
 
   -- what a search found is its record
-  pub named_index : {f : Found} {i : ℕ} → f ≡ find_in (records_at t base n) 0 m.key → f ≡ At i → i ≡ tk.at
-  named_index p q = let z : At tk.at ≡ At _ = sym tk.found ∙ sym p ∙ q in cc
+  pub named_index : {f : Option ℕ} {i : ℕ} → f ≡ find_in (records_at t base n) 0 m.key → f ≡ Some i → i ≡ tk.at
+  named_index p q = let z : ◌≡◌ {A = Option ℕ} (Some tk.at) (Some _) = sym tk.found ∙ sym p ∙ q in cc
 
-  pub named_there : {f : Found} → f ≡ find_in (records_at t base n) 0 m.key → f ≡ Nothing → ⊥
-  named_there p q = let z : At tk.at ≡ Nothing = sym tk.found ∙ sym p ∙ q in let w : ◌≡◌ {A = ℕ} 0 1 = cc in omega arith
+  pub named_there : {f : Option ℕ} → f ≡ find_in (records_at t base n) 0 m.key → f ≡ None → ⊥
+  named_there p q = let z : ◌≡◌ {A = Option ℕ} (Some tk.at) (None) = sym tk.found ∙ sym p ∙ q in let w : ◌≡◌ {A = ℕ} 0 1 = cc in omega arith
 
   pub named_first_lem : 1 ≤ m.line
   named_first_lem = tk.stands.first
 
-  pub line_put_lem : {f : Found} {i : ℕ} → f ≡ find_in (records_at t base n) 0 m.key → f ≡ At i → line_put t base n m ≡ put t (state_place base i m.line) (3 ∷ [])
+  pub line_put_lem : {f : Option ℕ} {i : ℕ} → f ≡ find_in (records_at t base n) 0 m.key → f ≡ Some i → line_put t base n m ≡ put t (state_place base i m.line) (3 ∷ [])
   unfolding line_put line_stored
   line_put_lem p q = ap (line_stored t base m) (sym p ∙ q)
 

@@ -1,4 +1,5 @@
 -- Named lines over a body's records: what one mark changes, and that judging by reading only is judging on what earlier lines marked.
+use Rattle.std.specs.Prelude.{Option, Some, None}
 use Prim.Native.Nat.{ℕ, zero, suc, ◌+◌, ◌-◌, ◌≤◌, ◌<◌}
 use mathlib.Core.Bool.{Bool, true, false, ◌&&◌, ◌||◌, cond, and-true}
 use mathlib.Core.List.{List, [], ◌∷◌}
@@ -10,8 +11,6 @@ use lib.Seq.{get_or-set_same, get_or-set_other, drop-cons, drop-length}
 use lib.Dec.{eqb, leb, ltb}
 use borrow.Author.Tests.{eqb-true, eqb-false, leb-true, eq-eqb, ltb-true, ltb-false}
 use Rattle.scan.proofs.Laws.{both}
-use Rattle.ranges.specs.declared.Found.{Found}
-use Rattle.ranges.specs.declared.Found.TheVariants.{At, Nothing}
 use Rattle.order.specs.declared.Line.{Line}
 use Rattle.order.specs.Ordinativo.{no_line}
 use Rattle.record.specs.declared.Record.{Record}
@@ -35,25 +34,25 @@ pub marked_find : (rs : List Record) (m : Naming) (j : ℕ) (k : Key) → find_i
 unfolding with_replaced with_replaced_at
 marked_find rs m j k = go (find_in rs 0 m.key)
   where
-    go : (f : Found) → find_in (with_replaced_at rs m f) j k ≡ find_in rs j k
-    go Nothing = refl
-    go (At i) = find_set rs i (with_state (nth rs i) (m.line - 1) 3) no_record refl j k
+    go : (f : Option ℕ) → find_in (with_replaced_at rs m f) j k ≡ find_in rs j k
+    go None = refl
+    go (Some i) = find_set rs i (with_state (nth rs i) (m.line - 1) 3) no_record refl j k
 
 pub marked_distinct : (rs : List Record) (m : Naming) → distinct (with_replaced rs m) ≡ distinct rs
 unfolding with_replaced with_replaced_at
 marked_distinct rs m = go (find_in rs 0 m.key)
   where
-    go : (f : Found) → distinct (with_replaced_at rs m f) ≡ distinct rs
-    go Nothing = refl
-    go (At i) = distinct_set rs i (with_state (nth rs i) (m.line - 1) 3) no_record refl
+    go : (f : Option ℕ) → distinct (with_replaced_at rs m f) ≡ distinct rs
+    go None = refl
+    go (Some i) = distinct_set rs i (with_state (nth rs i) (m.line - 1) 3) no_record refl
 
 pub marked_length : (rs : List Record) (m : Naming) → length (with_replaced rs m) ≡ length rs
 unfolding with_replaced with_replaced_at
 marked_length rs m = go (find_in rs 0 m.key)
   where
-    go : (f : Found) → length (with_replaced_at rs m f) ≡ length rs
-    go Nothing = refl
-    go (At i) = length-set rs i (with_state (nth rs i) (m.line - 1) 3)
+    go : (f : Option ℕ) → length (with_replaced_at rs m f) ≡ length rs
+    go None = refl
+    go (Some i) = length-set rs i (with_state (nth rs i) (m.line - 1) 3)
 
 pub replaced_find : (rs : List Record) (ms : List Naming) (j : ℕ) (k : Key) → find_in (replaced_by rs ms) j k ≡ find_in rs j k
 unfolding replaced_by
@@ -106,16 +105,16 @@ module _ (r : Record) (line amount : ℕ) where
 -- a named line that stands, of the record at an index
 pub record Takes (rs : List Record) (m : Naming) : Type 0 where
   pub at : ℕ
-  pub found : find_in rs 0 m.key ≡ At at
+  pub found : find_in rs 0 m.key ≡ Some at
   pub stands : Stands (nth rs at) m.line m.amount
 
 pub takes : (rs : List Record) (m : Naming) → named_code rs m ≡ 0 → Takes rs m
 unfolding named_code named_at
 takes rs m e = go (find_in rs 0 m.key) refl e
   where
-    go : (f : Found) → find_in rs 0 m.key ≡ f → named_at rs m f ≡ 0 → Takes rs m
-    go Nothing q e = absurd (omega arith)
-    go (At i) q e = record { at = i; found = q; stands = in_zero (nth rs i) m.line m.amount e }
+    go : (f : Option ℕ) → find_in rs 0 m.key ≡ f → named_at rs m f ≡ 0 → Takes rs m
+    go None q e = absurd (omega arith)
+    go (Some i) q e = record { at = i; found = q; stands = in_zero (nth rs i) m.line m.amount e }
 
 -- an element that isn't 0 is one of the list
 pub inside_list : (l : List ℕ) (k : ℕ) → get_or l k 0 ≡ 2 → k < length l
@@ -206,15 +205,15 @@ module _ (rs : List Record) (x m : Naming) (e : named_code rs x ≡ 0) (k : x.ke
   unfolding with_replaced with_replaced_at
   marked_is = ap (with_replaced_at rs x) (takes rs x e).found
 
-  other_line : (i : ℕ) → find_in rs 0 m.key ≡ At i → (i ≡ j → ⊥) → (b : Bool) → same_named x m ≡ b → b ≡ false
+  other_line : (i : ℕ) → find_in rs 0 m.key ≡ Some i → (i ≡ j → ⊥) → (b : Bool) → same_named x m ≡ b → b ≡ false
   other_line i f ne true q =
       let p = key_of_same x m k q in
-      let g : At i ≡ At j = sym f ∙ ap (find_in rs 0) (sym p) ∙ (takes rs x e).found in
+      let g : ◌≡◌ {A = Option ℕ} (Some i) (Some j) = sym f ∙ ap (find_in rs 0) (sym p) ∙ (takes rs x e).found in
       let z : i ≡ j = cc in
       absurd (ne z)
   other_line i f ne false q = refl
 
-  at_index : (i : ℕ) → find_in rs 0 m.key ≡ At i → (b : Bool) → eqb i j ≡ b
+  at_index : (i : ℕ) → find_in rs 0 m.key ≡ Some i → (b : Bool) → eqb i j ≡ b
       → line_named_in (nth (set rs j r) i) m.line m.amount ≡ code_again (same_named x m) (line_named_in (nth rs i) m.line m.amount)
   unfolding code_again
   at_index i f true q =
@@ -236,9 +235,9 @@ module _ (rs : List Record) (x m : Naming) (e : named_code rs x ≡ 0) (k : x.ke
   unfolding named_code named_at
   mark_step = ap (named_at (with_replaced rs x) m) (marked_find rs x 0 m.key) ∙ go (find_in rs 0 m.key) refl
     where
-      go : (f : Found) → find_in rs 0 m.key ≡ f → named_at (with_replaced rs x) m f ≡ code_again (same_named x m) (named_at rs m f)
-      go Nothing f = sym (again_absent (same_named x m))
-      go (At i) f = ap (λ (l : List Record). line_named_in (nth l i) m.line m.amount) marked_is ∙ at_index i f (eqb i j) refl
+      go : (f : Option ℕ) → find_in rs 0 m.key ≡ f → named_at (with_replaced rs x) m f ≡ code_again (same_named x m) (named_at rs m f)
+      go None f = sym (again_absent (same_named x m))
+      go (Some i) f = ap (λ (l : List Record). line_named_in (nth l i) m.line m.amount) marked_is ∙ at_index i f (eqb i j) refl
 
 -- NO LINE TWICE: once it was taken it is 25, whatever else is marked
 
@@ -253,7 +252,7 @@ taken_twice rs m e =
     mark_step rs m m e refl ∙ rw (e, eq-eqb m.line m.line refl, eq-eqb m.key.number m.key.number refl, eq-eqb m.key.esercizio m.key.esercizio refl)
 
 -- the order's own key is absent, and stays so whatever is marked
-pub own_absent : (rs : List Record) (ms : List Naming) (m : Naming) → find_in rs 0 m.key ≡ Nothing → named_code (replaced_by rs ms) m ≡ 24
+pub own_absent : (rs : List Record) (ms : List Naming) (m : Naming) → find_in rs 0 m.key ≡ None → named_code (replaced_by rs ms) m ≡ 24
 unfolding named_code named_at
 own_absent rs ms m e = ap (named_at (replaced_by rs ms) m) (replaced_find rs ms 0 m.key ∙ e)
 

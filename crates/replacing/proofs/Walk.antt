@@ -6,7 +6,7 @@ use mathlib.Core.Path.{◌≡◌, refl, sym, ap, ◌∙◌}
 use native.Mathlib.Omega.{arith}
 use lib.ListN.{length, get_or, take, get_or-eq_default}
 use lib.Dec.{eqb}
-use borrow.Author.Tests.{lt-leb, le-leb, eq-eqb, ne_eqb}
+use borrow.Author.Tests.{le-leb, ne_eqb}
 use Rattle.order.specs.declared.Line.{Line}
 use Rattle.order.specs.declared.Lines.{Lines}
 use Rattle.order.specs.Ordinativo.{no_line, lines_there}
@@ -14,18 +14,12 @@ use Rattle.record.specs.declared.Record.{Record}
 use Rattle.replacing.specs.declared.Naming.{Naming}
 use Rattle.replacing.specs.Replacing.{naming_of, line_named_in, named_code}
 use Rattle.replacing.specs.Inner.{naming_at, same_named, named_earlier, code_again, read_code}
-use Rattle.replacing.proofs.Marks.{in_out, in_there}
+use Rattle.replacing.proofs.Marks.{in_there}
 
 -- THE RECORD
 
 module _ (r : Record) (line amount : ℕ) where
-  pub none_before : line < 1 → line_named_in r line amount ≡ 24
-  none_before h = in_out r line amount (rw (lt-leb 1 line h))
-
   module _ (a : 1 ≤ line) where
-    pub none_past : r.lines < line → line_named_in r line amount ≡ 24
-    none_past h = in_out r line amount (rw (le-leb 1 line a, lt-leb line r.lines h))
-
     module _ (b : line ≤ r.lines) where
       there : line_named_in r line amount ≡ cond (eqb (get_or r.states (line - 1) 0) 2) (cond (eqb (get_or r.amounts (line - 1) 0) amount) 0 26) 25
       there = in_there r line amount (rw (le-leb 1 line a, le-leb line r.lines b))
@@ -35,12 +29,6 @@ module _ (r : Record) (line amount : ℕ) where
 
       pub past_eight : length r.states ≡ 8 → 8 < line → line_named_in r line amount ≡ 25
       past_eight l h = not_executed (λ q. let z = get_or-eq_default r.states 0 {n = line - 1} (omega arith) in omega arith)
-
-      pub other_amount : get_or r.states (line - 1) 0 ≡ 2 → (get_or r.amounts (line - 1) 0 ≡ amount → ⊥) → line_named_in r line amount ≡ 26
-      other_amount s h = there ∙ rw (eq-eqb _ _ s, ne_eqb _ _ h)
-
-      pub all_right : get_or r.states (line - 1) 0 ≡ 2 → get_or r.amounts (line - 1) 0 ≡ amount → line_named_in r line amount ≡ 0
-      all_right s h = there ∙ rw (eq-eqb _ _ s, eq-eqb _ _ h)
 
 -- THE EARLIER LINES
 

@@ -1,8 +1,6 @@
 -- Replacement orders (document 02, Req 07): what the lines that a SOSTITUZIONE names come to, over one body's records, and the records that they leave.
-use Rattle.std.specs.Prelude.{ℕ, zero, suc, ◌-◌, ◌&&◌, cond, List, [], ◌∷◌, get_or, set, eqb, leb}
+use Rattle.std.specs.Prelude.{ℕ, zero, suc, ◌-◌, ◌&&◌, cond, List, [], ◌∷◌, get_or, set, eqb, leb, Option, Some, None}
 use Rattle.words.specs.Numbers.{put}
-use Rattle.ranges.specs.declared.Found.{Found}
-use Rattle.ranges.specs.declared.Found.TheVariants.{At, Nothing}
 use Rattle.order.specs.declared.Line.{Line}
 use Rattle.order.specs.Ordinativo.{Ordinativo}
 use Rattle.record.specs.declared.Record.{Record}
@@ -39,18 +37,18 @@ line_named_in r line amount =
     25)
     24
 
-unfoldable pub named_at : List Record → Naming → Found → ℕ
-named_at rs m Nothing = 24
-named_at rs m (At i) = line_named_in (nth rs i) m.line m.amount
+unfoldable pub named_at : List Record → Naming → Option ℕ → ℕ
+named_at rs m None = 24
+named_at rs m (Some i) = line_named_in (nth rs i) m.line m.amount
 
 -- among a body's records
 unfoldable pub named_code : List Record → Naming → ℕ
 named_code rs m = named_at rs m (find_in rs 0 m.key)
 
 -- "it becomes replaced (line state 3)"
-unfoldable pub with_replaced_at : List Record → Naming → Found → List Record
-with_replaced_at rs m Nothing = rs
-with_replaced_at rs m (At i) = set rs i (with_state (nth rs i) (m.line - 1) replaced_line)
+unfoldable pub with_replaced_at : List Record → Naming → Option ℕ → List Record
+with_replaced_at rs m None = rs
+with_replaced_at rs m (Some i) = set rs i (with_state (nth rs i) (m.line - 1) replaced_line)
 
 unfoldable pub with_replaced : List Record → Naming → List Record
 with_replaced rs m = with_replaced_at rs m (find_in rs 0 m.key)
@@ -73,9 +71,9 @@ replaced_by rs (m ∷ ms) = replaced_by (with_replaced rs m) ms
 
 -- THE BYTES: of each named line the one byte of its state, among a body's n slots from base on
 
-unfoldable pub line_stored : List ℕ → ℕ → Naming → Found → List ℕ
-line_stored t base m Nothing = t
-line_stored t base m (At i) = put t (state_place base i m.line) (replaced_line ∷ [])
+unfoldable pub line_stored : List ℕ → ℕ → Naming → Option ℕ → List ℕ
+line_stored t base m None = t
+line_stored t base m (Some i) = put t (state_place base i m.line) (replaced_line ∷ [])
 
 unfoldable pub line_put : List ℕ → ℕ → ℕ → Naming → List ℕ
 line_put t base n m = line_stored t base m (find_in (records_at t base n) 0 m.key)

@@ -9,7 +9,6 @@ ghost use Rattle.replacing.specs.Replacing.{namings, line_named_in, named_code, 
 ghost use Rattle.replacing.specs.Inner.{naming_at, same_named, named_earlier, code_again, read_code};
 
 use order::Order;
-use ranges::Found;
 use record::{Key, Record};
 
 // The line that a line of an order names, and that line's own amount.
@@ -21,49 +20,44 @@ pub struct Naming {
 }
 
 // By line j of an order, counted from 0.
+#[tactic(auto, using(crate::proofs::Walk::naming_there))]
 pub fn naming_at(o: Order, j: usize) -> Naming
     requires { (j < length (lines_there o.lines)) × (j < 8) }
     ensures { result ≡ naming_at o.kind (lines_there o.lines) j }
 {
-    let ls = o.lines;
-    let each = ls.each;
-    let l = each[j];
+    let l = o.lines.each[j];
     let d = l.named;
-    let key = Key {
-        kind: o.kind as u64,
-        esercizio: d.esercizio,
-        number: d.number,
-    };
     Naming {
-        key,
+        key: Key {
+            kind: o.kind as u64,
+            esercizio: d.esercizio,
+            number: d.number,
+        },
         line: d.line,
         amount: l.amount,
     }
 }
 
 // What a line comes to of the record that is named.
+// A code stays a number, as in `rules`.
+#[tactic(auto, using(crate::proofs::Walk::past_eight), unfolding(crate::specs::Replacing::line_named_in))]
 pub fn named_in(r: Record, line: u64, amount: u64) -> u8
     ensures { result ≡ line_named_in r line amount }
 {
-    let states = r.states;
-    let amounts = r.amounts;
-    if line < 1 {
-        return 24;
-    }
-    if (r.lines as u64) < line {
+    if line < 1 || u64::from(r.lines) < line {
         return 24;
     }
     if 8 < line {
         return 25;
     }
     let k = (line - 1) as usize;
-    if states[k] != record::EXECUTED {
-        return 25;
+    if r.states[k] != record::EXECUTED {
+        25
+    } else if r.amounts[k] != amount {
+        26
+    } else {
+        0
     }
-    if amounts[k] != amount {
-        return 26;
-    }
-    0
 }
 
 // What a named line comes to among a body's records.
@@ -73,27 +67,20 @@ fn named_code(t: &[u8], base: usize, n: usize, m: Naming) -> u8
 {
     let key = m.key;
     match slots::find(t, base, n, key) {
-        Found::At(i) => named_in(
+        Some(i) => named_in(
             record::record_at(t, base + record::SLOT * i),
             m.line,
             m.amount,
         ),
-        Found::Nothing => 24,
+        None => 24,
     }
 }
 
+#[tactic(auto, unfolding(crate::specs::Inner::same_named))]
 fn same_line(a: Naming, b: Naming) -> bool
     ensures { result ≡ same_named a b }
 {
-    let x = a.key;
-    let y = b.key;
-    if a.line != b.line {
-        return false;
-    }
-    if x.number != y.number {
-        return false;
-    }
-    x.esercizio == y.esercizio
+    a.line == b.line && a.key.number == b.key.number && a.key.esercizio == b.key.esercizio
 }
 
 // Whether one of the order's first j lines names this line.
@@ -101,27 +88,23 @@ fn named_before(o: Order, j: usize, m: Naming) -> bool
     requires { (j ≤ length (lines_there o.lines)) × (j ≤ 8) }
     ensures { result ≡ named_earlier o.kind (lines_there o.lines) j m }
 {
-    let mut i = j;
-    while 0 < i {
-        if same_line(naming_at(o, i - 1), m) {
+    for i in (0..j).rev() {
+        if same_line(naming_at(o, i), m) {
             return true;
         }
-        i -= 1;
     }
     false
 }
 
+#[tactic(auto, unfolding(crate::specs::Inner::code_again))]
 fn code_again(before: bool, c: u8) -> u8
     ensures { result ≡ code_again before c }
 {
-    if before {
-        if c == 24 { 24 } else { 25 }
-    } else {
-        c
-    }
+    if before && c != 24 { 25 } else { c }
 }
 
 // What line j of an order comes to, by reading only.
+#[tactic(auto, using(crate::proofs::Walk::line_comes))]
 fn line_code(t: &[u8], base: usize, n: usize, o: Order, j: usize) -> u8
     requires { (base + slot_size * n ≤ length t.now) × (j < length (lines_there o.lines)) × (j < 8) }
     ensures { result ≡ read_code o.kind (lines_there o.lines) (records_at t.now base n) j }
@@ -136,15 +119,11 @@ pub fn replace_code(t: &[u8], base: usize, n: usize, o: Order) -> u8
     requires { base + slot_size * n ≤ length t.now }
     ensures { result ≡ replace_code (records_at t.now base n) (namings (ordinativo o)) }
 {
-    let ls = o.lines;
-    let count = order::count_of(ls);
-    let mut j = 0;
-    while j < count {
+    for j in 0..order::count_of(o.lines) {
         let c = line_code(t, base, n, o, j);
         if c != 0 {
             return c;
         }
-        j += 1;
     }
     0
 }
@@ -157,12 +136,12 @@ fn mark_line(t: &mut [u8], base: usize, n: usize, m: Naming)
     let key = m.key;
     let line = m.line;
     match slots::find(t, base, n, key) {
-        Found::At(i) => {
+        Some(i) => {
             let at = base + record::SLOT * i + record::STATES + ((line - 1) as usize);
             let state = [record::REPLACED];
             words::copy_in(t, at, &state);
         }
-        Found::Nothing => {}
+        None => {}
     }
 }
 
@@ -171,11 +150,7 @@ pub fn mark_lines(t: &mut [u8], base: usize, n: usize, o: Order)
     requires { (base + slot_size * n ≤ length t.old) × (replace_code (records_at t.old base n) (namings (ordinativo o)) ≡ 0) }
     ensures { t.new ≡ lines_put t.old base n (namings (ordinativo o)) }
 {
-    let ls = o.lines;
-    let count = order::count_of(ls);
-    let mut j = 0;
-    while j < count {
+    for j in 0..order::count_of(o.lines) {
         mark_line(t, base, n, naming_at(o, j));
-        j += 1;
     }
 }

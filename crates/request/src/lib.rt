@@ -16,18 +16,15 @@ fn slots_asked(q: &[u8], n: usize) -> usize
     requires { (n ≤ max_bodies) × (first_body + request_size * n ≤ length q.now) }
     ensures { (result ≡ slots_from request_size q.now first_body n) × (result ≤ 65535 * n) }
 {
-    let mut at = FIRST;
-    let mut left = n;
     let mut sum: usize = 0;
-    while 0 < left {
-        sum += entries::slots_of(q, at);
-        at += entries::REQUEST;
-        left -= 1;
+    for i in 0..n {
+        sum += entries::slots_of(q, FIRST + entries::REQUEST * i);
     }
     sum
 }
 
 // The length of the table that n bodies need.
+#[tactic(auto, unfolding(crate::specs::Request::needed))]
 pub fn length_for(q: &[u8], n: usize) -> usize
     requires { (n ≡ asked q.now) × (n ≤ max_bodies) × (first_body + request_size * n ≤ length q.now) }
     ensures { result ≡ needed q.now }
@@ -36,39 +33,28 @@ pub fn length_for(q: &[u8], n: usize) -> usize
 }
 
 // Whether a request of n bodies is right but for its length and count.
+#[tactic(auto, unfolding(crate::specs::Request::bodies_asked_ok))]
 fn bodies_ok(q: &[u8], n: usize) -> bool
     requires { (n ≡ asked q.now) × (n ≤ max_bodies) × (first_body + request_size * n ≡ length q.now) }
     ensures { result ≡ bodies_asked_ok q.now }
 {
-    if !entries::forms_ok(q, FIRST, entries::REQUEST, n) {
-        return false;
-    }
-    if !entries::codes_distinct(q, FIRST, entries::REQUEST, n) {
-        return false;
-    }
-    length_for(q, n) <= bounds::MAX_LENGTH
+    entries::forms_ok(q, FIRST, entries::REQUEST, n)
+        && entries::codes_distinct(q, FIRST, entries::REQUEST, n)
+        && length_for(q, n) <= bounds::MAX_LENGTH
 }
 
 // Whether a request is right: code 9 where it is not.
+#[tactic(auto, unfolding(crate::specs::Request::request_ok, crate::specs::Request::asked))]
 pub fn request_ok(q: &[u8]) -> bool
     ensures { result ≡ request_ok q.now }
 {
     if q.len() < FIRST {
         return false;
     }
-    if !ranges::are_of(q, 0, FIRST, Class::Digits) {
-        return false;
-    }
     let rest = q.len() - FIRST;
-    if rest % entries::REQUEST != 0 {
-        return false;
-    }
     let n = rest / entries::REQUEST;
-    if n < 1 {
-        return false;
-    }
-    if bounds::MAX_BODIES < n {
-        return false;
-    }
-    bodies_ok(q, n)
+    ranges::are_of(q, 0, FIRST, Class::Digits)
+        && rest % entries::REQUEST == 0
+        && (1..=bounds::MAX_BODIES).contains(&n)
+        && bodies_ok(q, n)
 }

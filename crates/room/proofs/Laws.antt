@@ -1,4 +1,5 @@
 -- Laws of the training room: an array of which the first ones count and the lists that they stand for, then the search for a code.
+use Rattle.std.specs.Prelude.{Some, None}
 use Prim.Native.Nat.{ℕ, zero, suc, ◌+◌, ◌≤◌, ◌<◌}
 use mathlib.Core.Bool.{Bool, true, false, cond}
 use mathlib.Core.List.{List, [], ◌∷◌, map}
@@ -6,21 +7,14 @@ use mathlib.Core.Path.{◌≡◌, refl, sym, ap, ◌∙◌}
 use native.Mathlib.Omega.{arith}
 use native.Mathlib.Numerals.{add-one}
 use lib.ListN.{length, get_or, take, drop, set, length-map, drop_of_length-le, get_or-map}
-use lib.Seq.{length-take-le, take_all, drop-cons}
+use lib.Seq.{drop-cons}
 use Rattle.scan.specs.Bytes.{text_is}
-use Rattle.ranges.specs.declared.Found.TheVariants.{At, Nothing}
 use Rattle.entries.specs.Entry.{find_code}
 use Rattle.entries.proofs.Codes.{find_is}
 use Rattle.plain.specs.Plain.{Listed, Plain, no_body, body_in, numbered}
 
 -- THE ARRAY: the first n of l, each by what it stands for
 module _ {A B : Type 0} (f : A → B) where
-  pub mapped_few : (l : List A) (n : ℕ) → n ≤ length l → n ≡ length (map f (take n l))
-  mapped_few l n h = sym (length-map (take n l) f ∙ length-take-le n l h)
-
-  pub mapped_all : (l : List A) (n : ℕ) → length l ≤ n → length l ≡ length (map f (take n l))
-  mapped_all l n h = sym (length-map (take n l) f ∙ ap length (take_all n l h))
-
   pub mapped_low : (n : ℕ) (l : List A) (i : ℕ) → i < length (map f (take n l)) → (i < n) × (i < length l)
   mapped_low zero l i h = absurd (omega arith)
   mapped_low (suc n) [] i h = absurd (omega arith)
@@ -44,10 +38,6 @@ module _ {A B : Type 0} (f : A → B) (n : ℕ) (l : List A) (i : ℕ) (d a : A)
   pub mapped_changed : f a ≡ g (f (get_or l i d)) → map f (take n (set l i a)) ≡ set (map f (take n l)) i (g (get_or (map f (take n l)) i e))
   mapped_changed q = mapped_set f n l i a (mapped_low f n l i h).0 ∙ ap (set (map f (take n l)) i) (q ∙ ap g (mapped_get f n l i d e h))
 
--- THE CODE: no more bytes than there are
-pub taken_bytes : (l : List ℕ) (n m : ℕ) → length l ≤ n → length l ≤ m → take n l ≡ take m l
-taken_bytes l n m h k = take_all n l h ∙ sym (take_all m l k)
-
 -- THE SEARCH: the answer from here is the whole answer
 abbrev pub codes_of : Plain → List (List ℕ)
 codes_of s = map (λ (l : Listed). l.code) s.bodies
@@ -62,21 +52,21 @@ module _ (s : Plain) (b : ℕ) (code : List ℕ) {p : Listed} {t : Bool} (h : b 
       let own : get_or (codes_of s) b [] ≡ p.code = get_or-map (λ (l : Listed). l.code) s.bodies b no_body ∙ ap (λ (l : Listed). l.code) (sym q) in
       drop-cons (codes_of s) b [] k ∙ (λ j. own j ∷ drop (sym (add-one b) j) (codes_of s))
 
-  met : find_code (drop b (codes_of s)) b code ≡ cond t (At b) (find_code (drop (b + 1) (codes_of s)) (b + 1) code)
+  met : find_code (drop b (codes_of s)) b code ≡ cond t (Some b) (find_code (drop (b + 1) (codes_of s)) (b + 1) code)
   unfolding find_code
-  met = ap (λ (xs : List (List ℕ)). find_code xs b code) front ∙ ap (λ (x : Bool). cond x (At b) (find_code (drop (b + 1) (codes_of s)) (b + 1) code)) (sym e)
+  met = ap (λ (xs : List (List ℕ)). find_code xs b code) front ∙ ap (λ (x : Bool). cond x (Some b) (find_code (drop (b + 1) (codes_of s)) (b + 1) code)) (sym e)
 
-  pub seat_here : t ≡ true → find_code (drop b (codes_of s)) b code ≡ At b
-  seat_here z = met ∙ ap (λ (x : Bool). cond x (At b) (find_code (drop (b + 1) (codes_of s)) (b + 1) code)) z
+  pub seat_here : t ≡ true → find_code (drop b (codes_of s)) b code ≡ Some b
+  seat_here z = met ∙ ap (λ (x : Bool). cond x (Some b) (find_code (drop (b + 1) (codes_of s)) (b + 1) code)) z
 
   pub seat_later : t ≡ false → find_code (drop b (codes_of s)) b code ≡ find_code (drop (b + 1) (codes_of s)) (b + 1) code
-  seat_later z = met ∙ ap (λ (x : Bool). cond x (At b) (find_code (drop (b + 1) (codes_of s)) (b + 1) code)) z
+  seat_later z = met ∙ ap (λ (x : Bool). cond x (Some b) (find_code (drop (b + 1) (codes_of s)) (b + 1) code)) z
 
-pub seat_none : (s : Plain) (b : ℕ) (code : List ℕ) → length s.bodies ≤ b → find_code (drop b (codes_of s)) b code ≡ Nothing
+pub seat_none : (s : Plain) (b : ℕ) (code : List ℕ) → length s.bodies ≤ b → find_code (drop b (codes_of s)) b code ≡ None
 unfolding find_code
 seat_none s b code h =
     ap (λ (xs : List (List ℕ)). find_code xs b code) (drop_of_length-le (codes_of s) {i = b} (omega (arith, codes_long s)))
 
 -- a body that is found is one of them
-pub numbered_low : (s : Plain) (code : List ℕ) (b : ℕ) → numbered s code ≡ At b → b < length s.bodies
+pub numbered_low : (s : Plain) (code : List ℕ) (b : ℕ) → numbered s code ≡ Some b → b < length s.bodies
 numbered_low s code b e = omega (arith, (find_is (codes_of s) 0 code b e).below, codes_long s)

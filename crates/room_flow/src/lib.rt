@@ -5,7 +5,6 @@
 ghost use Rattle.std.specs.Prelude.{◌≡◌, ◌≤◌, ◌<◌, length};
 ghost use Rattle.markup.specs.Noted.{Noted};
 ghost use Rattle.bounds.specs.Bounds.{max_flow};
-ghost use Rattle.flow.specs.declared.Verdict.TheVariants.{Stands};
 ghost use Rattle.header.specs.Heading.{header_by, Within};
 ghost use Rattle.flow.specs.Flow.{verdict_of, header_of, flow_orders};
 ghost use Rattle.serving.specs.Served.{orders_from, Rooted};
@@ -13,11 +12,10 @@ ghost use Rattle.plain.specs.Plain.{numbered};
 ghost use Rattle.plain.specs.Flows.{with_space, on_body, at_bank, of_verdict, Teaches, FlowLesson};
 ghost use Rattle.room.specs.Room.{room_of};
 
-use desk::FlowAnswer;
-use editions::{Edited, Edition};
-use flow::Verdict;
+use desk::{FlowAnswer, FlowRefusal};
+use editions::Edition;
+use flow::Breakage;
 use header::Heading;
-use ranges::Found;
 use room::Room;
 use schema::Parent;
 
@@ -46,14 +44,14 @@ fn for_body(
     let count = orders::count_orders(f, from, root, past);
     if out.len() < service::OUTCOME * count {
         return FlowTaught {
-            answer: FlowAnswer::NoRoom,
+            answer: Err(FlowRefusal::NoRoom),
             room: r,
         };
     }
     let p = room::seat_at(r, b);
     let s = list_flow::take_orders(p.book, f, from, root, room::slots_of(p), year, out, past);
     FlowTaught {
-        answer: FlowAnswer::Taken(count, s.accepted, s.steps),
+        answer: Ok((count, s.accepted, s.steps)),
         room: room::with_book(r, b, s.book),
     }
 }
@@ -72,12 +70,11 @@ fn with_code(
         (on_body (length out.old) (header_by f.now h).esercizio (orders_from root f.now h.orders)
         (numbered (room_of r) (header_by f.now h).ente)) result.answer (room_of result.room) out.new }
 {
-    let w = h.ente;
-    let ente = header::part_at(f, w);
+    let ente = header::part_at(f, h.ente);
     match room::find_seat(r, ente) {
-        Found::At(b) => for_body(r, b, f, root, h.orders, h.esercizio, out, past),
-        Found::Nothing => FlowTaught {
-            answer: FlowAnswer::UnknownBody,
+        Some(b) => for_body(r, b, f, root, h.orders, h.esercizio, out, past),
+        None => FlowTaught {
+            answer: Err(FlowRefusal::UnknownBody),
             room: r,
         },
     }
@@ -85,18 +82,17 @@ fn with_code(
 
 // A flow of an edition that stands, its root's content at a place: 6, or as its body says.
 fn for_bank(r: Room, e: Edition, f: &[u8], at: usize, out: &mut [u8], past: &[u32]) -> FlowTaught
-    requires { (verdict_of e f.now ≡ Stands at) × Noted f.now past.now × (length f.now ≤ max_flow) }
+    requires { (verdict_of e f.now ≡ Ok at) × Noted f.now past.now × (length f.now ≤ max_flow) }
     ensures { Teaches (room_of r) out.old
         (at_bank (room_of r) (length out.old) (header_of e f.now at) (flow_orders e f.now at)) result.answer (room_of result.room)
         out.new }
 {
     let from = scan::white_end(f, at);
     let h = header::header_from(f, e, from, past);
-    let w = h.abi;
-    let abi = header::part_at(f, w);
+    let abi = header::part_at(f, h.abi);
     if !room::bank_is(r, abi) {
         return FlowTaught {
-            answer: FlowAnswer::OtherBank,
+            answer: Err(FlowRefusal::OtherBank),
             room: r,
         };
     }
@@ -117,10 +113,10 @@ fn take_noted(r: Room, e: Edition, f: &[u8], out: &mut [u8], past: &mut [u32]) -
         result.answer (room_of result.room) out.new }
 {
     match flow::verdict_of(f, e, past) {
-        Verdict::MarkupBreaks(_) => refused(r, FlowAnswer::BrokenMarkup),
-        Verdict::StructureBreaks => refused(r, FlowAnswer::BrokenStructure),
-        Verdict::FieldBreaks(p, x) => refused(r, FlowAnswer::BrokenField(p, x)),
-        Verdict::Stands(at) => for_bank(r, e, f, at, out, past),
+        Err(Breakage::MarkupBreaks(_)) => refused(r, Err(FlowRefusal::BrokenMarkup)),
+        Err(Breakage::StructureBreaks) => refused(r, Err(FlowRefusal::BrokenStructure)),
+        Err(Breakage::FieldBreaks(p, x)) => refused(r, Err(FlowRefusal::BrokenField(p, x))),
+        Ok(at) => for_bank(r, e, f, at, out, past),
     }
 }
 
@@ -128,11 +124,11 @@ fn take_noted(r: Room, e: Edition, f: &[u8], out: &mut [u8], past: &mut [u32]) -
 pub fn take_flow(r: Room, edition: u64, f: &[u8], out: &mut [u8]) -> FlowTaught
     ensures { FlowLesson (room_of r) edition f.now out.old result.answer (room_of result.room) out.new }
 {
-    let Edited::By(e) = editions::edition_of(edition) else {
-        return refused(r, FlowAnswer::UnknownEdition);
+    let Some(e) = editions::edition_of(edition) else {
+        return refused(r, Err(FlowRefusal::UnknownEdition));
     };
     if 32768 < f.len() {
-        return refused(r, FlowAnswer::TooLong);
+        return refused(r, Err(FlowRefusal::TooLong));
     }
     let mut past = [0u32; 8193];
     take_noted(r, e, f, out, &mut past)

@@ -1,4 +1,5 @@
 -- Laws of notices and totals in the training room: what fits, one line and one order at a time, then the ways out of the code over plain rooms.
+use Rattle.std.specs.Prelude.{Option, Result, Some, None, Err}
 use Prim.Native.Nat.{ℕ, zero, suc, ◌+◌, ◌*◌, ◌≤◌, ◌<◌}
 use lib.IntN.{ℤ, pos, ◌-ℤ◌}
 use mathlib.Core.Bool.{Bool, true, false, ◌&&◌, cond}
@@ -9,11 +10,10 @@ use native.Mathlib.Numerals.{add-one}
 use lib.ListN.{length, get_or, drop, drop_of_length-le}
 use lib.Seq.{drop-cons}
 use lib.Dec.{eqb, leb}
-use borrow.Author.Tests.{le-leb, lt-leb, leb-true, eq-eqb, ne_eqb}
+use borrow.Author.Tests.{leb-true, eq-eqb, ne_eqb}
+use Rattle.std.specs.List.{list_all}
 use Rattle.scan.proofs.Laws.{both}
 use Rattle.bounds.specs.Bounds.{max_cents}
-use Rattle.ranges.specs.declared.Found.{Found}
-use Rattle.ranges.specs.declared.Found.TheVariants.{At, Nothing}
 use Rattle.calendar.specs.declared.Date.{Date}
 use Rattle.target_days.specs.Target.{target_code}
 use Rattle.record.specs.declared.Record.{Record}
@@ -23,30 +23,22 @@ use Rattle.slots.specs.Slots.{nth, no_record}
 use Rattle.valid.specs.Valid.{executed_in, executed}
 use Rattle.valid.proofs.Laws.{executed_more}
 use Rattle.body.specs.Body.{cents_of}
-use Rattle.rules.specs.declared.Noticed.{Noticed}
 use Rattle.rules.specs.Rules.{judge_notice}
 use Rattle.rules.specs.Effects.{records_moved}
 use Rattle.training.specs.Training.{Eight}
-use Rattle.notices.specs.declared.NoticeAnswer.{NoticeAnswer}
-use Rattle.notices.specs.declared.NoticeAnswer.TheVariants.{InvalidTable, WrongDay, UnknownBody}
+use Rattle.notices.specs.declared.NoticeRefusal.{NoticeRefusal}
+use Rattle.notices.specs.declared.NoticeRefusal.TheVariants.{InvalidTable, WrongDay, UnknownBody}
 use Rattle.notices.specs.declared.TotalsAnswer.{TotalsAnswer}
 use Rattle.notices.specs.Notices.{noticed, totalled, zero_totals}
 use Rattle.plain.specs.Plain.{Listed, Plain, body_in, numbered, with_orders, amounts_fit, fits}
 use Rattle.plain.specs.Notices.{notice_on, list_on, notice_for, room_for, day_answer, day_room, NoticeLesson, list_totals, totals_for, TotalsLesson}
 
--- WHAT FITS: the amounts from k on
+-- WHAT FITS
 
-pub amounts_more : (a : List ℕ) (k : ℕ) → k < length a → get_or a k 0 ≤ max_cents → amounts_fit (drop k a) ≡ amounts_fit (drop (k + 1) a)
+pub all_fit : (a : List ℕ) → list_all (λ x. leb x max_cents) a ≡ amounts_fit a
 unfolding amounts_fit
-amounts_more a k h j = rw (add-one, drop-cons a k 0 h, le-leb (get_or a k 0) max_cents j)
-
-pub amounts_over : (a : List ℕ) (k : ℕ) → k < length a → max_cents < get_or a k 0 → amounts_fit (drop k a) ≡ false
-unfolding amounts_fit
-amounts_over a k h j = rw (drop-cons a k 0 h, lt-leb (get_or a k 0) max_cents j)
-
-pub amounts_end : (a : List ℕ) (k : ℕ) → length a ≤ k → amounts_fit (drop k a) ≡ true
-unfolding amounts_fit
-amounts_end a k h = ap amounts_fit (drop_of_length-le a {i = k} h)
+all_fit [] = refl
+all_fit (x ∷ a) = ap (λ (b : Bool). leb x max_cents && b) (all_fit a)
 
 pub amount_low : (a : List ℕ) (k : ℕ) → amounts_fit a ≡ true → k < length a → get_or a k 0 ≤ max_cents
 unfolding amounts_fit
@@ -57,12 +49,6 @@ amount_low (x ∷ a) (suc k) e h = amount_low a k (both (leb x max_cents) (amoun
 -- an order
 abbrev pub order_fits : Record → Bool
 order_fits r = leb r.lines 8 && amounts_fit r.amounts
-
-pub lines_over : (n : ℕ) (b : Bool) → 8 < n → false ≡ (leb n 8 && b)
-lines_over n b h = rw (lt-leb n 8 h)
-
-pub lines_low : (n : ℕ) {t b : Bool} → n ≤ 8 → t ≡ b → t ≡ (leb n 8 && b)
-lines_low n h e = e ∙ rw (le-leb n 8 h)
 
 -- the orders from i on
 module _ (rs : List Record) (i : ℕ) {r : Record} (h : i < length rs) (q : r ≡ nth rs i) where
@@ -142,19 +128,19 @@ module _ (rs : List Record) (kind i cents : ℕ) (g : Counted rs kind i cents) w
 
 -- A NOTICE on a body's list
 module _ (x : Bool) (k : Key) (line : ℕ) (rs : List Record) {t : Bool} (e : t ≡ fits rs) where
-  pub on_unfit : t ≡ false → (InvalidTable ≡ notice_on x k line rs) × (rs ≡ list_on x k line rs)
+  pub on_unfit : t ≡ false → (Err InvalidTable ≡ notice_on x k line rs) × (rs ≡ list_on x k line rs)
   on_unfit z = rw (sym e ∙ z) (refl, refl)
 
-  pub on_fit : t ≡ true → {m : Noticed} {a : NoticeAnswer} {rs' : List Record} → m ≡ judge_notice x k line rs → rs' ≡ records_moved x line rs m → a ≡ noticed m
+  pub on_fit : t ≡ true → {m : Result (ℕ × ℕ) ℕ} {a : Result ℕ NoticeRefusal} {rs' : List Record} → m ≡ judge_notice x k line rs → rs' ≡ records_moved x line rs m → a ≡ noticed m
       → (a ≡ notice_on x k line rs) × (rs' ≡ list_on x k line rs)
   on_fit z q s p = rw (sym e ∙ z) (p ∙ ap noticed q, s ∙ ap (records_moved x line rs) q)
 
 -- for the body with a code
-module _ (s : Plain) (x : Bool) (k : Key) (line : ℕ) (code : List ℕ) {f : Found} (e : f ≡ numbered s code) where
-  pub for_none : f ≡ Nothing → (UnknownBody ≡ notice_for s x k line (numbered s code)) × (s ≡ room_for s x k line (numbered s code))
+module _ (s : Plain) (x : Bool) (k : Key) (line : ℕ) (code : List ℕ) {f : Option ℕ} (e : f ≡ numbered s code) where
+  pub for_none : f ≡ None → (Err UnknownBody ≡ notice_for s x k line (numbered s code)) × (s ≡ room_for s x k line (numbered s code))
   for_none g = (sym (ap (notice_for s x k line) (sym e ∙ g)), sym (ap (room_for s x k line) (sym e ∙ g)))
 
-  pub for_at : {b : ℕ} {p : Listed} {a : NoticeAnswer} {rs' : List Record} {s' : Plain} → f ≡ At b → p ≡ body_in s b
+  pub for_at : {b : ℕ} {p : Listed} {a : Result ℕ NoticeRefusal} {rs' : List Record} {s' : Plain} → f ≡ Some b → p ≡ body_in s b
       → (a ≡ notice_on x k line p.orders) × (rs' ≡ list_on x k line p.orders) → s' ≡ with_orders s b rs'
       → (a ≡ notice_for s x k line (numbered s code)) × (s' ≡ room_for s x k line (numbered s code))
   for_at {b} g q n w = (
@@ -164,15 +150,15 @@ module _ (s : Plain) (x : Bool) (k : Key) (line : ℕ) (code : List ℕ) {f : Fo
 
 -- on a day
 module _ (s : Plain) (x : Bool) (code : List ℕ) (k : Key) (line : ℕ) (d : Date) {c : ℕ} (e : c ≡ target_code d) where
-  pub on_target : c ≡ 0 → {a : NoticeAnswer} {s' : Plain} → (a ≡ notice_for s x k line (numbered s code)) × (s' ≡ room_for s x k line (numbered s code))
+  pub on_target : c ≡ 0 → {a : Result ℕ NoticeRefusal} {s' : Plain} → (a ≡ notice_for s x k line (numbered s code)) × (s' ≡ room_for s x k line (numbered s code))
       → NoticeLesson s x code k line d a s'
   on_target z n = rw (sym e ∙ z) n
 
-  off_day : (c : ℕ) (a : NoticeAnswer) (s' : Plain) → (c ≡ 0 → ⊥) → (WrongDay c ≡ day_answer c a) × (s ≡ day_room c s s')
+  off_day : (c : ℕ) (a : Result ℕ NoticeRefusal) (s' : Plain) → (c ≡ 0 → ⊥) → (Err (WrongDay c) ≡ day_answer c a) × (s ≡ day_room c s s')
   off_day zero a s' h = absurd (h refl)
   off_day (suc c) a s' h = (refl, refl)
 
-  pub off_target : (c ≡ 0 → ⊥) → NoticeLesson s x code k line d (WrongDay c) s
+  pub off_target : (c ≡ 0 → ⊥) → NoticeLesson s x code k line d (Err (WrongDay c)) s
   off_target h = rw (← e) (off_day c _ _ h)
 
 -- TOTALS
@@ -184,5 +170,5 @@ module _ (rs : List Record) {t : Bool} (e : t ≡ fits rs) where
       → balance ≡ (pos collected -ℤ pos paid) → totalled 0 n paid collected balance ≡ list_totals rs
   totals_fit z {n} {paid} {collected} l p c b = rw (sym e ∙ z) (λ i. totalled 0 (l i) (p i) (c i) ((b ∙ (λ j. pos (c j) -ℤ pos (p j))) i))
 
-pub totals_at : (s : Plain) (code : List ℕ) {f g : Found} {a : TotalsAnswer} → f ≡ numbered s code → f ≡ g → a ≡ totals_for s g → TotalsLesson s code a
+pub totals_at : (s : Plain) (code : List ℕ) {f g : Option ℕ} {a : TotalsAnswer} → f ≡ numbered s code → f ≡ g → a ≡ totals_for s g → TotalsLesson s code a
 totals_at s code e z p = p ∙ ap (totals_for s) (sym z ∙ e)

@@ -11,8 +11,7 @@ ghost use Rattle.plain.specs.Notices.{notice_on, list_on, notice_for, room_for, 
 ghost use Rattle.room.specs.Room.{room_of};
 
 use calendar::Date;
-use notices::{NoticeAnswer, TotalsAnswer};
-use ranges::Found;
+use notices::{NoticeAnswer, NoticeRefusal, TotalsAnswer};
 use record::{Key, Record};
 use room::Room;
 use training::Book;
@@ -35,31 +34,17 @@ struct BookNoticed {
 fn record_fits(r: Record) -> bool
     ensures { result ≡ (leb r.lines 8 && amounts_fit r.amounts) }
 {
-    let amounts = r.amounts;
-    if 8 < r.lines {
-        return false;
-    }
-    let mut k = 0;
-    while k < 8 {
-        if bounds::MAX_CENTS < amounts[k] {
-            return false;
-        }
-        k += 1;
-    }
-    true
+    r.lines <= 8 && r.amounts.iter().all(|&cents| cents <= bounds::MAX_CENTS)
 }
 
 // Whether all orders of a body do.
 fn book_fits(b: Book) -> bool
     ensures { result ≡ fits (list_of b) }
 {
-    let n = training::size(b);
-    let mut i = 0;
-    while i < n {
+    for i in 0..training::size(b) {
         if !record_fits(training::order_at(b, i)) {
             return false;
         }
-        i += 1;
     }
     true
 }
@@ -70,16 +55,14 @@ fn notice_on(b: Book, executing: bool, key: Key, line: u64) -> BookNoticed
 {
     if !book_fits(b) {
         return BookNoticed {
-            answer: NoticeAnswer::InvalidTable,
+            answer: Err(NoticeRefusal::InvalidTable),
             book: b,
         };
     }
     let s = training::take_notice(b, executing, key, line);
-    let n = s.noticed;
-    let book = s.book;
     BookNoticed {
-        answer: notices::answer_of(n),
-        book,
+        answer: notices::answer_of(s.noticed),
+        book: s.book,
     }
 }
 
@@ -89,19 +72,16 @@ fn notice(r: Room, code: &[u8], executing: bool, key: Key, line: u64) -> NoticeT
         × (room_of result.room ≡ room_for (room_of r) executing key line (numbered (room_of r) code.now)) }
 {
     match room::find_seat(r, code) {
-        Found::At(b) => {
+        Some(b) => {
             let p = room::seat_at(r, b);
-            let book = p.book;
-            let s = notice_on(book, executing, key, line);
-            let answer = s.answer;
-            let after = s.book;
+            let s = notice_on(p.book, executing, key, line);
             NoticeTaught {
-                answer,
-                room: room::with_book(r, b, after),
+                answer: s.answer,
+                room: room::with_book(r, b, s.book),
             }
         }
-        Found::Nothing => NoticeTaught {
-            answer: NoticeAnswer::UnknownBody,
+        None => NoticeTaught {
+            answer: Err(NoticeRefusal::UnknownBody),
             room: r,
         },
     }
@@ -116,7 +96,7 @@ fn dated(r: Room, code: &[u8], executing: bool, key: Key, line: u64, day: Date) 
         return notice(r, code, executing, key, line);
     }
     NoticeTaught {
-        answer: NoticeAnswer::WrongDay(refused),
+        answer: Err(NoticeRefusal::WrongDay(refused)),
         room: r,
     }
 }
@@ -140,13 +120,9 @@ fn record_cents(r: Record) -> u64
     requires { amounts_fit r.amounts ≡ true }
     ensures { (result ≡ executed r) × (result ≤ 8 * max_cents) }
 {
-    let states = r.states;
-    let amounts = r.amounts;
     let mut cents: u64 = 0;
-    let mut k = 0;
-    while k < 8 {
-        cents += valid::line_cents(states[k] == record::EXECUTED, amounts[k]);
-        k += 1;
+    for k in 0..8 {
+        cents += valid::line_cents(r.states[k] == record::EXECUTED, r.amounts[k]);
     }
     cents
 }
@@ -156,15 +132,12 @@ fn cents_of(b: Book, kind: u8) -> u64
     requires { fits (list_of b) ≡ true }
     ensures { (result ≡ cents_of kind (list_of b)) × (result ≤ 8 * max_cents * places) }
 {
-    let n = training::size(b);
     let mut cents: u64 = 0;
-    let mut i = 0;
-    while i < n {
+    for i in 0..training::size(b) {
         let r = training::order_at(b, i);
         if r.kind == kind {
             cents += record_cents(r);
         }
-        i += 1;
     }
     cents
 }
@@ -192,11 +165,7 @@ pub fn totals(r: Room, code: &[u8]) -> TotalsAnswer
     ensures { TotalsLesson (room_of r) code.now result }
 {
     match room::find_seat(r, code) {
-        Found::At(b) => {
-            let p = room::seat_at(r, b);
-            let book = p.book;
-            book_totals(book)
-        }
-        Found::Nothing => notices::no_totals(7),
+        Some(b) => book_totals(room::seat_at(r, b).book),
+        None => notices::no_totals(7),
     }
 }

@@ -1,4 +1,5 @@
 -- An order's tipo_operazione, compared as it stands: the element is the first named child, and its text is the word.
+use Rattle.std.specs.Prelude.{Option, Some, Ok}
 use mathlib.Core.Path.{◌≡◌, refl, sym, ap, ◌∙◌}
 use mathlib.Core.List.{List, [], ◌∷◌, ◌++◌}
 use mathlib.Core.Bool.{Bool, true, false, ◌||◌}
@@ -8,14 +9,12 @@ use lib.ListN.{length, drop}
 use lib.Dec.{leb, eqb}
 use borrow.Author.Tests.{eq-eqb, ne_eqb, leb-true, leb-false}
 use lib.Seq.{drop-drop}
-use Rattle.scan.specs.declared.Walk.TheVariants.{Past}
 use Rattle.scan.specs.Bytes.{bytes, byte_at, between, is_letter, is_white, run, run_end, starts_with, has_at}
 use Rattle.scan.proofs.Laws.{both, in_range, inside, stands, run_more, run_stop, run_end_lem, run_from}
 use Rattle.tokens.specs.Tokens.{white_at, text_at, end_tag_at, is_plain}
 use Rattle.tokens.proofs.Laws.{name_past, plain_other, text_stop, text_plain}
 use Rattle.markup.specs.Markup.{content_at}
 use Rattle.markup.proofs.Laws.{content_text}
-use Rattle.children.specs.declared.Step.TheVariants.{One}
 use Rattle.children.specs.Child.{child_at}
 use Rattle.children.proofs.Laws.{child_one}
 use Rattle.fields.specs.declared.Form.TheVariants.{TipoOperazione}
@@ -30,8 +29,6 @@ use Rattle.tags.proofs.Laws.{run_in, is_in, end_in, opens_in, alone_opens, spell
 use Rattle.rows.specs.Kept.{kept_from}
 use Rattle.rows.specs.Replaces.{replaces}
 use Rattle.rows.specs.Operation.{Says, Tells}
-use Rattle.rows.specs.declared.Replacing.{Replacing}
-use Rattle.rows.specs.declared.Replacing.TheVariants.{Known}
 use Rattle.rows.proofs.Laws.{kept_at}
 
 -- A WORD OF LETTERS up to a < is text
@@ -52,14 +49,14 @@ letter_in : (s : List ℕ) (a : ℕ) → is_letter (byte_at s a) ≡ true → a 
 unfolding is_letter
 letter_in s a e = inside is_letter s a refl e
 
-letters_text : (n : ℕ) (s : List ℕ) (a : ℕ) → length s - a < n → byte_at s (run_end is_letter s a) ≡ 60 → text_at s a ≡ Past (run_end is_letter s a)
+letters_text : (n : ℕ) (s : List ℕ) (a : ℕ) → length s - a < n → byte_at s (run_end is_letter s a) ≡ 60 → text_at s a ≡ Ok (run_end is_letter s a)
 letters_text zero s a h e = absurd (omega arith)
 letters_text (suc n) s a h e = go (is_letter (byte_at s a)) refl (letters_text n s (a + 1))
   where
-    none : run_end is_letter s a ≡ a → text_at s a ≡ Past (run_end is_letter s a)
+    none : run_end is_letter s a ≡ a → text_at s a ≡ Ok (run_end is_letter s a)
     none z = let y : byte_at s a ≡ 60 = rw z at e in rw z (text_stop s a y)
 
-    go : (b : Bool) → is_letter (byte_at s a) ≡ b → (length s - (a + 1) < n → byte_at s (run_end is_letter s (a + 1)) ≡ 60 → text_at s (a + 1) ≡ Past (run_end is_letter s (a + 1))) → text_at s a ≡ Past (run_end is_letter s a)
+    go : (b : Bool) → is_letter (byte_at s a) ≡ b → (length s - (a + 1) < n → byte_at s (run_end is_letter s (a + 1)) ≡ 60 → text_at s (a + 1) ≡ Ok (run_end is_letter s (a + 1))) → text_at s a ≡ Ok (run_end is_letter s a)
     go true f more =
         let i = letter_in s a f in
         let k = letter_plain (byte_at s a) f in
@@ -67,11 +64,11 @@ letters_text (suc n) s a h e = go (is_letter (byte_at s a)) refl (letters_text n
         rw z (text_plain s a i k.1 k.0 ∙ more (omega arith) (rw z at e))
     go false f more = at (leb (suc a) (length s)) refl
       where
-        at : (b : Bool) → leb (suc a) (length s) ≡ b → text_at s a ≡ Past (run_end is_letter s a)
+        at : (b : Bool) → leb (suc a) (length s) ≡ b → text_at s a ≡ Ok (run_end is_letter s a)
         at true l = none (run_stop is_letter s a (leb-true (suc a) (length s) l) f)
         at false l = none (run_end_lem is_letter s a (omega (arith, leb-false (suc a) (length s) l)))
 
-letters_content : (d : ℕ) (s : List ℕ) (a : ℕ) → is_letter (byte_at s a) ≡ true → byte_at s (run_end is_letter s a) ≡ 60 → content_at d s a ≡ Past (run_end is_letter s a)
+letters_content : (d : ℕ) (s : List ℕ) (a : ℕ) → is_letter (byte_at s a) ≡ true → byte_at s (run_end is_letter s a) ≡ 60 → content_at d s a ≡ Ok (run_end is_letter s a)
 letters_content d s a f e =
     let k = letter_plain (byte_at s a) f in
     let z = run_stop is_white s a (letter_in s a f) k.2 in
@@ -90,10 +87,10 @@ has_both t r s i e f = starts_both t r (drop i s) e (rw (drop-drop (length t) i 
 
 -- AN ELEMENT that holds a word, its name's end e, its content's q, by itself: wherever its bytes stand it is a child
 abbrev Worded : List ℕ → ℕ → ℕ → Type 0
-Worded x e q = (is_letter (byte_at x (e + 1)) ≡ true) × (run_end is_letter x (e + 1) ≡ q) × (byte_at x q ≡ 60) × (end_tag_at x 1 e q ≡ Past (length x))
+Worded x e q = (is_letter (byte_at x (e + 1)) ≡ true) × (run_end is_letter x (e + 1) ≡ q) × (byte_at x q ≡ 60) × (end_tag_at x 1 e q ≡ Ok (length x))
 
 module _ (x s : List ℕ) (i : ℕ) (has : has_at x s i ≡ true) (l : i ≤ length s) (p : Parent) (e q : ℕ) (h : Holds) (o : Opens p x 0 e 0 h) (w : Worded x e q) where
-  child_in : child_at s i ≡ One (record { lt = i; gt = i + e; to = i + q; after = white_at s (i + length x) })
+  child_in : child_at s i ≡ Some (record { lt = i; gt = i + e; to = i + q; after = white_at s (i + length x) })
   child_in =
       let v = opens_in x s i has p e 0 h l o in
       let a = letter_in x (e + 1) w.0 in
@@ -104,7 +101,7 @@ module _ (x s : List ℕ) (i : ℕ) (has : has_at x s i ≡ true) (l : i ≤ len
       let r : run_end is_letter s (i + e + 1) ≡ i + q = rw z at (run_in x s i has is_letter (e + 1) (omega arith) (omega arith) ∙ ap (λ m. i + m) y) in
       let f : is_letter (byte_at s (i + e + 1)) ≡ true = rw z at (ap is_letter (has_same s x i has (e + 1) a) ∙ w.0) in
       let k : byte_at s (run_end is_letter s (i + e + 1)) ≡ 60 = rw r (has_same s x i has q b ∙ w.2) in
-      child_one s i v.lt (i + e) v.name v.gt (i + q) (letters_content 12 s (i + e + 1) f k ∙ ap Past r) (i + length x) (end_in x s i has e q (length x) (omega arith) (omega arith) w.3)
+      child_one s i v.lt (i + e) v.name v.gt (i + q) (letters_content 12 s (i + e + 1) f k ∙ ap Ok r) (i + length x) (end_in x s i has e q (length x) (omega arith) (omega arith) w.3)
 
   said_in : replaces s (kept_from p s i) ≡ name_is (bytes "SOSTITUZIONE") x (e + 1) q
   unfolding replaces
@@ -146,5 +143,5 @@ module _ (s : List ℕ) (at i : ℕ) (e : i ≡ white_at s at) (p : Parent) (b :
   pub told_on : b ≡ replaces s (kept_from p s i) → b ≡ replaces s (kept_from p s (white_at s at))
   told_on f = rw (← e) f
 
-  pub told : (w : Replacing) → Tells s i w → w ≡ Known b → Says p → b ≡ replaces s (kept_from p s (white_at s at))
+  pub told : (w : Option Bool) → Tells s i w → w ≡ Some b → Says p → b ≡ replaces s (kept_from p s (white_at s at))
   told w t f o = told_on ((rw f at t) p o)

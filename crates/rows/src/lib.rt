@@ -10,9 +10,12 @@ ghost use Rattle.rows.specs.Replaces.{replaces, rows_for};
 ghost use Rattle.rows.specs.Operation.{Says, Tells};
 ghost use Rattle.tokens.specs.Tokens.{white_at};
 
-use children::{Child, Step};
-use fields::{Form, Value, Valued};
-use schema::{Holds, Parent, Spot};
+use children::Child;
+use fields::{Form, Value};
+use schema::{Holds, Parent};
+
+// A field of the flow, read by its form: its value and the place after it, or the place of the `<` of one that breaks.
+pub type FieldRead = Result<(Value, usize), usize>;
 
 // A child that its parent names.
 #[derive(Clone, Copy)]
@@ -22,28 +25,8 @@ pub struct Kept {
     pub holds: Holds,
 }
 
-#[derive(Clone, Copy)]
-pub enum Next {
-    Named(Kept),
-    Done,
-}
-
-// A field of the flow, read by its form: its value and the place after it, or the place of the `<` of one that breaks.
-#[derive(Clone, Copy)]
-pub enum FieldRead {
-    Said(Value, usize),
-    Broken(usize),
-}
-
-// Whether an order replaces others, where that was read.
-#[derive(Clone, Copy)]
-pub enum Replacing {
-    Known(bool),
-    Unread,
-}
-
 // Where a name stands in its parent's table.
-pub fn spot_of(s: &[u8], a: usize, e: usize, parent: Parent) -> Spot
+pub fn spot_of(s: &[u8], a: usize, e: usize, parent: Parent) -> Option<(usize, Holds)>
     requires { (a ≤ e) × (e ≤ length s.now) }
     ensures { result ≡ spot_in (table parent) 0 s.now a e }
 {
@@ -57,66 +40,52 @@ pub fn spot_of(s: &[u8], a: usize, e: usize, parent: Parent) -> Spot
         Parent::SostituzioneReversale => schema::sostituzione_reversale_spot(s, a, e),
         Parent::Beneficiario => schema::beneficiario_spot(s, a, e),
         Parent::Versante => schema::versante_spot(s, a, e),
-        Parent::MessaggiEsito => schema_messages::message_spot(s, a, e, parent),
-        Parent::TestataMessaggio => schema_messages::message_spot(s, a, e, parent),
-        Parent::EsitoReversali => schema_messages::message_spot(s, a, e, parent),
-        Parent::EsitoMandati => schema_messages::message_spot(s, a, e, parent),
-        Parent::ErroriReversali => schema_messages::message_spot(s, a, e, parent),
-        Parent::ErroriMandati => schema_messages::message_spot(s, a, e, parent),
         Parent::FlussoOpi => schema::opi_spot(s, a, e),
         Parent::TestataFlusso => schema::testata_flusso_spot(s, a, e),
+        Parent::MessaggiEsito
+        | Parent::TestataMessaggio
+        | Parent::EsitoReversali
+        | Parent::EsitoMandati
+        | Parent::ErroriReversali
+        | Parent::ErroriMandati => schema_messages::message_spot(s, a, e, parent),
     }
 }
 
 // The first child from a place on that the parent names.
-pub fn next_named(s: &[u8], from: usize, parent: Parent, past: &[u32]) -> Next
+pub fn next_named(s: &[u8], from: usize, parent: Parent, past: &[u32]) -> Option<Kept>
     requires { (from ≤ length s.now) × Noted s.now past.now }
     ensures { result ≡ next_of (kept_from parent s.now from) }
 {
     let mut i = from;
-    loop {
-        let Step::One(c) = children::child_at(s, i, past) else {
-            return Next::Done;
-        };
-        let a = c.lt + 1;
-        let e = c.gt;
-        match spot_of(s, a, e, parent) {
-            Spot::At(n, h) => {
-                return Next::Named(Kept {
-                    child: c,
-                    row: n,
-                    holds: h,
-                });
-            }
-            Spot::Passed => {
-                i = c.after;
-            }
+    while let Some(child) = children::child_at(s, i, past) {
+        if let Some((row, holds)) = spot_of(s, child.lt + 1, child.gt, parent) {
+            return Some(Kept { child, row, holds });
         }
+        i = child.after;
     }
+    None
 }
 
 // What the order whose first child begins at a place says of replacing, where that is its tipo_operazione, written as usual: no note is needed for it.
-fn operation_at(s: &[u8], i: usize) -> Replacing
+fn operation_at(s: &[u8], i: usize) -> Option<bool>
     requires { i ≤ length s.now }
     ensures { Tells s.now i result }
 {
     if !tags::stands(s, i, b"<tipo_operazione>") {
-        return Replacing::Unread;
+        return None;
     }
     let at = i + 17;
     if tags::stands(s, at, b"INSERIMENTO</tipo_operazione>") {
-        return Replacing::Known(false);
+        Some(false)
+    } else if tags::stands(s, at, b"SOSTITUZIONE</tipo_operazione>") {
+        Some(true)
+    } else if tags::stands(s, at, b"VARIAZIONE</tipo_operazione>")
+        || tags::stands(s, at, b"ANNULLO</tipo_operazione>")
+    {
+        Some(false)
+    } else {
+        None
     }
-    if tags::stands(s, at, b"SOSTITUZIONE</tipo_operazione>") {
-        return Replacing::Known(true);
-    }
-    if tags::stands(s, at, b"VARIAZIONE</tipo_operazione>") {
-        return Replacing::Known(false);
-    }
-    if tags::stands(s, at, b"ANNULLO</tipo_operazione>") {
-        return Replacing::Known(false);
-    }
-    Replacing::Unread
 }
 
 // Whether the order whose children begin at a place replaces others. (Its first named child is tipo_operazione, where its structure stands.)
@@ -125,16 +94,14 @@ fn is_replacing_from(s: &[u8], from: usize, parent: Parent, past: &[u32]) -> boo
     ensures { result ≡ replaces s.now (kept_from parent s.now from) }
 {
     let mut i = from;
-    loop {
-        let Next::Named(k) = next_named(s, i, parent, past) else {
-            return false;
-        };
+    while let Some(k) = next_named(s, i, parent, past) {
         let c = k.child;
         if k.row == 0 {
             return schema::is(s, c.gt + 1, c.to, b"SOSTITUZIONE");
         }
         i = c.after;
     }
+    false
 }
 
 // Whether the order whose content begins at a place replaces others.
@@ -144,8 +111,8 @@ fn is_replacing(s: &[u8], at: usize, parent: Parent, past: &[u32]) -> bool
 {
     let i = scan::white_end(s, at);
     match operation_at(s, i) {
-        Replacing::Known(b) => b,
-        Replacing::Unread => is_replacing_from(s, i, parent, past),
+        Some(b) => b,
+        None => is_replacing_from(s, i, parent, past),
     }
 }
 
@@ -157,33 +124,15 @@ pub fn rows_for(s: &[u8], at: usize, parent: Parent, past: &[u32]) -> Parent
     match parent {
         Parent::Mandato(_) => Parent::Mandato(is_replacing(s, at, parent, past)),
         Parent::Reversale(_) => Parent::Reversale(is_replacing(s, at, parent, past)),
-        Parent::FlussoOrdinativi => parent,
-        Parent::InformazioniBeneficiario(_) => parent,
-        Parent::InformazioniVersante(_) => parent,
-        Parent::SostituzioneMandato => parent,
-        Parent::SostituzioneReversale => parent,
-        Parent::Beneficiario => parent,
-        Parent::Versante => parent,
-        Parent::MessaggiEsito => parent,
-        Parent::TestataMessaggio => parent,
-        Parent::EsitoReversali => parent,
-        Parent::EsitoMandati => parent,
-        Parent::ErroriReversali => parent,
-        Parent::ErroriMandati => parent,
-        Parent::FlussoOpi => parent,
-        Parent::TestataFlusso => parent,
+        _ => parent,
     }
 }
 
-// The one reader of a field, for those who judge it and those who take its value.
+// The one reader of a field, for those who judge it and those who take its value: the value and the place after the field, or the place of its `<`.
 pub fn read_field(s: &[u8], c: Child, f: Form) -> FieldRead
     requires { (c.gt + 1 ≤ c.to) × (c.to ≤ length s.now) }
     ensures { result ≡ field_read s.now f c }
 {
-    let from = c.gt + 1;
-    let to = c.to;
-    match fields::value_of(f, &s[from..to]) {
-        Valued::Some(v) => FieldRead::Said(v, c.after),
-        Valued::None => FieldRead::Broken(c.lt),
-    }
+    let v = fields::value_of(f, &s[c.gt + 1..c.to]).ok_or(c.lt)?;
+    Ok((v, c.after))
 }

@@ -1,4 +1,5 @@
 -- An order's code as the code takes it (specs/Inner) is the rules': what a search told gives the same ruling.
+use Rattle.std.specs.Prelude.{Result, Some, None, Ok, Err}
 use Prim.Native.Nat.{ℕ, zero, suc, ◌≤◌, ◌<◌}
 use mathlib.Core.Path.{◌≡◌, refl, sym, ap, ◌∙◌}
 use mathlib.Core.Bool.{Bool, true, false, cond}
@@ -7,7 +8,6 @@ use native.Mathlib.Omega.{arith}
 use lib.ListN.{length}
 use lib.Dec.{eqb, ltb}
 use borrow.Author.Tests.{ltb-true, lt-ltb, le-ltb}
-use Rattle.ranges.specs.declared.Found.TheVariants.{At, Nothing}
 use Rattle.order.specs.Ordinativo.{Ordinativo}
 use Rattle.record.specs.declared.Record.{Record}
 use Rattle.record.specs.Slot.{acquired_state}
@@ -16,8 +16,6 @@ use Rattle.rules.specs.declared.Situation.{Situation}
 use Rattle.rules.specs.declared.Situation.TheVariants.{Absent, Annulled, Waiting, Executed}
 use Rattle.rules.specs.declared.Change.{Change}
 use Rattle.rules.specs.declared.Change.TheVariants.{Insert, Vary, Annul, Replace}
-use Rattle.rules.specs.declared.Ruling.{Ruling}
-use Rattle.rules.specs.declared.Ruling.TheVariants.{Accepted, Refused}
 use Rattle.slots.specs.Slots.{nth}
 use Rattle.rules.specs.Rules.{any_executed, situation_in, situation_of, row, step_code, key_for, same_order, first_empty, placed, unless, stepped, record_of, written}
 use Rattle.rules.specs.Inner.{meant_code, record_code, names_code, absent_code, new_state}
@@ -31,66 +29,34 @@ pub unless_stops : {A : Type 0} (refuse : ℕ → A) (code : ℕ) (next : A) →
 unless_stops refuse zero next h = absurd (h refl)
 unless_stops refuse (suc code) next h = refl
 
--- THE WAYS OUT of the code
-module _ (o : Ordinativo) (r : Record) {c : Change} (a : c ≡ Annul) {b : Bool} (e : b ≡ same_order o r) where
-  pub meant_same : b ≡ true → 0 ≡ meant_code c o r
-  meant_same h = rw (a, ← e, h)
-
-  pub meant_other : b ≡ false → 19 ≡ meant_code c o r
-  meant_other h = rw (a, ← e, h)
-
-module _ (c : Change) (o : Ordinativo) (r : Record) {s : Situation} {code : ℕ} (q : s ≡ situation_in r) (e : code ≡ step_code c s) where
-  step_is : step_code c (situation_in r) ≡ code
-  step_is = ap (step_code c) (sym q) ∙ sym e
-
-  pub record_stops : (code ≡ 0 → ⊥) → code ≡ record_code c o r
-  record_stops h = rw step_is (sym (first_stops code (meant_code c o r) h))
-
-  pub record_goes : {m : ℕ} → code ≡ 0 → m ≡ meant_code c o r → m ≡ record_code c o r
-  record_goes h g = rw (step_is, h) g
-
-module _ (c : Change) (named n slots : ℕ) {code : ℕ} (e : code ≡ step_code c Absent) where
-  pub absent_stops : (code ≡ 0 → ⊥) → code ≡ absent_code c named n slots
-  absent_stops h = rw (← e) (sym (first_stops code (first_code named (cond (ltb n slots) 0 15)) h))
-
-  module _ (h : code ≡ 0) where
-    pub absent_named : (named ≡ 0 → ⊥) → named ≡ absent_code c named n slots
-    absent_named q = rw (← e, h) (sym (first_stops named (cond (ltb n slots) 0 15) q))
-
-    pub absent_room : named ≡ 0 → n < slots → 0 ≡ absent_code c named n slots
-    absent_room q l = rw (← e, h, q, lt-ltb n slots l)
-
-    pub absent_full : named ≡ 0 → slots ≤ n → 15 ≡ absent_code c named n slots
-    absent_full q l = rw (← e, h, q, le-ltb n slots l)
-
 -- THE RECORD IS THERE, at index i
 module _ (slots : ℕ) (o : Ordinativo) (rs : List Record) (i : ℕ) where
   -- a new order whose key is there is 14
-  there : (c : Change) (next : Ruling) → unless Refused (step_code Insert (situation_in (nth rs i))) next ≡ unless Refused (first_code (step_code Insert (situation_in (nth rs i))) 0) (Accepted c i)
+  there : (c : Change) (next : Result (Change × ℕ) ℕ) → unless Err (step_code Insert (situation_in (nth rs i))) next ≡ unless Err (first_code (step_code Insert (situation_in (nth rs i))) 0) (Ok (c, i))
   unfolding situation_in
   there c next = go (eqb (nth rs i).state 2) (any_executed (nth rs i).states)
     where
-      go : (a b : Bool) → unless Refused (row 0 14 14 14 (cond a Annulled (cond b Executed Waiting))) next
-          ≡ unless Refused (first_code (row 0 14 14 14 (cond a Annulled (cond b Executed Waiting))) 0) (Accepted c i)
+      go : (a b : Bool) → unless Err (row 0 14 14 14 (cond a Annulled (cond b Executed Waiting))) next
+          ≡ unless Err (first_code (row 0 14 14 14 (cond a Annulled (cond b Executed Waiting))) 0) (Ok (c, i))
       go true b = refl
       go false true = refl
       go false false = refl
 
-  pub stepped_at : (c : Change) → stepped slots o rs c (At i) ≡ unless Refused (record_code c o (nth rs i)) (Accepted c i)
+  pub stepped_at : (c : Change) → stepped slots o rs c (Some i) ≡ unless Err (record_code c o (nth rs i)) (Ok (c, i))
   unfolding stepped placed situation_of situation_in
   stepped_at Insert = there Insert (first_empty Insert slots rs)
-  stepped_at Replace = there Replace (unless Refused (replace_code rs (namings o)) (first_empty Replace slots rs))
+  stepped_at Replace = there Replace (unless Err (replace_code rs (namings o)) (first_empty Replace slots rs))
   stepped_at Vary = go (eqb (nth rs i).state 2) (any_executed (nth rs i).states)
     where
-      go : (a b : Bool) → unless Refused (row 16 17 0 18 (cond a Annulled (cond b Executed Waiting))) (Accepted Vary i)
-          ≡ unless Refused (first_code (row 16 17 0 18 (cond a Annulled (cond b Executed Waiting))) 0) (Accepted Vary i)
+      go : (a b : Bool) → unless {A = Result (Change × ℕ) ℕ} Err (row 16 17 0 18 (cond a Annulled (cond b Executed Waiting))) (Ok (Vary, i))
+          ≡ unless {A = Result (Change × ℕ) ℕ} Err (first_code (row 16 17 0 18 (cond a Annulled (cond b Executed Waiting))) 0) (Ok (Vary, i))
       go true b = refl
       go false true = refl
       go false false = refl
   stepped_at Annul = go (eqb (nth rs i).state 2) (any_executed (nth rs i).states) (same_order o (nth rs i))
     where
-      go : (a b s : Bool) → unless Refused (row 16 17 0 18 (cond a Annulled (cond b Executed Waiting))) (cond s (Accepted Annul i) (Refused 19))
-          ≡ unless Refused (first_code (row 16 17 0 18 (cond a Annulled (cond b Executed Waiting))) (cond s 0 19)) (Accepted Annul i)
+      go : (a b s : Bool) → unless {A = Result (Change × ℕ) ℕ} Err (row 16 17 0 18 (cond a Annulled (cond b Executed Waiting))) (cond {A = Result (Change × ℕ) ℕ} s (Ok (Annul, i)) (Err 19))
+          ≡ unless {A = Result (Change × ℕ) ℕ} Err (first_code (row 16 17 0 18 (cond a Annulled (cond b Executed Waiting))) (cond s 0 19)) (Ok (Annul, i))
       go true b s = refl
       go false true s = refl
       go false false true = refl
@@ -98,21 +64,21 @@ module _ (slots : ℕ) (o : Ordinativo) (rs : List Record) (i : ℕ) where
 
 -- NO RECORD IS ITS OWN: the first empty slot comes after the last of them
 module _ (slots : ℕ) (o : Ordinativo) (rs : List Record) where
-  empty_is : (c : Change) → first_empty c slots rs ≡ unless Refused (cond (ltb (length rs) slots) 0 15) (Accepted c (length rs))
+  empty_is : (c : Change) → first_empty c slots rs ≡ unless Err (cond (ltb (length rs) slots) 0 15) (Ok (c, (length rs)))
   empty_is c = go (ltb (length rs) slots)
     where
-      go : (b : Bool) → cond b (Accepted c (length rs)) (Refused 15) ≡ unless Refused (cond b 0 15) (Accepted c (length rs))
+      go : (b : Bool) → cond {A = Result (Change × ℕ) ℕ} b (Ok (c, (length rs))) (Err 15) ≡ unless {A = Result (Change × ℕ) ℕ} Err (cond b 0 15) (Ok (c, (length rs)))
       go true = refl
       go false = refl
 
-  pub stepped_none : (c : Change) → stepped slots o rs c Nothing ≡ unless Refused (absent_code c (names_code c o rs) (length rs) slots) (Accepted c (length rs))
+  pub stepped_none : (c : Change) → stepped slots o rs c None ≡ unless Err (absent_code c (names_code c o rs) (length rs) slots) (Ok (c, (length rs)))
   unfolding stepped placed situation_of
   stepped_none Insert = empty_is Insert
   stepped_none Vary = refl
   stepped_none Annul = refl
   stepped_none Replace = go (replace_code rs (namings o))
     where
-      go : (n : ℕ) → unless Refused n (first_empty Replace slots rs) ≡ unless Refused (first_code n (cond (ltb (length rs) slots) 0 15)) (Accepted Replace (length rs))
+      go : (n : ℕ) → unless Err n (first_empty Replace slots rs) ≡ unless Err (first_code n (cond (ltb (length rs) slots) 0 15)) (Ok (Replace, (length rs)))
       go zero = empty_is Replace
       go (suc n) = refl
 

@@ -1,4 +1,5 @@
 -- What an accepted order and a moved line passed: the tests of `judge_order` and `judge_notice`, read backwards.
+use Rattle.std.specs.Prelude.{Option, Result, Some, None, Ok, Err}
 use Prim.Native.Nat.{ℕ, zero, suc, ◌-◌, ◌≤◌, ◌<◌}
 use mathlib.Core.Bool.{Bool, true, false, ◌&&◌, cond}
 use mathlib.Core.List.{List}
@@ -7,8 +8,6 @@ use native.Mathlib.Omega.{arith}
 use lib.ListN.{length, get_or}
 use lib.Dec.{eqb, leb, ltb}
 use borrow.Author.Tests.{ltb-true, eqb-false, leb-true}
-use Rattle.ranges.specs.declared.Found.{Found}
-use Rattle.ranges.specs.declared.Found.TheVariants.{At, Nothing}
 use Rattle.order.specs.Ordinativo.{Ordinativo}
 use Rattle.record.specs.declared.Record.{Record}
 use Rattle.record.specs.declared.Key.{Key}
@@ -18,9 +17,6 @@ use Rattle.rules.specs.declared.Situation.{Situation}
 use Rattle.rules.specs.declared.Situation.TheVariants.{Absent, Annulled, Waiting, Executed}
 use Rattle.rules.specs.declared.Change.{Change}
 use Rattle.rules.specs.declared.Change.TheVariants.{Insert, Vary, Annul, Replace}
-use Rattle.rules.specs.declared.Ruling.{Ruling}
-use Rattle.rules.specs.declared.Ruling.TheVariants.{Accepted, Refused}
-use Rattle.rules.specs.declared.Noticed.TheVariants.{Moved, Unmoved}
 use Rattle.lines.specs.Lines.{line_code}
 use Rattle.replacing.specs.Replacing.{namings, first_code, replace_code}
 use Rattle.rules.specs.Inner.{record_code, names_code}
@@ -33,11 +29,17 @@ clash = ◌≡◌ {A = ℕ} 0 1
 no : clash → ⊥
 no z = omega arith
 
-refused : {A : Type 0} {code i : ℕ} {c : Change} → Refused code ≡ Accepted c i → A
+refused : {A : Type 0} {code i : ℕ} {c : Change} → ◌≡◌ {A = Result (Change × ℕ) ℕ} (Err code) (Ok (c, i)) → A
 refused e = let z : clash = cc in absurd (no z)
 
-unmoved : {A : Type 0} {c i m : ℕ} → Unmoved c ≡ Moved i m → A
+unmoved : {A : Type 0} {c i m : ℕ} → ◌≡◌ {A = Result (ℕ × ℕ) ℕ} (Err c) (Ok (i, m)) → A
 unmoved e = let z : clash = cc in absurd (no z)
+
+-- what an `Ok` holds is its own
+ok_pair : {A B E : Type 0} (a x : A) (b y : B) → ◌≡◌ {A = Result (A × B) E} (Ok (a, b)) (Ok (x, y)) → (a ≡ x) × (b ≡ y)
+ok_pair {A} {B} a x b y e =
+    let p : ◌≡◌ {A = A × B} (a, b) (x, y) = cc in
+    (ap (λ (t : A × B). t.0) p, ap (λ (t : A × B). t.1) p)
 
 -- AN ORDER'S RECORD
 
@@ -96,67 +98,66 @@ replaces s e = inserts s e
 
 -- AN ACCEPTED ORDER, of a body with so many slots and these records: it stands at i
 pub data Stands (slots year : ℕ) (o : Ordinativo) (rs : List Record) (c : Change) (i : ℕ) : Type 0 where
-  inserting : c ≡ Insert → find_in rs 0 (key_for year o) ≡ Nothing → i ≡ length rs → length rs < slots → Stands slots year o rs c i
-  replacing : c ≡ Replace → find_in rs 0 (key_for year o) ≡ Nothing → i ≡ length rs → length rs < slots → replace_code rs (namings o) ≡ 0 → Stands slots year o rs c i
-  varying : c ≡ Vary → find_in rs 0 (key_for year o) ≡ At i → Waits (nth rs i) → Stands slots year o rs c i
-  annulling : c ≡ Annul → find_in rs 0 (key_for year o) ≡ At i → Waits (nth rs i) → same_order o (nth rs i) ≡ true → Stands slots year o rs c i
+  inserting : c ≡ Insert → find_in rs 0 (key_for year o) ≡ None → i ≡ length rs → length rs < slots → Stands slots year o rs c i
+  replacing : c ≡ Replace → find_in rs 0 (key_for year o) ≡ None → i ≡ length rs → length rs < slots → replace_code rs (namings o) ≡ 0 → Stands slots year o rs c i
+  varying : c ≡ Vary → find_in rs 0 (key_for year o) ≡ Some i → Waits (nth rs i) → Stands slots year o rs c i
+  annulling : c ≡ Annul → find_in rs 0 (key_for year o) ≡ Some i → Waits (nth rs i) → same_order o (nth rs i) ≡ true → Stands slots year o rs c i
 
-unless_zero : (code : ℕ) (next : Ruling) {c : Change} {i : ℕ} → unless Refused code next ≡ Accepted c i → (code ≡ 0) × (next ≡ Accepted c i)
+unless_zero : (code : ℕ) (next : Result (Change × ℕ) ℕ) {c : Change} {i : ℕ} → unless Err code next ≡ Ok (c, i) → (code ≡ 0) × (next ≡ Ok (c, i))
 unless_zero zero next e = (refl, e)
 unless_zero (suc code) next e = refused e
 
 module _ (slots year : ℕ) (o : Ordinativo) (rs : List Record) (c : Change) (i : ℕ) where
   -- the first empty slot
-  empty : (d : Change) → first_empty d slots rs ≡ Accepted c i → (c ≡ d) × (i ≡ length rs) × (length rs < slots)
+  empty : (d : Change) → first_empty d slots rs ≡ Ok (c, i) → (c ≡ d) × (i ≡ length rs) × (length rs < slots)
   empty d e = go (ltb (length rs) slots) refl e
     where
-      go : (b : Bool) → ltb (length rs) slots ≡ b → cond b (Accepted d (length rs)) (Refused 15) ≡ Accepted c i → (c ≡ d) × (i ≡ length rs) × (length rs < slots)
+      go : (b : Bool) → ltb (length rs) slots ≡ b → cond {A = Result (Change × ℕ) ℕ} b (Ok (d, (length rs))) (Err 15) ≡ Ok (c, i) → (c ≡ d) × (i ≡ length rs) × (length rs < slots)
       go true h e =
-          let p : c ≡ d = cc in
-          let q : i ≡ length rs = cc in
-          (p, q, ltb-true (length rs) slots h)
+          let p = ok_pair d c (length rs) i e in
+          (sym p.0, sym p.1, ltb-true (length rs) slots h)
       go false h e = refused e
 
-  stand : (d : Change) (f : Found) → find_in rs 0 (key_for year o) ≡ f
-      → step_code d (situation_of rs f) ≡ 0 → placed slots o rs d f ≡ Accepted c i → Stands slots year o rs c i
+  stand : (d : Change) (f : Option ℕ) → find_in rs 0 (key_for year o) ≡ f
+      → step_code d (situation_of rs f) ≡ 0 → placed slots o rs d f ≡ Ok (c, i) → Stands slots year o rs c i
   unfolding situation_of placed
-  stand Insert Nothing f s e = let w = empty Insert e in inserting w.0 f w.1 w.2
-  stand Replace Nothing f s e =
+  stand Insert None f s e = let w = empty Insert e in inserting w.0 f w.1 w.2
+  stand Replace None f s e =
       let r = unless_zero (replace_code rs (namings o)) _ e in
       let w = empty Replace r.1 in
       replacing w.0 f w.1 w.2 r.0
-  stand Replace (At j) f s e = absurd (there_is (nth rs j) (replaces (situation_in (nth rs j)) s))
-  stand Insert (At j) f s e = absurd (there_is (nth rs j) (inserts (situation_in (nth rs j)) s))
-  stand Vary Nothing f s e = absurd (omega arith)
-  stand Vary (At j) f s e =
-      let p : c ≡ Vary = cc in
-      let q : j ≡ i = cc in
-      varying p (f ∙ ap At q) (waiting_in (nth rs i) (ap (λ (m : ℕ). situation_in (nth rs m)) (sym q) ∙ varies (situation_in (nth rs j)) s))
-  stand Annul Nothing f s e = absurd (omega arith)
-  stand Annul (At j) f s e = go (same_order o (nth rs j)) refl e
+  stand Replace (Some j) f s e = absurd (there_is (nth rs j) (replaces (situation_in (nth rs j)) s))
+  stand Insert (Some j) f s e = absurd (there_is (nth rs j) (inserts (situation_in (nth rs j)) s))
+  stand Vary None f s e = absurd (omega arith)
+  stand Vary (Some j) f s e =
+      let r = ok_pair Vary c j i e in
+      let q = r.1 in
+      varying (sym r.0) (f ∙ ap Some q) (waiting_in (nth rs i) (ap (λ (m : ℕ). situation_in (nth rs m)) (sym q) ∙ varies (situation_in (nth rs j)) s))
+  stand Annul None f s e = absurd (omega arith)
+  stand Annul (Some j) f s e = go (same_order o (nth rs j)) refl e
     where
-      go : (b : Bool) → same_order o (nth rs j) ≡ b → cond b (Accepted Annul j) (Refused 19) ≡ Accepted c i → Stands slots year o rs c i
+      go : (b : Bool) → same_order o (nth rs j) ≡ b → cond {A = Result (Change × ℕ) ℕ} b (Ok (Annul, j)) (Err 19) ≡ Ok (c, i) → Stands slots year o rs c i
       go true h e =
-          let p : c ≡ Annul = cc in
-          let q : j ≡ i = cc in
-          annulling p (f ∙ ap At q) (waiting_in (nth rs i) (ap (λ (m : ℕ). situation_in (nth rs m)) (sym q) ∙ annuls (situation_in (nth rs j)) s))
+          let r = ok_pair Annul c j i e in
+          let q = r.1 in
+          annulling (sym r.0) (f ∙ ap Some q) (waiting_in (nth rs i) (ap (λ (m : ℕ). situation_in (nth rs m)) (sym q) ∙ annuls (situation_in (nth rs j)) s))
           (ap (λ (m : ℕ). same_order o (nth rs m)) (sym q) ∙ h)
       go false h e = refused e
 
-  placed_change : (d : Change) (f : Found) → placed slots o rs d f ≡ Accepted c i → c ≡ d
+  placed_change : (d : Change) (f : Option ℕ) → placed slots o rs d f ≡ Ok (c, i) → c ≡ d
   unfolding placed
   placed_change Insert f e = (empty Insert e).0
   placed_change Replace f e = (empty Replace (unless_zero (replace_code rs (namings o)) _ e).1).0
-  placed_change Vary Nothing e = refused e
-  placed_change Vary (At j) e = cc
-  placed_change Annul Nothing e = refused e
-  placed_change Annul (At j) e = go (same_order o (nth rs j)) e
+  placed_change Vary None e = refused e
+  placed_change Vary (Some j) e = sym (ok_pair Vary c j i e).0
+  placed_change Annul None e = refused e
+  placed_change Annul (Some j) e = go (same_order o (nth rs j)) e
     where
-      go : (b : Bool) → cond b (Accepted Annul j) (Refused 19) ≡ Accepted c i → c ≡ Annul
-      go true e = cc
+      go : (b : Bool) → cond {A = Result (Change × ℕ) ℕ} b (Ok (Annul, j)) (Err 19) ≡ Ok (c, i) → c ≡ Annul
+      go true e = sym (ok_pair Annul c j i e).0
       go false e = refused e
 
-  module _ (e : judge_order slots year o rs ≡ Accepted c i) where
+  module _ (e : judge_order slots year o rs ≡ Ok (c, i)) where
     -- the change is that of the order's operation
     pub accepted_change : c ≡ change_of o.operation
     unfolding judge_order stepped
@@ -171,7 +172,7 @@ module _ (slots year : ℕ) (o : Ordinativo) (rs : List Record) (c : Change) (i 
       change : Change
       lines : line_code o.lines o.total ≡ 0
       step : step_code change (situation_of rs (find_in rs 0 (key_for year o))) ≡ 0
-      place : placed slots o rs change (find_in rs 0 (key_for year o)) ≡ Accepted c i
+      place : placed slots o rs change (find_in rs 0 (key_for year o)) ≡ Ok (c, i)
 
     passed : Passed
     unfolding judge_order stepped
@@ -224,17 +225,17 @@ pub record Moves (executing : Bool) (line : ℕ) (r : Record) (cents : ℕ) : Ty
   pub moves : line_moves executing (get_or r.states (line - 1) 0) ≡ 0
   pub amount : cents ≡ get_or r.amounts (line - 1) 0
 
-move_zero : (c i m j n : ℕ) → unless Unmoved c (Moved i m) ≡ Moved j n → (c ≡ 0) × (i ≡ j) × (m ≡ n)
-move_zero zero i m j n e = let p : i ≡ j = cc in let q : m ≡ n = cc in (refl, p, q)
+move_zero : (c i m j n : ℕ) → unless {A = Result (ℕ × ℕ) ℕ} Err c (Ok (i, m)) ≡ Ok (j, n) → (c ≡ 0) × (i ≡ j) × (m ≡ n)
+move_zero zero i m j n e = let p = ok_pair i j m n e in (refl, p.0, p.1)
 move_zero (suc c) i m j n e = unmoved e
 
 module _ (executing : Bool) (line i : ℕ) (r : Record) {j cents : ℕ} where
-  notice_moved : notice_in executing line i r ≡ Moved j cents → (i ≡ j) × Moves executing line r cents
+  notice_moved : notice_in executing line i r ≡ Ok (j, cents) → (i ≡ j) × Moves executing line r cents
   unfolding notice_in
   notice_moved e = go (eqb r.state 2) (leb 1 line) (leb line r.lines) refl refl refl e
     where
       go : (a b c : Bool) → eqb r.state 2 ≡ a → leb 1 line ≡ b → leb line r.lines ≡ c
-          → cond a (Unmoved 17) (cond (b && c) (unless Unmoved (line_moves executing (get_or r.states (line - 1) 0)) (Moved i (get_or r.amounts (line - 1) 0))) (Unmoved 20)) ≡ Moved j cents
+          → cond {A = Result (ℕ × ℕ) ℕ} a (Err 17) (cond (b && c) (unless Err (line_moves executing (get_or r.states (line - 1) 0)) (Ok (i, (get_or r.amounts (line - 1) 0)))) (Err 20)) ≡ Ok (j, cents)
           → (i ≡ j) × Moves executing line r cents
       go true b c p q s e = unmoved e
       go false false c p q s e = unmoved e
@@ -244,13 +245,13 @@ module _ (executing : Bool) (line i : ℕ) (r : Record) {j cents : ℕ} where
           (m.1, record { acquired = eqb-false r.state 2 p; first = leb-true 1 line q; last = leb-true line r.lines s; moves = m.0; amount = sym m.2 })
 
 module _ (executing : Bool) (k : Key) (line : ℕ) (rs : List Record) (i cents : ℕ) where
-  at_found : (f : Found) → find_in rs 0 k ≡ f → notice_at executing line rs f ≡ Moved i cents → (find_in rs 0 k ≡ At i) × Moves executing line (nth rs i) cents
+  at_found : (f : Option ℕ) → find_in rs 0 k ≡ f → notice_at executing line rs f ≡ Ok (i, cents) → (find_in rs 0 k ≡ Some i) × Moves executing line (nth rs i) cents
   unfolding notice_at
-  at_found Nothing f e = unmoved e
-  at_found (At j) f e =
+  at_found None f e = unmoved e
+  at_found (Some j) f e =
       let m = notice_moved executing line j (nth rs j) e in
-      (f ∙ ap At m.0, rw m.0 at m.1)
+      (f ∙ ap Some m.0, rw m.0 at m.1)
 
-  pub moved : judge_notice executing k line rs ≡ Moved i cents → (find_in rs 0 k ≡ At i) × Moves executing line (nth rs i) cents
+  pub moved : judge_notice executing k line rs ≡ Ok (i, cents) → (find_in rs 0 k ≡ Some i) × Moves executing line (nth rs i) cents
   unfolding judge_notice
   moved e = at_found (find_in rs 0 k) refl e

@@ -1,4 +1,5 @@
 -- What accepted orders and moved lines leave: valid records, with the keys that they had.
+use Rattle.std.specs.Prelude.{Some, Ok}
 use Prim.Native.Nat.{ℕ, zero, suc, ◌+◌, ◌≤◌, ◌<◌}
 use mathlib.Core.Bool.{Bool, true, false, ◌&&◌, ◌||◌, cond}
 use mathlib.Core.List.{List, [], ◌∷◌, ◌++◌}
@@ -14,7 +15,6 @@ use Rattle.order.specs.declared.Line.{Line}
 use Rattle.order.specs.Ordinativo.{Ordinativo}
 use Rattle.record.specs.declared.Record.{Record}
 use Rattle.record.specs.Slot.{annulled_state, key_of, record_with}
-use Rattle.ranges.specs.declared.Found.TheVariants.{At}
 use Rattle.valid.specs.Valid.{line_ok, sum, ranges_ok}
 use Rattle.slots.specs.Slots.{find_in, nth, no_record}
 use Rattle.valid.proofs.Valid.{Valid, one_of_sum, ok_bounds, ok_line, ok_sum, ok_amount, ok_tests, ok_from}
@@ -22,7 +22,6 @@ use Rattle.valid.proofs.Moved.{within, split, line_waits, line_moved, line_in, l
 use Rattle.slots.proofs.Search.{found_below, found_key}
 use Rattle.lines.specs.Lines.{numbered_from, sum_of, line_code}
 use Rattle.rules.specs.declared.Change.{Change}
-use Rattle.rules.specs.declared.Ruling.TheVariants.{Accepted}
 use Rattle.rules.specs.Rules.{was_executed, any_executed, key_for, eight_places, amounts_of, judge_order, written}
 pub use Rattle.rules.specs.Inner.{Writable, Writables, none, more}
 use Rattle.rules.proofs.Laws.{eight_at_lem, length_eight, was_2, was_3}
@@ -168,9 +167,9 @@ module _ (r : Record) (v : Valid r) where
           (λ l. line_absent_lem (annulled r) k l ∙ sym (line_absent_lem r k l) ∙ ok_line r v.ok k h)
 
 -- THE RECORD THAT AN ACCEPTED ORDER LEAVES, in a slot that holds r; a used slot holds its record
-module _ (slots year : ℕ) (o : Ordinativo) (rs : List Record) (c : Change) (i : ℕ) (r : Record) (e : judge_order slots year o rs ≡ Accepted c i) (held : i < length rs → r ≡ nth rs i) where
+module _ (slots year : ℕ) (o : Ordinativo) (rs : List Record) (c : Change) (i : ℕ) (r : Record) (e : judge_order slots year o rs ≡ Ok (c, i)) (held : i < length rs → r ≡ nth rs i) where
   -- a used slot's record is the one with the order's key
-  module _ (f : find_in rs 0 (key_for year o) ≡ At i) where
+  module _ (f : find_in rs 0 (key_for year o) ≡ Some i) where
     held_here : r ≡ nth rs i
     held_here = held (found_below rs (key_for year o) i no_record f)
 

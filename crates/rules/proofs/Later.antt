@@ -1,4 +1,5 @@
 -- Orders of a later year than one, and notices, leave records of later years: an order's own record is of the flow's year, and no other changes its key.
+use Rattle.std.specs.Prelude.{Option, Result, Some, None, Ok, Err}
 use Prim.Native.Nat.{ℕ, zero, suc, ◌<◌}
 use mathlib.Core.Bool.{Bool, true}
 use mathlib.Core.List.{List, [], ◌∷◌}
@@ -8,8 +9,6 @@ use lib.ListN.{set}
 use lib.Dec.{ltb}
 use borrow.Author.Tests.{lt-ltb}
 use Rattle.scan.proofs.Laws.{both}
-use Rattle.ranges.specs.declared.Found.{Found}
-use Rattle.ranges.specs.declared.Found.TheVariants.{At, Nothing}
 use Rattle.order.specs.Ordinativo.{Ordinativo}
 use Rattle.record.specs.declared.Record.{Record}
 use Rattle.record.specs.declared.Key.{Key}
@@ -20,10 +19,6 @@ use Rattle.replacing.specs.declared.Naming.{Naming}
 use Rattle.replacing.specs.Replacing.{namings, with_replaced_at, with_replaced, replaced_by}
 use Rattle.rules.specs.declared.Change.{Change}
 use Rattle.rules.specs.declared.Change.TheVariants.{Insert, Vary, Annul, Replace}
-use Rattle.rules.specs.declared.Ruling.{Ruling}
-use Rattle.rules.specs.declared.Ruling.TheVariants.{Accepted, Refused}
-use Rattle.rules.specs.declared.Noticed.{Noticed}
-use Rattle.rules.specs.declared.Noticed.TheVariants.{Moved, Unmoved}
 use Rattle.rules.specs.Rules.{key_for, judge_order, written, moved_to}
 use Rattle.rules.specs.Effects.{stored_at, besides, records_by, all_records, records_moved}
 use Rattle.rules.proofs.Kept.{written_key}
@@ -48,10 +43,10 @@ module _ (closed : ℕ) where
       rw w.0 (stored_later rs i r l w.1)
 
   -- named lines that are replaced
-  marked_at : (rs : List Record) (m : Naming) (f : Found) → all_later closed rs ≡ true → all_later closed (with_replaced_at rs m f) ≡ true
+  marked_at : (rs : List Record) (m : Naming) (f : Option ℕ) → all_later closed rs ≡ true → all_later closed (with_replaced_at rs m f) ≡ true
   unfolding with_replaced_at
-  marked_at rs m Nothing e = e
-  marked_at rs m (At i) e = state_later rs i _ replaced_line e
+  marked_at rs m None e = e
+  marked_at rs m (Some i) e = state_later rs i _ replaced_line e
 
   marked_later : (rs : List Record) (m : Naming) → all_later closed rs ≡ true → all_later closed (with_replaced rs m) ≡ true
   unfolding with_replaced
@@ -70,12 +65,12 @@ module _ (closed : ℕ) where
 
   -- AN ORDER, in a year that is later
   module _ (n year : ℕ) (l : closed < year) where
-    pub order_later : (o : Ordinativo) (rs : List Record) → all_later closed rs ≡ true → (j : Ruling) → judge_order n year o rs ≡ j → all_later closed (records_by year o rs j) ≡ true
-    order_later o rs e (Accepted c i) q =
+    pub order_later : (o : Ordinativo) (rs : List Record) → all_later closed rs ≡ true → (j : Result (Change × ℕ) ℕ) → judge_order n year o rs ≡ j → all_later closed (records_by year o rs j) ≡ true
+    order_later o rs e (Ok (c, i)) q =
         let k : key_of (written year o (nth rs i) c) ≡ key_for year o = written_key n year o rs c i (nth rs i) q (λ h. refl) in
         let y = ap (λ (x : Key). x.esercizio) k in
         stored_later (besides c o rs) i (written year o (nth rs i) c) (omega arith) (besides_later c o rs e)
-    order_later o rs e (Refused code) q = e
+    order_later o rs e (Err code) q = e
 
     pub orders_later : (os : List Ordinativo) (rs : List Record) → all_later closed rs ≡ true → all_later closed (all_records n year os rs) ≡ true
     unfolding all_records
@@ -83,6 +78,6 @@ module _ (closed : ℕ) where
     orders_later (o ∷ os) rs e = orders_later os (records_by year o rs (judge_order n year o rs)) (order_later o rs e (judge_order n year o rs) refl)
 
   -- A NOTICE
-  pub notice_later : (executing : Bool) (line : ℕ) (rs : List Record) (m : Noticed) → all_later closed rs ≡ true → all_later closed (records_moved executing line rs m) ≡ true
-  notice_later executing line rs (Moved i cents) e = state_later rs i _ (moved_to executing) e
-  notice_later executing line rs (Unmoved c) e = e
+  pub notice_later : (executing : Bool) (line : ℕ) (rs : List Record) (m : Result (ℕ × ℕ) ℕ) → all_later closed rs ≡ true → all_later closed (records_moved executing line rs m) ≡ true
+  notice_later executing line rs (Ok (i, cents)) e = state_later rs i _ (moved_to executing) e
+  notice_later executing line rs (Err c) e = e

@@ -1,4 +1,5 @@
 -- The refusals that the rules give are those that are listed, and an accepted order or a moved line has none.
+use Rattle.std.specs.Prelude.{Option, Result, Some, None, Ok, Err}
 use Prim.Native.Nat.{ℕ, zero, suc, ◌+◌, ◌-◌, ◌*◌, ◌≤◌, ◌<◌}
 use mathlib.Core.Bool.{Bool, true, false, ◌&&◌, ◌||◌, cond, and-false, or-true}
 use mathlib.Core.List.Memᴰ
@@ -11,8 +12,6 @@ use lib.Dec.{eqb, leb, ltb}
 use borrow.Author.Tests.{eq-eqb, ne_eqb, eqb-true, eqb-false, ltb-true, ltb-false, leb-false, lt-leb}
 use Rattle.scan.proofs.Laws.{both}
 use Rattle.ranges.specs.Ranges.{is_nothing}
-use Rattle.ranges.specs.declared.Found.{Found}
-use Rattle.ranges.specs.declared.Found.TheVariants.{At, Nothing}
 use Rattle.codes.specs.declared.Operation.{Operation}
 use Rattle.codes.specs.declared.Operation.TheVariants.{Inserimento, Variazione, Annullo, Sostituzione}
 use Rattle.order.specs.declared.Line.{Line}
@@ -32,10 +31,6 @@ use Rattle.rules.specs.declared.Situation.{Situation}
 use Rattle.rules.specs.declared.Situation.TheVariants.{Annulled, Waiting, Executed}
 use Rattle.rules.specs.declared.Change.{Change}
 use Rattle.rules.specs.declared.Change.TheVariants.{Insert, Vary, Annul, Replace}
-use Rattle.rules.specs.declared.Ruling.{Ruling}
-use Rattle.rules.specs.declared.Ruling.TheVariants.{Accepted, Refused}
-use Rattle.rules.specs.declared.Noticed.{Noticed}
-use Rattle.rules.specs.declared.Noticed.TheVariants.{Moved, Unmoved}
 use Rattle.rules.specs.Rules.{change_of, was_executed, any_executed, situation_in, situation_of, row, step_code, key_for, eight_places, amounts_of, same_list, same_order, first_empty, placed, unless, stepped, judge_order, line_moves, notice_in, notice_at, judge_notice}
 use Rattle.rules.specs.Listed.{Has, HasNone, IsAnnulled, IsExecuted, IsReplaced, Numbered, Differs, total, count, amounts, OnRecord, variazione, annullo, WithNew, inserimento, sostituzione, line_at, named_key, named_number, name_turn, last_turn, Applies, misnumbered, missummed, present, absent, annulled, executed, no_order, line_zero, line_past, not_executed, named_before, other_amount, full, differs, NoticeApplies, unknown, closed, zeroth, past, already, not_yet, notice_turn}
 use Rattle.rules.proofs.Laws.{in_annulled, in_executed, was_2, was_3, execution_stops, reversal_stops}
@@ -58,7 +53,7 @@ at_in [] i h = absurd (omega arith)
 at_in (r ∷ rs) zero h = Memᴰ.head refl
 at_in (r ∷ rs) (suc i) h = Memᴰ.tail (at_in rs i (omega arith))
 
-pub found_has : (rs : List Record) (k : Key) (i : ℕ) → find_in rs 0 k ≡ At i → Has rs k (nth rs i)
+pub found_has : (rs : List Record) (k : Key) (i : ℕ) → find_in rs 0 k ≡ Some i → Has rs k (nth rs i)
 found_has rs k i e = record { among = at_in rs i (found_below rs k i no_record e); key = found_key rs k i no_record e }
 
 is_key : (r : Record) (k : Key) → key_of r ≡ k → key_is r k ≡ true
@@ -66,18 +61,18 @@ unfolding key_is
 is_key r k e =
     rw (eq-eqb r.kind k.kind (ap (λ (x : Key). x.kind) e), eq-eqb r.esercizio k.esercizio (ap (λ (x : Key). x.esercizio) e), eq-eqb r.number k.number (ap (λ (x : Key). x.number) e))
 
-none_found : (rs : List Record) (j : ℕ) (k : Key) → find_in rs j k ≡ Nothing → (r : Record) → Memᴰ r rs → key_of r ≡ k → ⊥
+none_found : (rs : List Record) (j : ℕ) (k : Key) → find_in rs j k ≡ None → (r : Record) → Memᴰ r rs → key_of r ≡ k → ⊥
 unfolding find_in
 none_found [] j k e r m q = Memᴰ.not-nil m
 none_found (x ∷ rs) j k e r m q = go (key_is x k) refl e (Memᴰ.cases_cons m) (none_found rs (j + 1) k)
   where
-    go : (b : Bool) → key_is x k ≡ b → cond b (At j) (find_in rs (j + 1) k) ≡ Nothing → (r ≡ x) ⊎ Memᴰ r rs
-        → (find_in rs (j + 1) k ≡ Nothing → (y : Record) → Memᴰ y rs → key_of y ≡ k → ⊥) → ⊥
+    go : (b : Bool) → key_is x k ≡ b → cond b (Some j) (find_in rs (j + 1) k) ≡ None → (r ≡ x) ⊎ Memᴰ r rs
+        → (find_in rs (j + 1) k ≡ None → (y : Record) → Memᴰ y rs → key_of y ≡ k → ⊥) → ⊥
     go true p f w ih = let z : clash = cc in no z
     go false p f (inl s) ih = false_true (sym p ∙ is_key x k (ap key_of (sym s) ∙ q))
     go false p f (inr w) ih = ih f r w q
 
-pub nothing_none : (rs : List Record) (k : Key) → find_in rs 0 k ≡ Nothing → HasNone rs k
+pub nothing_none : (rs : List Record) (k : Key) → find_in rs 0 k ≡ None → HasNone rs k
 nothing_none rs k e r h = none_found rs 0 k e r h.among h.key
 
 one_of : (rs : List Record) → distinct rs ≡ true → (r s : Record) → Memᴰ r rs → Memᴰ s rs → key_of r ≡ key_of s → r ≡ s
@@ -99,27 +94,27 @@ one_of (x ∷ rs) d r s m n e = go (Memᴰ.cases_cons m) (Memᴰ.cases_cons n) (
     go (inr p) (inr q) ih = ih parts.1 r s p q e
 
 -- where keys are distinct, the record with the key is the one that is found
-pub has_found : (rs : List Record) (k : Key) (i : ℕ) (r : Record) → distinct rs ≡ true → find_in rs 0 k ≡ At i → Has rs k r → nth rs i ≡ r
+pub has_found : (rs : List Record) (k : Key) (i : ℕ) (r : Record) → distinct rs ≡ true → find_in rs 0 k ≡ Some i → Has rs k r → nth rs i ≡ r
 has_found rs k i r d e h = let x = found_has rs k i e in one_of rs d (nth rs i) r x.among h.among (x.key ∙ sym h.key)
 
 pub record HasAt (rs : List Record) (k : Key) (r : Record) : Type 0 where
   pub at : ℕ
-  pub found : find_in rs 0 k ≡ At at
+  pub found : find_in rs 0 k ≡ Some at
   pub same : nth rs at ≡ r
 
 has_at : (rs : List Record) (k : Key) (r : Record) → distinct rs ≡ true → Has rs k r → HasAt rs k r
 has_at rs k r d h = go (find_in rs 0 k) refl
   where
-    go : (f : Found) → find_in rs 0 k ≡ f → HasAt rs k r
-    go Nothing e = absurd (nothing_none rs k e r h)
-    go (At i) e = record { at = i; found = e; same = has_found rs k i r d e h }
+    go : (f : Option ℕ) → find_in rs 0 k ≡ f → HasAt rs k r
+    go None e = absurd (nothing_none rs k e r h)
+    go (Some i) e = record { at = i; found = e; same = has_found rs k i r d e h }
 
-none_nothing : (rs : List Record) (k : Key) → HasNone rs k → find_in rs 0 k ≡ Nothing
+none_nothing : (rs : List Record) (k : Key) → HasNone rs k → find_in rs 0 k ≡ None
 none_nothing rs k h = go (find_in rs 0 k) refl
   where
-    go : (f : Found) → find_in rs 0 k ≡ f → f ≡ Nothing
-    go Nothing e = refl
-    go (At i) e = absurd (h (nth rs i) (found_has rs k i e))
+    go : (f : Option ℕ) → find_in rs 0 k ≡ f → f ≡ None
+    go None e = refl
+    go (Some i) e = absurd (h (nth rs i) (found_has rs k i e))
 
 is_not : (b : Bool) → (b ≡ true → ⊥) → b ≡ false
 is_not true h = absurd (h refl)
@@ -244,9 +239,9 @@ tells : (rs : List Record) (m : Naming) → Tells rs m (named_code rs m)
 unfolding named_code named_at
 tells rs m = go (find_in rs 0 m.key) refl
   where
-    go : (f : Found) → find_in rs 0 m.key ≡ f → Tells rs m (named_at rs m f)
-    go Nothing e = none_such (nothing_none rs m.key e)
-    go (At i) e = tells_in rs m (nth rs i) (found_has rs m.key i e)
+    go : (f : Option ℕ) → find_in rs 0 m.key ≡ f → Tells rs m (named_at rs m f)
+    go None e = none_such (nothing_none rs m.key e)
+    go (Some i) e = tells_in rs m (nth rs i) (found_has rs m.key i e)
 
 -- and the other way round: a code from 24 to x
 abbrev To : ℕ → ℕ → Type 0
@@ -365,13 +360,13 @@ module _ (slots year : ℕ) (o : Ordinativo) (rs : List Record) where
   abbrev key : Key
   key = key_for year o
 
-  abbrev answer : Ruling
+  abbrev answer : Result (Change × ℕ) ℕ
   answer = judge_order slots year o rs
 
   abbrev change : Change
   change = change_of o.operation
 
-  abbrev found : Found
+  abbrev found : Option ℕ
   found = find_in rs 0 key
 
   abbrev step : ℕ
@@ -420,7 +415,7 @@ module _ (slots year : ℕ) (o : Ordinativo) (rs : List Record) where
         go p variazione = refl
         go p annullo = refl
 
-    there_14 : (i : ℕ) → row 0 14 14 14 (situation_of rs (At i)) ≡ 14
+    there_14 : (i : ℕ) → row 0 14 14 14 (situation_of rs (Some i)) ≡ 14
     unfolding situation_of situation_in
     there_14 i = go (eqb (nth rs i).state 2) (any_executed (nth rs i).states)
       where
@@ -432,17 +427,17 @@ module _ (slots year : ℕ) (o : Ordinativo) (rs : List Record) where
     step_present : WithNew o.operation → (r : Record) → Has rs key r → step ≡ 14
     step_present w r h =
         let x = has_at rs key r d h in
-        new_row w (situation_of rs found) ∙ ap (λ (f : Found). row 0 14 14 14 (situation_of rs f)) x.found ∙ there_14 x.at
+        new_row w (situation_of rs found) ∙ ap (λ (f : Option ℕ). row 0 14 14 14 (situation_of rs f)) x.found ∙ there_14 x.at
 
     step_absent : OnRecord o.operation → HasNone rs key → step ≡ 16
     unfolding situation_of
-    step_absent w h = record_row w (situation_of rs found) ∙ ap (λ (f : Found). row 16 17 0 18 (situation_of rs f)) (none_nothing rs key h)
+    step_absent w h = record_row w (situation_of rs found) ∙ ap (λ (f : Option ℕ). row 16 17 0 18 (situation_of rs f)) (none_nothing rs key h)
 
     step_at : OnRecord o.operation → (r : Record) → Has rs key r → {s : Situation} → situation_in r ≡ s → step ≡ row 16 17 0 18 s
     unfolding situation_of
     step_at w r h q =
         let x = has_at rs key r d h in
-        record_row w (situation_of rs found) ∙ ap (λ (f : Found). row 16 17 0 18 (situation_of rs f)) x.found ∙ ap (λ (y : Record). row 16 17 0 18 (situation_in y)) x.same ∙ ap (row 16 17 0 18) q
+        record_row w (situation_of rs found) ∙ ap (λ (f : Option ℕ). row 16 17 0 18 (situation_of rs f)) x.found ∙ ap (λ (y : Record). row 16 17 0 18 (situation_in y)) x.same ∙ ap (row 16 17 0 18) q
 
     step_annulled : OnRecord o.operation → (r : Record) → Has rs key r → IsAnnulled r → step ≡ 17
     step_annulled w r h e = step_at w r h (in_annulled r e)
@@ -469,9 +464,9 @@ module _ (slots year : ℕ) (o : Ordinativo) (rs : List Record) where
       unfolding named_code named_at naming_at
       code_zero e = code_from 24 (go (find_in rs 0 (named_key o j)))
         where
-          go : (f : Found) → To 24 (named_at rs (at o j) f)
-          go Nothing = (omega arith, omega arith)
-          go (At i) =
+          go : (f : Option ℕ) → To 24 (named_at rs (at o j) f)
+          go None = (omega arith, omega arith)
+          go (Some i) =
               in_to (nth rs i) (named_number o j) (line_at o j).amount 24 (λ q. rw (lt-leb 1 (named_number o j) (omega arith))) (λ q. absurd (omega arith)) (λ q. absurd (omega arith)) (omega arith, omega arith)
 
       code_past : (r : Record) → Has rs (named_key o j) r → r.lines < named_number o j → To 24 (code j)
@@ -559,12 +554,12 @@ module _ (slots year : ℕ) (o : Ordinativo) (rs : List Record) where
     pub record Stop : Type 0 where
       pub turn : ℕ
       pub with : ℕ
-      pub is : answer ≡ Refused with
+      pub is : answer ≡ Err with
       pub applies : Applies slots year o rs turn with
       pub first : {t c : ℕ} → Applies slots year o rs t c → turn ≤ t
 
     pub data Decided : Type 0 where
-      taken : (c : Change) (i : ℕ) → answer ≡ Accepted c i → ((t x : ℕ) → Applies slots year o rs t x → ⊥) → Decided
+      taken : (c : Change) (i : ℕ) → answer ≡ Ok (c, i) → ((t x : ℕ) → Applies slots year o rs t x → ⊥) → Decided
       stopped : Stop → Decided
 
     other : {A : Type 0} {p q : Operation} → o.operation ≡ p → o.operation ≡ q → (p ≡ q → ⊥) → A
@@ -620,7 +615,7 @@ module _ (slots year : ℕ) (o : Ordinativo) (rs : List Record) where
       unfolding placed
       replaces p = go (comes rs o.kind o.lines) (placed_is ∙ ap (λ (x : Operation). placed slots o rs (change_of x) found) p)
         where
-          go : {n : ℕ} → Comes rs o.kind o.lines n → answer ≡ unless Refused n (first_empty Replace slots rs) → Decided
+          go : {n : ℕ} → Comes rs o.kind o.lines n → answer ≡ unless Err n (first_empty Replace slots rs) → Decided
           go (stands h) e = at_end (subst WithNew (sym p) sostituzione) Replace e (λ q. h)
           go (stops j n l q h) e = stopped (record { turn = name_turn j + (suc n - 24); with = suc n; is = e; applies = named_applies p j l n q; first = λ a. by (late numbered summed z a) })
             where
@@ -650,9 +645,9 @@ module _ (slots year : ℕ) (o : Ordinativo) (rs : List Record) where
               wrong x sostituzione q = let y : clash = cc in no y
           none (not_meant q r h m u) = other p q (λ (y : Variazione ≡ Annullo). let u : clash = cc in no u)
 
-          go : (f : Found) → found ≡ f → answer ≡ placed slots o rs Vary f → Decided
-          go Nothing f e = absurd (omega (arith, step_absent (subst OnRecord (sym p) variazione) (nothing_none rs key f)))
-          go (At i) f e = taken Vary i e (λ t x a. none (late numbered summed z a))
+          go : (f : Option ℕ) → found ≡ f → answer ≡ placed slots o rs Vary f → Decided
+          go None f e = absurd (omega (arith, step_absent (subst OnRecord (sym p) variazione) (nothing_none rs key f)))
+          go (Some i) f e = taken Vary i e (λ t x a. none (late numbered summed z a))
 
       annuls : o.operation ≡ Annullo → Decided
       unfolding placed
@@ -668,9 +663,9 @@ module _ (slots year : ℕ) (o : Ordinativo) (rs : List Record) where
           not_replaced : {A : Type 0} → o.operation ≡ Sostituzione → A
           not_replaced q = other p q (λ (y : Annullo ≡ Sostituzione). let u : clash = cc in no u)
 
-          go : (f : Found) → found ≡ f → answer ≡ placed slots o rs Annul f → Decided
-          go Nothing f e = absurd (omega (arith, step_absent (subst OnRecord (sym p) annullo) (nothing_none rs key f)))
-          go (At i) f e = same (same_order o (nth rs i)) refl
+          go : (f : Option ℕ) → found ≡ f → answer ≡ placed slots o rs Annul f → Decided
+          go None f e = absurd (omega (arith, step_absent (subst OnRecord (sym p) annullo) (nothing_none rs key f)))
+          go (Some i) f e = same (same_order o (nth rs i)) refl
             where
               same : (b : Bool) → same_order o (nth rs i) ≡ b → Decided
               same true q = taken Annul i (e ∙ rw q) (λ t x a. none (late numbered summed z a))
@@ -695,13 +690,13 @@ module _ (slots year : ℕ) (o : Ordinativo) (rs : List Record) where
         kept_as : {x : ℕ} → Applies slots year o rs 3 x → x ≡ suc n → Applies slots year o rs 3 (suc n)
         kept_as a q = subst (Applies slots year o rs 3) q a
 
-        new : WithNew o.operation → (f : Found) → found ≡ f → row 0 14 14 14 (situation_of rs f) ≡ suc n → Applies slots year o rs 3 (suc n)
-        new w Nothing f q = absurd (omega arith)
-        new w (At i) f q = kept_as (present w (nth rs i) (found_has rs key i f)) (sym (there_14 i) ∙ q)
+        new : WithNew o.operation → (f : Option ℕ) → found ≡ f → row 0 14 14 14 (situation_of rs f) ≡ suc n → Applies slots year o rs 3 (suc n)
+        new w None f q = absurd (omega arith)
+        new w (Some i) f q = kept_as (present w (nth rs i) (found_has rs key i f)) (sym (there_14 i) ∙ q)
 
-        on : OnRecord o.operation → (f : Found) → found ≡ f → row 16 17 0 18 (situation_of rs f) ≡ suc n → Applies slots year o rs 3 (suc n)
-        on w Nothing f q = kept_as (absent w (nothing_none rs key f)) q
-        on w (At i) f q = by (eqb (nth rs i).state 2) (any_executed (nth rs i).states) refl refl q
+        on : OnRecord o.operation → (f : Option ℕ) → found ≡ f → row 16 17 0 18 (situation_of rs f) ≡ suc n → Applies slots year o rs 3 (suc n)
+        on w None f q = kept_as (absent w (nothing_none rs key f)) q
+        on w (Some i) f q = by (eqb (nth rs i).state 2) (any_executed (nth rs i).states) refl refl q
           where
             by : (a b : Bool) → eqb (nth rs i).state 2 ≡ a → any_executed (nth rs i).states ≡ b → row 16 17 0 18 (cond a Annulled (cond b Executed Waiting)) ≡ suc n → Applies slots year o rs 3 (suc n)
             by true b u v q = kept_as (annulled w (nth rs i) (found_has rs key i f) (eqb-true _ _ u)) q
@@ -710,7 +705,7 @@ module _ (slots year : ℕ) (o : Ordinativo) (rs : List Record) where
                 kept_as (executed w (nth rs i) (found_has rs key i f) (eqb-false _ _ u) x.0 (was_is (get_or (nth rs i).states x.0 0) x.1)) q
             by false false u v q = absurd (omega arith)
 
-        go : (p : Operation) → o.operation ≡ p → (f : Found) → found ≡ f → step_code (change_of p) (situation_of rs f) ≡ suc n → Applies slots year o rs 3 (suc n)
+        go : (p : Operation) → o.operation ≡ p → (f : Option ℕ) → found ≡ f → step_code (change_of p) (situation_of rs f) ≡ suc n → Applies slots year o rs 3 (suc n)
         go Inserimento p f q e = new (subst WithNew (sym p) inserimento) f q e
         go Sostituzione p f q e = new (subst WithNew (sym p) sostituzione) f q e
         go Variazione p f q e = on (subst OnRecord (sym p) variazione) f q e
@@ -794,52 +789,52 @@ module _ (slots year : ℕ) (o : Ordinativo) (rs : List Record) where
 -- A NOTICE
 module _ (executing : Bool) (k : Key) (line : ℕ) (rs : List Record) where
   module _ (code : ℕ) where
-    give_notice : {c : ℕ} → NoticeApplies executing k line rs c → Unmoved c ≡ Unmoved code → NoticeApplies executing k line rs code
+    give_notice : {c : ℕ} → NoticeApplies executing k line rs c → ◌≡◌ {A = Result (ℕ × ℕ) ℕ} (Err c) (Err code) → NoticeApplies executing k line rs code
     give_notice {c} h e = let q : c ≡ code = cc in subst (NoticeApplies executing k line rs) q h
 
-    moves_apply : (r : Record) → Has rs k r → (i cents : ℕ) → unless Unmoved (line_moves executing (get_or r.states (line - 1) 0)) (Moved i cents) ≡ Unmoved code → NoticeApplies executing k line rs code
+    moves_apply : (r : Record) → Has rs k r → (i cents : ℕ) → unless {A = Result (ℕ × ℕ) ℕ} Err (line_moves executing (get_or r.states (line - 1) 0)) (Ok (i, cents)) ≡ Err code → NoticeApplies executing k line rs code
     unfolding line_moves
     moves_apply r h i cents e = go executing refl e
       where
-        executes : executing ≡ true → (b : Bool) → was_executed (get_or r.states (line - 1) 0) ≡ b → unless Unmoved (cond b 21 0) (Moved i cents) ≡ Unmoved code → NoticeApplies executing k line rs code
+        executes : executing ≡ true → (b : Bool) → was_executed (get_or r.states (line - 1) 0) ≡ b → unless {A = Result (ℕ × ℕ) ℕ} Err (cond b 21 0) (Ok (i, cents)) ≡ Err code → NoticeApplies executing k line rs code
         executes p true q e = give_notice (already p r h (was_is (get_or r.states (line - 1) 0) q)) e
-        executes p false q e = let z : Moved i cents ≡ Unmoved code = e in let y : clash = cc in no y
+        executes p false q e = let z : ◌≡◌ {A = Result (ℕ × ℕ) ℕ} (Ok (i, cents)) (Err code) = e in let y : clash = cc in no y
 
-        reverses : executing ≡ false → (b : Bool) → eqb (get_or r.states (line - 1) 0) 2 ≡ b → unless Unmoved (cond b 0 22) (Moved i cents) ≡ Unmoved code → NoticeApplies executing k line rs code
-        reverses p true q e = let z : Moved i cents ≡ Unmoved code = e in let y : clash = cc in no y
+        reverses : executing ≡ false → (b : Bool) → eqb (get_or r.states (line - 1) 0) 2 ≡ b → unless {A = Result (ℕ × ℕ) ℕ} Err (cond b 0 22) (Ok (i, cents)) ≡ Err code → NoticeApplies executing k line rs code
+        reverses p true q e = let z : ◌≡◌ {A = Result (ℕ × ℕ) ℕ} (Ok (i, cents)) (Err code) = e in let y : clash = cc in no y
         reverses p false q e = give_notice (not_yet p r h (eqb-false (get_or r.states (line - 1) 0) 2 q)) e
 
-        go : (x : Bool) → executing ≡ x → unless Unmoved (line_moves x (get_or r.states (line - 1) 0)) (Moved i cents) ≡ Unmoved code → NoticeApplies executing k line rs code
+        go : (x : Bool) → executing ≡ x → unless {A = Result (ℕ × ℕ) ℕ} Err (line_moves x (get_or r.states (line - 1) 0)) (Ok (i, cents)) ≡ Err code → NoticeApplies executing k line rs code
         go true p e = executes p (was_executed (get_or r.states (line - 1) 0)) refl e
         go false p e = reverses p (eqb (get_or r.states (line - 1) 0) 2) refl e
 
-    notice_apply : (r : Record) → Has rs k r → (i : ℕ) → notice_in executing line i r ≡ Unmoved code → NoticeApplies executing k line rs code
+    notice_apply : (r : Record) → Has rs k r → (i : ℕ) → notice_in executing line i r ≡ Err code → NoticeApplies executing k line rs code
     unfolding notice_in
     notice_apply r h i e = go (eqb r.state 2) (leb 1 line) (leb line r.lines) refl refl refl e
       where
         go : (a b c : Bool) → eqb r.state 2 ≡ a → leb 1 line ≡ b → leb line r.lines ≡ c
-            → cond a (Unmoved 17) (cond (b && c) (unless Unmoved (line_moves executing (get_or r.states (line - 1) 0)) (Moved i (get_or r.amounts (line - 1) 0))) (Unmoved 20)) ≡ Unmoved code
+            → cond {A = Result (ℕ × ℕ) ℕ} a (Err 17) (cond (b && c) (unless Err (line_moves executing (get_or r.states (line - 1) 0)) (Ok (i, (get_or r.amounts (line - 1) 0)))) (Err 20)) ≡ Err code
             → NoticeApplies executing k line rs code
         go true b c p q s e = give_notice (closed r h (eqb-true _ _ p)) e
         go false false c p q s e = give_notice (zeroth (omega (arith, leb-false 1 line q))) e
         go false true false p q s e = give_notice (past r h (leb-false line r.lines s)) e
         go false true true p q s e = moves_apply r h i (get_or r.amounts (line - 1) 0) e
 
-    pub unmoved_applies : judge_notice executing k line rs ≡ Unmoved code → NoticeApplies executing k line rs code
+    pub unmoved_applies : judge_notice executing k line rs ≡ Err code → NoticeApplies executing k line rs code
     unfolding judge_notice notice_at
     unmoved_applies e = go (find_in rs 0 k) refl e
       where
-        go : (f : Found) → find_in rs 0 k ≡ f → notice_at executing line rs f ≡ Unmoved code → NoticeApplies executing k line rs code
-        go Nothing p e = give_notice (unknown (nothing_none rs k p)) e
-        go (At i) p e = notice_apply (nth rs i) (found_has rs k i p) i e
+        go : (f : Option ℕ) → find_in rs 0 k ≡ f → notice_at executing line rs f ≡ Err code → NoticeApplies executing k line rs code
+        go None p e = give_notice (unknown (nothing_none rs k p)) e
+        go (Some i) p e = notice_apply (nth rs i) (found_has rs k i p) i e
 
   -- refused by turn t
-  pub record NoticeBy (m : Noticed) (t : ℕ) : Type 0 where
+  pub record NoticeBy (m : Result (ℕ × ℕ) ℕ) (t : ℕ) : Type 0 where
     pub code : ℕ
-    pub is : m ≡ Unmoved code
+    pub is : m ≡ Err code
     pub soon : notice_turn code ≤ t
 
-  found_by : {f : Found} {t : ℕ} → find_in rs 0 k ≡ f → NoticeBy (notice_at executing line rs f) t → NoticeBy (judge_notice executing k line rs) t
+  found_by : {f : Option ℕ} {t : ℕ} → find_in rs 0 k ≡ f → NoticeBy (notice_at executing line rs f) t → NoticeBy (judge_notice executing k line rs) t
   unfolding judge_notice
   found_by e b = record { code = b.code; is = ap (notice_at executing line rs) e ∙ b.is; soon = b.soon }
 
@@ -850,34 +845,34 @@ module _ (executing : Bool) (k : Key) (line : ℕ) (rs : List Record) where
     abbrev state : ℕ
     state = get_or it.states (line - 1) 0
 
-    in_range : (t : ℕ) → 3 ≤ t → NoticeBy (unless Unmoved (line_moves executing state) (Moved i (get_or it.amounts (line - 1) 0))) t → NoticeBy (notice_at executing line rs (At i)) t
+    in_range : (t : ℕ) → 3 ≤ t → NoticeBy (unless Err (line_moves executing state) (Ok (i, (get_or it.amounts (line - 1) 0)))) t → NoticeBy (notice_at executing line rs (Some i)) t
     unfolding notice_at notice_in
     in_range t l b = go (eqb it.state 2) (leb 1 line && leb line it.lines)
       where
-        go : (x y : Bool) → NoticeBy (cond x (Unmoved 17) (cond y (unless Unmoved (line_moves executing state) (Moved i (get_or it.amounts (line - 1) 0))) (Unmoved 20))) t
+        go : (x y : Bool) → NoticeBy (cond x (Err 17) (cond y (unless Err (line_moves executing state) (Ok (i, (get_or it.amounts (line - 1) 0)))) (Err 20))) t
         go true y = record { code = 17; is = refl; soon = omega arith }
         go false true = b
         go false false = record { code = 20; is = refl; soon = l }
 
-    out_of_range : (leb 1 line && leb line it.lines) ≡ false → NoticeBy (notice_at executing line rs (At i)) 3
+    out_of_range : (leb 1 line && leb line it.lines) ≡ false → NoticeBy (notice_at executing line rs (Some i)) 3
     unfolding notice_at notice_in
     out_of_range e = rw e (go (eqb it.state 2))
       where
-        go : (x : Bool) → NoticeBy (cond x (Unmoved 17) (Unmoved 20)) 3
+        go : (x : Bool) → NoticeBy (cond x (Err 17) (Err 20)) 3
         go true = record { code = 17; is = refl; soon = omega arith }
         go false = record { code = 20; is = refl; soon = omega arith }
 
-    closed_by : IsAnnulled it → NoticeBy (notice_at executing line rs (At i)) 2
+    closed_by : IsAnnulled it → NoticeBy (notice_at executing line rs (Some i)) 2
     unfolding notice_at notice_in
     closed_by e = record { code = 17; is = rw (eq-eqb it.state 2 e); soon = omega arith }
 
-    moves_by : (c : ℕ) → line_moves executing state ≡ suc c → notice_turn (suc c) ≤ 4 → NoticeBy (notice_at executing line rs (At i)) 4
+    moves_by : (c : ℕ) → line_moves executing state ≡ suc c → notice_turn (suc c) ≤ 4 → NoticeBy (notice_at executing line rs (Some i)) 4
     moves_by c e l = in_range 4 (omega arith) (rw e (record { code = suc c; is = refl; soon = l }))
 
-  zeroth_by : line ≡ 0 → (f : Found) → NoticeBy (notice_at executing line rs f) 3
+  zeroth_by : line ≡ 0 → (f : Option ℕ) → NoticeBy (notice_at executing line rs f) 3
   unfolding notice_at
-  zeroth_by e Nothing = record { code = 16; is = refl; soon = omega arith }
-  zeroth_by e (At i) = out_of_range i (rw (lt-leb 1 line (omega arith)))
+  zeroth_by e None = record { code = 16; is = refl; soon = omega arith }
+  zeroth_by e (Some i) = out_of_range i (rw (lt-leb 1 line (omega arith)))
 
   module _ (d : distinct rs ≡ true) where
     pub notice_by_lem : {c : ℕ} → NoticeApplies executing k line rs c → NoticeBy (judge_notice executing k line rs) (notice_turn c)
@@ -897,7 +892,7 @@ module _ (executing : Bool) (k : Key) (line : ℕ) (rs : List Record) where
         found_by x.found
         (moves_by x.at 21 (ap (λ (b : Bool). line_moves b (state x.at)) p ∙ reversal_stops _ (λ z. n (sym (ap (λ (y : Record). get_or y.states (line - 1) 0) x.same) ∙ z))) (omega arith))
 
-    pub moved_none : {i cents c : ℕ} → judge_notice executing k line rs ≡ Moved i cents → NoticeApplies executing k line rs c → ⊥
+    pub moved_none : {i cents c : ℕ} → judge_notice executing k line rs ≡ Ok (i, cents) → NoticeApplies executing k line rs c → ⊥
     moved_none e a = let b = notice_by_lem a in let z : clash = cc b.is in no z
 
   -- one refusal at most of each turn

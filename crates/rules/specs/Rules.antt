@@ -1,7 +1,5 @@
 -- The rules (document 01, "Answers"): what an order or a notice comes to, over one body's records.
-use Rattle.std.specs.Prelude.{ℕ, zero, suc, ◌-◌, Bool, true, false, ◌&&◌, ◌||◌, cond, List, [], ◌∷◌, ◌++◌, length, get_or, take, replicate, eqb, leb, ltb}
-use Rattle.ranges.specs.declared.Found.{Found}
-use Rattle.ranges.specs.declared.Found.TheVariants.{At, Nothing}
+use Rattle.std.specs.Prelude.{ℕ, zero, suc, ◌-◌, Bool, true, false, ◌&&◌, ◌||◌, cond, List, [], ◌∷◌, ◌++◌, length, get_or, take, replicate, eqb, leb, ltb, Option, Result, Some, None, Ok, Err}
 use Rattle.codes.specs.declared.Operation.{Operation}
 use Rattle.codes.specs.declared.Operation.TheVariants.{Inserimento, Variazione, Annullo, Sostituzione}
 use Rattle.order.specs.declared.Line.{Line}
@@ -16,10 +14,6 @@ use Rattle.rules.specs.declared.Situation.{Situation}
 use Rattle.rules.specs.declared.Situation.TheVariants.{Absent, Annulled, Waiting, Executed}
 use Rattle.rules.specs.declared.Change.{Change}
 use Rattle.rules.specs.declared.Change.TheVariants.{Insert, Vary, Annul, Replace}
-use Rattle.rules.specs.declared.Ruling.{Ruling}
-use Rattle.rules.specs.declared.Ruling.TheVariants.{Accepted, Refused}
-use Rattle.rules.specs.declared.Noticed.{Noticed}
-use Rattle.rules.specs.declared.Noticed.TheVariants.{Moved, Unmoved}
 
 -- THE OPERATIONS: which change an order asks for
 abbrev pub change_of : Operation → Change
@@ -63,9 +57,9 @@ step_code Replace s = row 0 14 14 14 s
 abbrev pub key_for : ℕ → Ordinativo → Key
 key_for year o = record { kind = o.kind; esercizio = year; number = o.number }
 
-unfoldable pub situation_of : List Record → Found → Situation
-situation_of rs Nothing = Absent
-situation_of rs (At i) = situation_in (nth rs i)
+unfoldable pub situation_of : List Record → Option ℕ → Situation
+situation_of rs None = Absent
+situation_of rs (Some i) = situation_in (nth rs i)
 
 -- EIGHT PLACES of a record, nothing after what there is: "eight line states (0 no line ..)", "eight amounts"
 abbrev pub eight_places : List ℕ → List ℕ
@@ -86,11 +80,11 @@ unfoldable pub same_order : Ordinativo → Record → Bool
 same_order o r = eqb o.total r.total && (eqb (length o.lines) r.lines && same_list (eight_places (amounts_of o.lines)) r.amounts)
 
 -- after a step of 0: the slot that the order's record takes. "15 (INSERIMENTO: the body has no empty slot)"
-abbrev pub first_empty : Change → ℕ → List Record → Ruling
-first_empty c slots rs = cond (ltb (length rs) slots) (Accepted c (length rs)) (Refused 15)
+abbrev pub first_empty : Change → ℕ → List Record → Result (Change × ℕ) ℕ
+first_empty c slots rs = cond (ltb (length rs) slots) (Ok (c, (length rs))) (Err 15)
 
-abbrev pub if_same : Ordinativo → List Record → ℕ → Ruling
-if_same o rs i = cond (same_order o (nth rs i)) (Accepted Annul i) (Refused 19)
+abbrev pub if_same : Ordinativo → List Record → ℕ → Result (Change × ℕ) ℕ
+if_same o rs i = cond (same_order o (nth rs i)) (Ok (Annul, i)) (Err 19)
 
 -- refused with a code, or what comes after where it is 0
 abbrev pub unless : {A : Type 0} → (ℕ → A) → ℕ → A → A
@@ -98,28 +92,28 @@ unless refuse zero next = next
 unless refuse (suc c) next = refuse (suc c)
 
 -- document 02, Req 07: "then 24 named line absent, 25 .., 26 .., line by line, then 15"
-unfoldable pub placed : ℕ → Ordinativo → List Record → Change → Found → Ruling
+unfoldable pub placed : ℕ → Ordinativo → List Record → Change → Option ℕ → Result (Change × ℕ) ℕ
 placed slots o rs Insert f = first_empty Insert slots rs
-placed slots o rs Replace f = unless Refused (replace_code rs (namings o)) (first_empty Replace slots rs)
-placed slots o rs Vary (At i) = Accepted Vary i
-placed slots o rs Vary Nothing = Refused 16
-placed slots o rs Annul (At i) = if_same o rs i
-placed slots o rs Annul Nothing = Refused 16
+placed slots o rs Replace f = unless Err (replace_code rs (namings o)) (first_empty Replace slots rs)
+placed slots o rs Vary (Some i) = Ok (Vary, i)
+placed slots o rs Vary None = Err 16
+placed slots o rs Annul (Some i) = if_same o rs i
+placed slots o rs Annul None = Err 16
 
-unfoldable pub stepped : ℕ → Ordinativo → List Record → Change → Found → Ruling
-stepped slots o rs c f = unless Refused (step_code c (situation_of rs f)) (placed slots o rs c f)
+unfoldable pub stepped : ℕ → Ordinativo → List Record → Change → Option ℕ → Result (Change × ℕ) ℕ
+stepped slots o rs c f = unless Err (step_code c (situation_of rs f)) (placed slots o rs c f)
 
 -- "12 ..; 13 ..; then the step table ..; then 19 .. or 15 ..; else 0"
-abbrev pub judge_change : ℕ → ℕ → Ordinativo → List Record → Change → Ruling
-judge_change slots year o rs c = unless Refused (line_code o.lines o.total) (stepped slots o rs c (find_in rs 0 (key_for year o)))
+abbrev pub judge_change : ℕ → ℕ → Ordinativo → List Record → Change → Result (Change × ℕ) ℕ
+judge_change slots year o rs c = unless Err (line_code o.lines o.total) (stepped slots o rs c (find_in rs 0 (key_for year o)))
 
-unfoldable pub judge_order : ℕ → ℕ → Ordinativo → List Record → Ruling
+unfoldable pub judge_order : ℕ → ℕ → Ordinativo → List Record → Result (Change × ℕ) ℕ
 judge_order slots year o rs = judge_change slots year o rs (change_of o.operation)
 
 -- document 01's code
-abbrev pub order_code : Ruling → ℕ
-order_code (Accepted c i) = 0
-order_code (Refused code) = code
+abbrev pub order_code : Result (Change × ℕ) ℕ → ℕ
+order_code (Ok (c, i)) = 0
+order_code (Err code) = code
 
 -- WHAT IS WRITTEN
 
@@ -149,22 +143,22 @@ moved_to true = executed_line
 moved_to false = waiting_line
 
 -- "17; 20 (no such line)": line 0 or past the order's lines
-unfoldable pub notice_in : Bool → ℕ → ℕ → Record → Noticed
+unfoldable pub notice_in : Bool → ℕ → ℕ → Record → Result (ℕ × ℕ) ℕ
 notice_in executing line i r =
-    cond (eqb r.state annulled_state) (Unmoved 17)
+    cond (eqb r.state annulled_state) (Err 17)
     (cond (leb 1 line && leb line r.lines)
-    (unless Unmoved (line_moves executing (get_or r.states (line - 1) 0)) (Moved i (get_or r.amounts (line - 1) 0)))
-    (Unmoved 20))
+    (unless Err (line_moves executing (get_or r.states (line - 1) 0)) (Ok (i, (get_or r.amounts (line - 1) 0))))
+    (Err 20))
 
-unfoldable pub notice_at : Bool → ℕ → List Record → Found → Noticed
-notice_at executing line rs Nothing = Unmoved 16
-notice_at executing line rs (At i) = notice_in executing line i (nth rs i)
+unfoldable pub notice_at : Bool → ℕ → List Record → Option ℕ → Result (ℕ × ℕ) ℕ
+notice_at executing line rs None = Err 16
+notice_at executing line rs (Some i) = notice_in executing line i (nth rs i)
 
 -- "Order: .. 16 (no such order), 17, 20 (no such line), then for execution 21 .., for reversal 22"
-unfoldable pub judge_notice : Bool → Key → ℕ → List Record → Noticed
+unfoldable pub judge_notice : Bool → Key → ℕ → List Record → Result (ℕ × ℕ) ℕ
 judge_notice executing k line rs = notice_at executing line rs (find_in rs 0 k)
 
 -- document 01's code
-abbrev pub notice_code : Noticed → ℕ
-notice_code (Moved i cents) = 0
-notice_code (Unmoved c) = c
+abbrev pub notice_code : Result (ℕ × ℕ) ℕ → ℕ
+notice_code (Ok (i, cents)) = 0
+notice_code (Err c) = c

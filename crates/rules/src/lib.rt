@@ -10,6 +10,12 @@ ghost use Rattle.rules.specs.Inner.{row_of, column_of, meant_code, record_code, 
 use order::{Lines, Order};
 use record::Record;
 
+// What an order comes to: the change, and the slot that its record takes, or a code.
+pub type Ruling = Result<(Change, usize), u8>;
+
+// What a notice comes to: the slot of its order and the line's cents, or a code.
+pub type Noticed = Result<(usize, u64), u8>;
+
 // Where the step table's columns stand.
 #[derive(Clone, Copy)]
 pub enum Situation {
@@ -28,101 +34,43 @@ pub enum Change {
     Replace,
 }
 
-// What an order comes to: the change, and the slot that its record takes, or a code.
-#[derive(Clone, Copy)]
-pub enum Ruling {
-    Accepted(Change, usize),
-    Refused(u8),
-}
-
-// What a notice comes to: the slot of its order and the line's cents, or a code.
-#[derive(Clone, Copy)]
-pub enum Noticed {
-    Moved(usize, u64),
-    Unmoved(u8),
-}
-
 // Document 01's step table, by operation and situation.
 const STEPS: [[u8; 4]; 3] = [[0, 14, 14, 14], [16, 17, 0, 18], [16, 17, 0, 18]];
-
-// The amount at place k of n lines: nothing past them.
-fn amount_for(n: usize, k: usize, amount: u64) -> u64
-    ensures { result ≡ cond (ltb k n) amount 0 }
-{
-    if k < n { amount } else { 0 }
-}
 
 // Eight amounts. Whatever stands in a place past the lines is left out.
 fn amounts_of(ls: Lines) -> [u64; 8]
     ensures { result ≡ eight_places (amounts_of (lines_there ls)) }
 {
-    let e = ls.each;
-    let n = ls.count;
-    [
-        amount_for(n, 0, e[0].amount),
-        amount_for(n, 1, e[1].amount),
-        amount_for(n, 2, e[2].amount),
-        amount_for(n, 3, e[3].amount),
-        amount_for(n, 4, e[4].amount),
-        amount_for(n, 5, e[5].amount),
-        amount_for(n, 6, e[6].amount),
-        amount_for(n, 7, e[7].amount),
-    ]
+    std::array::from_fn(|k| if k < ls.count { ls.each[k].amount } else { 0 })
 }
 
-// The state at place k of n lines that all have one: that, or no line.
-fn state_for(n: usize, k: usize, state: u8) -> u8
-    ensures { result ≡ cond (ltb k n) state 0 }
-{
-    if k < n { state } else { 0 }
-}
-
+// Eight states: of each of n lines this one, and no line after them.
 fn all_lines(n: usize, state: u8) -> [u8; 8]
     ensures { result ≡ eight_places (replicate n state) }
 {
-    [
-        state_for(n, 0, state),
-        state_for(n, 1, state),
-        state_for(n, 2, state),
-        state_for(n, 3, state),
-        state_for(n, 4, state),
-        state_for(n, 5, state),
-        state_for(n, 6, state),
-        state_for(n, 7, state),
-    ]
+    std::array::from_fn(|k| if k < n { state } else { 0 })
 }
 
 fn was_executed(state: u8) -> bool
     ensures { result ≡ was_executed state }
 {
-    if state == record::EXECUTED {
-        return true;
-    }
-    state == record::REPLACED
+    state == record::EXECUTED || state == record::REPLACED
 }
 
 fn any_executed(states: &[u8]) -> bool
     ensures { result ≡ any_executed states.now }
 {
-    let mut i = 0;
-    while i < states.len() {
-        if was_executed(states[i]) {
-            return true;
-        }
-        i += 1;
-    }
-    false
+    states.iter().any(|&state| was_executed(state))
 }
 
 // The situation of an order that is there.
+#[tactic(auto, unfolding(crate::specs::Rules::situation_in))]
 pub fn situation_in(r: Record) -> Situation
     ensures { result ≡ situation_in r }
 {
-    let states = r.states;
     if r.state == record::ANNULLED {
-        return Situation::Annulled;
-    }
-    if any_executed(&states) {
+        Situation::Annulled
+    } else if any_executed(&r.states) {
         Situation::Executed
     } else {
         Situation::Waiting
@@ -144,52 +92,28 @@ fn row_of(c: Change) -> usize
     ensures { result ≡ row_of c }
 {
     match c {
-        Change::Insert => 0,
+        Change::Insert | Change::Replace => 0,
         Change::Vary => 1,
         Change::Annul => 2,
-        Change::Replace => 0,
     }
 }
 
 // The step table's code.
+// A code stays a number: document 01's table holds numbers (`step_code`), and so do the outcome bytes and C; an enum would say each twice.
 pub fn step_of(c: Change, s: Situation) -> u8
     ensures { result ≡ step_code c s }
 {
-    let row = row_of(c);
-    let column = column_of(s);
-    STEPS[row][column]
-}
-
-fn same_list(a: &[u64], b: &[u64]) -> bool
-    ensures { result ≡ same_list a.now b.now }
-{
-    if a.len() != b.len() {
-        return false;
-    }
-    let mut i = 0;
-    while i < a.len() {
-        if a[i] != b[i] {
-            return false;
-        }
-        i += 1;
-    }
-    true
+    STEPS[row_of(c)][column_of(s)]
 }
 
 // Whether an ANNULLO means this record: total, number of lines and every amount agree.
+#[tactic(auto, using(crate::proofs::Laws::same_is), unfolding(crate::specs::Rules::same_order))]
 pub fn same_order(o: Order, r: Record) -> bool
     ensures { result ≡ same_order (ordinativo o) r }
 {
-    let ls = o.lines;
-    if o.total != r.total {
-        return false;
-    }
-    if order::count_of(ls) != r.lines as usize {
-        return false;
-    }
-    let a = amounts_of(ls);
-    let b = r.amounts;
-    same_list(&a, &b)
+    o.total == r.total
+        && order::count_of(o.lines) == r.lines as usize
+        && amounts_of(o.lines) == r.amounts
 }
 
 // The lines' state of a new record: a replacement's are executed at once.
@@ -197,9 +121,7 @@ fn new_state(c: Change) -> u8
     ensures { result ≡ new_state c }
 {
     match c {
-        Change::Insert => record::WAITING,
-        Change::Vary => record::WAITING,
-        Change::Annul => record::WAITING,
+        Change::Insert | Change::Vary | Change::Annul => record::WAITING,
         Change::Replace => record::EXECUTED,
     }
 }
@@ -208,21 +130,17 @@ fn new_state(c: Change) -> u8
 pub fn new_record(year: u64, o: Order, c: Change) -> Record
     ensures { result ≡ record_of (key_for year (ordinativo o)) acquired_state (new_state c) (ordinativo o) }
 {
-    let ls = o.lines;
-    let date = o.date;
-    let n = order::count_of(ls);
-    let states = all_lines(n, new_state(c));
-    let amounts = amounts_of(ls);
+    let n = order::count_of(o.lines);
     Record {
         kind: o.kind,
         state: record::ACQUIRED,
         lines: n as u8,
         esercizio: year,
         number: o.number,
-        date,
+        date: o.date,
         total: o.total,
-        states,
-        amounts,
+        states: all_lines(n, new_state(c)),
+        amounts: amounts_of(o.lines),
     }
 }
 
@@ -231,10 +149,8 @@ fn meant_code(c: Change, o: Order, r: Record) -> u8
     ensures { result ≡ meant_code c (ordinativo o) r }
 {
     match c {
-        Change::Insert => 0,
-        Change::Vary => 0,
-        Change::Annul => { if same_order(o, r) { 0 } else { 19 } }
-        Change::Replace => 0,
+        Change::Annul if !same_order(o, r) => 19,
+        _ => 0,
     }
 }
 
@@ -243,10 +159,7 @@ pub fn record_code(c: Change, o: Order, r: Record) -> u8
     ensures { result ≡ record_code c (ordinativo o) r }
 {
     let code = step_of(c, situation_in(r));
-    if code != 0 {
-        return code;
-    }
-    meant_code(c, o, r)
+    if code != 0 { code } else { meant_code(c, o, r) }
 }
 
 // An order's code where none of a body's n records is its own and the lines that it names come to `named`.
@@ -255,12 +168,14 @@ pub fn absent_code(c: Change, named: u8, n: usize, slots: usize) -> u8
 {
     let code = step_of(c, Situation::Absent);
     if code != 0 {
-        return code;
+        code
+    } else if named != 0 {
+        named
+    } else if n < slots {
+        0
+    } else {
+        15
     }
-    if named != 0 {
-        return named;
-    }
-    if n < slots { 0 } else { 15 }
 }
 
 // Date, total and lines are replaced: nothing is left of the lines it had.
@@ -268,47 +183,49 @@ fn varied_by(o: Order, r: Record) -> Record
     ensures { result ≡ record_of (key_of r) r.state waiting_line (ordinativo o) }
 {
     let ls = o.lines;
-    let date = o.date;
     let n = order::count_of(ls);
-    let states = all_lines(n, record::WAITING);
-    let amounts = amounts_of(ls);
-    let mut w = r;
-    w.date = date;
-    w.total = o.total;
-    w.lines = n as u8;
-    w.states = states;
-    w.amounts = amounts;
-    w
+    Record {
+        lines: n as u8,
+        date: o.date,
+        total: o.total,
+        states: all_lines(n, record::WAITING),
+        amounts: amounts_of(ls),
+        ..r
+    }
 }
 
 // The state only.
 fn annulled_of(r: Record) -> Record
     ensures { result ≡ record_with (key_of r) annulled_state r.lines r.date r.total r.states r.amounts }
 {
-    let mut w = r;
-    w.state = record::ANNULLED;
-    w
+    Record {
+        state: record::ANNULLED,
+        ..r
+    }
 }
 
 // The record that an accepted change leaves in its slot, which held r.
+#[tactic(auto, unfolding(crate::specs::Rules::written))]
 pub fn written_by(year: u64, o: Order, r: Record, c: Change) -> Record
     ensures { result ≡ written year (ordinativo o) r c }
 {
     match c {
-        Change::Insert => new_record(year, o, c),
+        Change::Insert | Change::Replace => new_record(year, o, c),
         Change::Vary => varied_by(o, r),
         Change::Annul => annulled_of(r),
-        Change::Replace => new_record(year, o, c),
     }
 }
 
+#[tactic(auto, unfolding(crate::specs::Rules::line_moves))]
 fn line_moves(executing: bool, state: u8) -> u8
     ensures { result ≡ line_moves executing state }
 {
     if executing {
         if was_executed(state) { 21 } else { 0 }
+    } else if state == record::EXECUTED {
+        0
     } else {
-        if state == record::EXECUTED { 0 } else { 22 }
+        22
     }
 }
 
@@ -324,26 +241,22 @@ pub fn moved_to(executing: bool) -> u8
 }
 
 // What a notice comes to, of the order r at index i of its body.
+#[tactic(auto, unfolding(crate::specs::Rules::notice_in))]
 pub fn notice_in(executing: bool, line: u64, i: usize, r: Record) -> Noticed
     requires { r.lines ≤ 8 }
     ensures { result ≡ notice_in executing line i r }
 {
-    let states = r.states;
-    let amounts = r.amounts;
     if r.state == record::ANNULLED {
-        return Noticed::Unmoved(17);
+        return Err(17);
     }
-    if line < 1 {
-        return Noticed::Unmoved(20);
-    }
-    if (r.lines as u64) < line {
-        return Noticed::Unmoved(20);
+    if line < 1 || u64::from(r.lines) < line {
+        return Err(20);
     }
     let k = (line - 1) as usize;
-    let code = line_moves(executing, states[k]);
+    let code = line_moves(executing, r.states[k]);
     if code == 0 {
-        Noticed::Moved(i, amounts[k])
+        Ok((i, r.amounts[k]))
     } else {
-        Noticed::Unmoved(code)
+        Err(code)
     }
 }

@@ -1,4 +1,5 @@
 -- Laws of the code, one way through it at a time: the walk over the entries, the report, the repaired bodies, the answer.
+use Rattle.std.specs.Prelude.{Ok, Err}
 use Prim.Native.Nat.{ℕ, zero, suc, ◌+◌, ◌-◌, ◌*◌, ◌/◌, ◌≤◌, ◌<◌}
 use mathlib.Core.Bool.{Bool, true, false, cond}
 use mathlib.Core.List.{List, [], ◌∷◌, ◌++◌, append_assoc}
@@ -19,7 +20,7 @@ use Rattle.table.proofs.Kept.{number}
 use Rattle.service.specs.Service.{settled}
 use Rattle.packing.specs.Packing.{packed}
 use Rattle.keeping.specs.Keeping.{keeps_at, blanked_from, moved, each_bytes}
-use Rattle.salvage.specs.declared.Salvaged.TheVariants.{Repaired, InvalidContents, ShortReport}
+use Rattle.salvage.specs.declared.SalvageRefusal.TheVariants.{InvalidContents, ShortReport}
 use Rattle.salvage.specs.Salvage.{keeps_of, body_repaired, repaired_from, moved_in, blanked_in, blanked, report_of, salvage_of}
 use Rattle.salvage.specs.Inner.{Fits}
 use Rattle.salvage.proofs.All.{fits_of, step_contents, step_right}
@@ -49,25 +50,31 @@ pub few_bodies : (t : List ℕ) → contents_ok table2 t ≡ true → (head_size
 few_bodies t ok = let w = head table2 t (laid table2 t ok).head_ok in (w.long, w.few)
 
 -- ONE MORE BODY, of k; p, s and y are its place, its slots and its closed year as they were read
-module _ (t : List ℕ) (at k : ℕ) (h : 0 < k) where
-  more : k ≡ suc (k - 1)
+module _ (t : List ℕ) (n i : ℕ) (h : i < n) where
+  abbrev its_place : ℕ
+  its_place = entry_of i
+
+  more : n - i ≡ suc (n - (i + 1))
   more = omega arith
 
-  pub repaired_more : repaired_from t at k ≡ repaired_from (body_repaired t at) (at + entry_size) (k - 1)
+  next : its_place + entry_size ≡ entry_of (i + 1)
+  next = omega arith
+
+  pub repaired_more : repaired_from t its_place (n - i) ≡ repaired_from (body_repaired t its_place) (entry_of (i + 1)) (n - (i + 1))
   unfolding repaired_from
-  repaired_more = ap (repaired_from t at) more
+  repaired_more = ap (repaired_from t its_place) more ∙ ap (λ (p : ℕ). repaired_from (body_repaired t its_place) p (n - (i + 1))) next
 
-  module _ {p s y : ℕ} (e : p ≡ place_of t at) (f : s ≡ slots_of t at) (g : y ≡ closed_of t at) where
-    pub moved_more : moved_in t at k ≡ moved (keeps_at y t p s) ∷ moved_in t (at + entry_size) (k - 1)
+  module _ {p s y : ℕ} (e : p ≡ place_of t its_place) (f : s ≡ slots_of t its_place) (g : y ≡ closed_of t its_place) where
+    pub moved_more : moved_in t its_place (n - i) ≡ moved (keeps_at y t p s) ∷ moved_in t (entry_of (i + 1)) (n - (i + 1))
     unfolding moved_in
-    moved_more = ap (moved_in t at) more ∙ (λ i. moved (keeps_at (sym g i) t (sym e i) (sym f i)) ∷ moved_in t (at + entry_size) (k - 1))
+    moved_more = ap (moved_in t its_place) more ∙ (λ j. moved (keeps_at (sym g j) t (sym e j) (sym f j)) ∷ moved_in t (next j) (n - (i + 1)))
 
-    pub blanked_more : blanked_in t at k ≡ blanked_from t p (keeps_at y t p s) ++ blanked_in t (at + entry_size) (k - 1)
+    pub blanked_more : blanked_in t its_place (n - i) ≡ blanked_from t p (keeps_at y t p s) ++ blanked_in t (entry_of (i + 1)) (n - (i + 1))
     unfolding blanked_in
-    blanked_more = ap (blanked_in t at) more ∙ (λ i. blanked_from t (sym e i) (keeps_at (sym g i) t (sym e i) (sym f i)) ++ blanked_in t (at + entry_size) (k - 1))
+    blanked_more = ap (blanked_in t its_place) more ∙ (λ j. blanked_from t (sym e j) (keeps_at (sym g j) t (sym e j) (sym f j)) ++ blanked_in t (next j) (n - (i + 1)))
 
-    pub count_more : length (blanked_in t at k) ≡ length (blanked_from t p (keeps_at y t p s)) + length (blanked_in t (at + entry_size) (k - 1))
-    count_more = ap length blanked_more ∙ length-append (blanked_from t p (keeps_at y t p s)) (blanked_in t (at + entry_size) (k - 1))
+    pub count_more : length (blanked_in t its_place (n - i)) ≡ length (blanked_from t p (keeps_at y t p s)) + length (blanked_in t (entry_of (i + 1)) (n - (i + 1)))
+    count_more = ap length blanked_more ∙ length-append (blanked_from t p (keeps_at y t p s)) (blanked_in t (entry_of (i + 1)) (n - (i + 1)))
 
 module _ (t : List ℕ) (at k : ℕ) (h : k ≤ 0) where
   none : k ≡ 0
@@ -148,17 +155,17 @@ packed_by t t' at e f h g = g ∙ (λ i. packed t (e i) (keeps_at (h i) t (e i) 
 
 -- THE ANSWER; n and c as they were counted, m the report's length
 module _ (t : List ℕ) (m : ℕ) where
-  pub salvage_not : contents_ok table2 t ≡ false → InvalidContents ≡ salvage_of t m
+  pub salvage_not : contents_ok table2 t ≡ false → Err InvalidContents ≡ salvage_of t m
   unfolding salvage_of
-  salvage_not h = ap (λ (b : Bool). cond b (cond (leb (length (report_of t)) m) (Repaired (length (blanked t))) ShortReport) InvalidContents) (sym h)
+  salvage_not h = ap (λ (b : Bool). cond b (cond (leb (length (report_of t)) m) (Ok (length (blanked t))) (Err ShortReport)) (Err InvalidContents)) (sym h)
 
   module _ (g : contents_ok table2 t ≡ true) {n c : ℕ} (e : n ≡ bodies t) (f : c ≡ length (blanked t)) where
-    fit_is : {b : Bool} → leb (length (report_of t)) m ≡ b → cond b (Repaired (length (blanked t))) ShortReport ≡ salvage_of t m
+    fit_is : {b : Bool} → leb (length (report_of t)) m ≡ b → cond b (Ok (length (blanked t))) (Err ShortReport) ≡ salvage_of t m
     unfolding salvage_of
-    fit_is q = λ i. cond (sym g i) (cond (sym q i) (Repaired (length (blanked t))) ShortReport) InvalidContents
+    fit_is q = λ i. cond (sym g i) (cond (sym q i) (Ok (length (blanked t))) (Err ShortReport)) (Err InvalidContents)
 
-    pub salvage_short : m < 2 * n + 4 * c → ShortReport ≡ salvage_of t m
+    pub salvage_short : m < 2 * n + 4 * c → Err ShortReport ≡ salvage_of t m
     salvage_short h = fit_is (lt-leb (length (report_of t)) m (omega (arith, report_length t)))
 
-    pub salvage_done : 2 * n + 4 * c ≤ m → Repaired c ≡ salvage_of t m
-    salvage_done h = ap Repaired f ∙ fit_is (le-leb (length (report_of t)) m (omega (arith, report_length t)))
+    pub salvage_done : 2 * n + 4 * c ≤ m → Ok c ≡ salvage_of t m
+    salvage_done h = ap Ok f ∙ fit_is (le-leb (length (report_of t)) m (omega (arith, report_length t)))

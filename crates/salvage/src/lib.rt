@@ -12,17 +12,18 @@ ghost use Rattle.keeping.specs.Keeping.{each_bytes};
 ghost use Rattle.salvage.specs.Salvage.{body_repaired, repaired, moved_in, blanked, salvage_reply, SalvagePromise};
 ghost use Rattle.salvage.specs.Inner.{Fits};
 
-use body::Sums;
-
-// What salvage answers: repaired, with the number of slots blanked, or why not.
+// Why a table is not repaired.
 #[derive(Clone, Copy)]
-pub enum Salvaged {
-    Repaired(usize),
+pub enum SalvageRefusal {
     InvalidContents,
     ShortReport,
 }
 
+// What a repair answers: how many slots were blanked, or why nothing was done.
+pub type Salvaged = Result<usize, SalvageRefusal>;
+
 // An answer in document 02's numbers.
+// Code and values stand side by side, since C takes them one by one (`hondivole_salvage`).
 #[derive(Clone, Copy)]
 pub struct SalvageReply {
     pub code: u64,
@@ -34,16 +35,13 @@ fn count_blanked(t: &[u8], n: usize) -> usize
     requires { (contents_ok table2 t.now ≡ true) × (n ≡ bodies t.now) }
     ensures { (result ≡ length (blanked t.now)) × (result ≤ max_slots * n) }
 {
-    let mut at = table::HEAD;
-    let mut left = n;
     let mut count = 0;
-    while 0 < left {
+    for i in 0..n {
+        let at = table::HEAD + entries::ENTRY * i;
         let base = entries::place_of(t, at);
         let slots = entries::slots_of(t, at);
         let closed = entries::closed_of(t, at);
         count += mending::blanked_in(t, base, slots, closed);
-        at += entries::ENTRY;
-        left -= 1;
     }
     count
 }
@@ -53,17 +51,12 @@ fn put_moved(r: &mut [u8], t: &[u8], n: usize)
     requires { (contents_ok table2 t.now ≡ true) × (n ≡ bodies t.now) × (2 * n ≤ length r.old) }
     ensures { r.new ≡ put r.old 0 (each_bytes bytes2 (moved_in t.now head_size n)) }
 {
-    let mut at = table::HEAD;
-    let mut left = n;
-    let mut to = 0;
-    while 0 < left {
+    for i in 0..n {
+        let at = table::HEAD + entries::ENTRY * i;
         let base = entries::place_of(t, at);
         let slots = entries::slots_of(t, at);
         let closed = entries::closed_of(t, at);
-        words::write2(r, to, mending::moved_in(t, base, slots, closed) as u64);
-        to += 2;
-        at += entries::ENTRY;
-        left -= 1;
+        words::write2(r, 2 * i, mending::moved_in(t, base, slots, closed) as u64);
     }
 }
 
@@ -72,16 +65,13 @@ fn put_blanked(r: &mut [u8], t: &[u8], n: usize)
     requires { (contents_ok table2 t.now ≡ true) × (n ≡ bodies t.now) × (2 * n + 4 * length (blanked t.now) ≤ length r.old) }
     ensures { r.new ≡ put r.old (2 * n) (each_bytes bytes4 (blanked t.now)) }
 {
-    let mut at = table::HEAD;
-    let mut left = n;
     let mut to = 2 * n;
-    while 0 < left {
+    for i in 0..n {
+        let at = table::HEAD + entries::ENTRY * i;
         let base = entries::place_of(t, at);
         let slots = entries::slots_of(t, at);
         let closed = entries::closed_of(t, at);
         to = mending::places_in(r, to, t, base, slots, closed);
-        at += entries::ENTRY;
-        left -= 1;
     }
 }
 
@@ -92,10 +82,9 @@ fn settle_at(t: &mut [u8], at: usize)
 {
     let base = entries::place_of(t, at);
     let n = entries::slots_of(t, at);
-    let Sums::Right(paid, collected) = body::judge(t, base, n) else {
-        return;
-    };
-    entries::settle(t, at, paid, collected);
+    if let Some((paid, collected)) = body::judge(t, base, n) {
+        entries::settle(t, at, paid, collected);
+    }
 }
 
 // Repairs the body whose entry is at a place.
@@ -115,12 +104,9 @@ fn repair_all(t: &mut [u8], n: usize)
     requires { (contents_ok table2 t.old ≡ true) × (n ≡ bodies t.old) }
     ensures { t.new ≡ repaired t.old }
 {
-    let mut at = table::HEAD;
-    let mut left = n;
-    while 0 < left {
+    for i in 0..n {
+        let at = table::HEAD + entries::ENTRY * i;
         repair_at(t, at);
-        at += entries::ENTRY;
-        left -= 1;
     }
 }
 
@@ -129,17 +115,17 @@ pub fn salvage(t: &mut [u8], report: &mut [u8]) -> Salvaged
     ensures { SalvagePromise t.old report.old result t.new report.new }
 {
     if !table::contents_ok(t, table::table_2()) {
-        return Salvaged::InvalidContents;
+        return Err(SalvageRefusal::InvalidContents);
     }
     let n = table::body_count(t);
     let count = count_blanked(t, n);
     if report.len() < 2 * n + 4 * count {
-        return Salvaged::ShortReport;
+        return Err(SalvageRefusal::ShortReport);
     }
     put_moved(report, t, n);
     put_blanked(report, t, n);
     repair_all(t, n);
-    Salvaged::Repaired(count)
+    Ok(count)
 }
 
 // Document 02's numbers of an answer.
@@ -147,15 +133,15 @@ pub fn reply_of(a: Salvaged) -> SalvageReply
     ensures { (result.code ≡ (salvage_reply a).code) × (result.blanked ≡ (salvage_reply a).blanked) }
 {
     match a {
-        Salvaged::Repaired(count) => SalvageReply {
+        Ok(count) => SalvageReply {
             code: 0,
             blanked: count as u64,
         },
-        Salvaged::InvalidContents => SalvageReply {
+        Err(SalvageRefusal::InvalidContents) => SalvageReply {
             code: 34,
             blanked: 0,
         },
-        Salvaged::ShortReport => SalvageReply {
+        Err(SalvageRefusal::ShortReport) => SalvageReply {
             code: 35,
             blanked: 0,
         },

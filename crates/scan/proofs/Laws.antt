@@ -1,4 +1,5 @@
 -- Laws of the bytes and characters of a flow, which the crates above cite instead of the definitions' text.
+use Rattle.std.specs.Prelude.{Result, Ok, Err}
 use mathlib.Core.Path.{◌≡◌, refl, sym, ◌∙◌}
 use mathlib.Core.List.{List, [], ◌∷◌}
 use mathlib.Core.Option.{Option, none, some}
@@ -7,13 +8,16 @@ use Prim.Native.Nat.{ℕ, zero, suc, ◌+◌, ◌-◌, ◌*◌, ◌≤◌, ◌<�
 use native.Mathlib.Nat.{add-zero}
 use native.Mathlib.Numerals.{add-one}
 use native.Mathlib.Omega.{arith}
-use lib.ListN.{length, get_or, drop, drop_of_length-le, length-drop, get_or-eq_default}
+use Rattle.std.specs.List.{prefix_len, take_while, slice_range, starts_with as begins}
+use Rattle.std.proofs.lemmas.Slice.{between_to_end}
+use Rattle.std.specs.Cmp.Lexicographic.{pointwise}
+use Rattle.std.proofs.lemmas.List.Folds.{length-prefix_len}
+use Rattle.std.proofs.lemmas.Bool.Decides.{nat_tests}
+use lib.ListN.{length, get_or, take, drop, drop_of_length-le, length-drop, get_or-eq_default}
 use lib.Seq.{drop-cons}
-use lib.Dec.{leb, eqb, eqb-zero-suc}
-use borrow.Author.Tests.{eq-eqb, ne_eqb, leb-true, leb-false, le-leb, lt-leb}
-use Rattle.scan.specs.declared.Walk.{Walk}
-use Rattle.scan.specs.declared.Walk.TheVariants.{Past, Broken}
-use Rattle.scan.specs.Bytes.{bytes, byte_at, between, run, run_end, starts_with, has_at}
+use lib.Dec.{leb, eqb, eqb-zero-suc, eqb-suc-zero, eqb-suc-suc}
+use borrow.Author.Tests.{eq-eqb, leb-true, leb-false, le-leb, lt-leb}
+use Rattle.scan.specs.Bytes.{byte_at, between, run, run_end, starts_with, has_at, text_is}
 use Rattle.scan.specs.Characters.{is_char, sized, is_tail, char_size, char_size_at, past_or, char_at}
 use Rattle.scan.specs.References.{Reference, references, which_at, past_ref, ref_at}
 
@@ -31,26 +35,55 @@ module _ (p : ℕ → Bool) (s : List ℕ) (i : ℕ) where
   unfolding run_end run
   run_end_lem h = rw (drop_of_length-le s h) (add-zero i)
 
+-- a run counted by std's `take_while`
+run_counted : (p : ℕ → Bool) (t : List ℕ) → run p t ≡ prefix_len p t
+unfolding run
+run_counted p [] = refl
+run_counted p (b ∷ t) = let e : suc (run p t) ≡ 1 + prefix_len p t = omega (arith, run_counted p t) in rw e refl
+
+pub run_end_is : (p : ℕ → Bool) (s : List ℕ) (at n : ℕ) → n ≡ length (take_while p (slice_range s at (length s))) → at + n ≡ run_end p s at
+unfolding run_end
+run_end_is p s at n e =
+    let h : n ≡ length (take_while p (drop at s)) = (rw (between_to_end s at (length s) (omega arith)) at e) in
+    omega (arith, run_counted p (drop at s), length-prefix_len p (drop at s))
+
+-- bytes compared by std's `starts_with` and `==`
+eqb_flip : (a b : ℕ) → eqb a b ≡ eqb b a
+eqb_flip a b = grind (arith, nat_tests)
+
+starts_is : (x t : List ℕ) → pointwise eqb x (take (length x) t) ≡ starts_with x t
+unfolding starts_with
+starts_is [] t = refl
+starts_is (a ∷ x) [] = refl
+starts_is (a ∷ x) (b ∷ t) = rw (eqb_flip a b, starts_is x t) refl
+
+pub has_is : (x s : List ℕ) (at : ℕ) → begins eqb (slice_range s at (length s)) x ≡ has_at x s at
+unfolding has_at
+has_is x s at = rw (between_to_end s at (length s) (omega arith)) (starts_is x (drop at s))
+
+pub text_is_eq : (x t : List ℕ) → pointwise eqb t x ≡ text_is x t
+unfolding text_is has_at starts_with
+text_is_eq [] [] = refl
+text_is_eq [] (b ∷ t) = rw (eqb-suc-zero (length t)) refl
+text_is_eq (a ∷ x) [] = rw (eqb-zero-suc (length x)) refl
+text_is_eq (a ∷ x) (b ∷ t) = go (eqb b a) (text_is_eq x t)
+  where
+    go : (k : Bool) → pointwise eqb t x ≡ (eqb (length t) (length x) && starts_with x t) → (k && pointwise eqb t x) ≡ (eqb (suc (length t)) (suc (length x)) && (k && starts_with x t))
+    go true h = rw (eqb-suc-suc (length t) (length x)) h
+    go false h = sym (and-false (eqb (suc (length t)) (suc (length x))))
+
 -- x at a position, from its byte i on: the test of one byte more, and its ends
 module _ (x s : List ℕ) (at i : ℕ) where
   pub has_more : i < length x → at + i < length s → get_or s (at + i) 0 ≡ get_or x i 0 → has_at (drop i x) s (at + i) ≡ has_at (drop (i + 1) x) s (at + (i + 1))
   unfolding has_at starts_with
   has_more h k e = let q : at + suc i ≡ suc (at + i) = omega arith in rw (add-one, q, drop-cons x i 0 h, drop-cons s (at + i) 0 k, eq-eqb _ _ e)
 
-  pub has_not : i < length x → at + i < length s → (get_or s (at + i) 0 ≡ get_or x i 0 → ⊥) → has_at (drop i x) s (at + i) ≡ false
-  unfolding has_at starts_with
-  has_not h k e = rw (drop-cons x i 0 h, drop-cons s (at + i) 0 k, ne_eqb _ _ e)
-
-  pub has_short : i < length x → length s ≤ at + i → has_at (drop i x) s (at + i) ≡ false
-  unfolding has_at starts_with
-  has_short h k = rw (drop-cons x i 0 h, drop_of_length-le s k)
-
   pub has_all : length x ≤ i → has_at (drop i x) s (at + i) ≡ true
   unfolding has_at starts_with
   has_all h = rw (drop_of_length-le x h)
 
 -- INVERSIONS: what an answer says of the tests that led to it
-pub never : {p q : ℕ} {A : Type 0} → Broken p ≡ Past q → A
+pub never : {p q : ℕ} {A : Type 0} → ◌≡◌ {A = Result ℕ ℕ} (Err p) (Ok q) → A
 never e = let z : ◌≡◌ {A = ℕ} 0 1 = cc in absurd (omega arith)
 
 pub both : (a b : Bool) → (a && b) ≡ true → (a ≡ true) × (b ≡ true)
@@ -69,7 +102,7 @@ pub choose : {W A : Type 0} (b : Bool) {x y n : W} → (b ≡ true → x ≡ n �
 choose true f g e = f refl e
 choose false f g e = g e
 
-pub cond_past : (b : Bool) (x : Walk) (p : ℕ) {q : ℕ} → cond b x (Broken p) ≡ Past q → (b ≡ true) × (x ≡ Past q)
+pub cond_past : (b : Bool) (x : Result ℕ ℕ) (p : ℕ) {q : ℕ} → cond b x (Err p) ≡ Ok q → (b ≡ true) × (x ≡ Ok q)
 cond_past true x p e = (refl, e)
 cond_past false x p e = never e
 
@@ -155,43 +188,19 @@ module _ {a b c d x y z w : ℕ} (ex : x ≡ a) (ey : y ≡ b) (ez : z ≡ c) (e
   unfolding char_size
   size_one h = rw (← ex, le-leb x 127 h)
 
-  module _ (h : 127 < x) where
-    pub size_tail : x < 192 → char_size a b c d ≡ 0
+  module _ (h : 127 < x) (k : 192 ≤ x) (t : is_tail y ≡ true) where
+    pub size_two : x ≤ 223 → char_size a b c d ≡ sized 2 128 ((x - 192) * 64 + (y - 128))
     unfolding char_size
-    size_tail k = rw (← ex, lt-leb x 127 h, lt-leb 192 x k, lt-leb 224 x (omega arith), lt-leb 240 x (omega arith))
+    size_two l = rw (← ex, ← ey, lt-leb x 127 h, le-leb 192 x k, le-leb x 223 l, t)
 
-    pub size_no_second : is_tail y ≡ false → char_size a b c d ≡ 0
-    unfolding char_size
-    size_no_second t = rw (← ex, ← ey, lt-leb x 127 h, t, and-false, and-false, and-false)
-
-    module _ (k : 192 ≤ x) (t : is_tail y ≡ true) where
-      pub size_two : x ≤ 223 → char_size a b c d ≡ sized 2 128 ((x - 192) * 64 + (y - 128))
+    module _ (l : 223 < x) (u : is_tail z ≡ true) where
+      pub size_three : x ≤ 239 → char_size a b c d ≡ sized 3 2048 ((x - 224) * 4096 + (y - 128) * 64 + (z - 128))
       unfolding char_size
-      size_two l = rw (← ex, ← ey, lt-leb x 127 h, le-leb 192 x k, le-leb x 223 l, t)
+      size_three m = rw (← ex, ← ey, ← ez, lt-leb x 127 h, le-leb 192 x k, lt-leb x 223 l, t, u, le-leb 224 x (omega arith), le-leb x 239 m)
 
-      module _ (l : 223 < x) where
-        pub size_no_third : is_tail z ≡ false → char_size a b c d ≡ 0
-        unfolding char_size
-        size_no_third u = rw (← ex, ← ey, ← ez, lt-leb x 127 h, le-leb 192 x k, lt-leb x 223 l, t, u, and-false, and-false)
-
-        module _ (u : is_tail z ≡ true) where
-          pub size_three : x ≤ 239 → char_size a b c d ≡ sized 3 2048 ((x - 224) * 4096 + (y - 128) * 64 + (z - 128))
-          unfolding char_size
-          size_three m = rw (← ex, ← ey, ← ez, lt-leb x 127 h, le-leb 192 x k, lt-leb x 223 l, t, u, le-leb 224 x (omega arith), le-leb x 239 m)
-
-          module _ (m : 239 < x) where
-            pub size_no_fourth : is_tail w ≡ false → char_size a b c d ≡ 0
-            unfolding char_size
-            size_no_fourth v = rw (← ex, ← ey, ← ez, ← ew, lt-leb x 127 h, le-leb 192 x k, lt-leb x 223 l, t, u, le-leb 224 x (omega arith), lt-leb x 239 m, v, and-false)
-
-            module _ (v : is_tail w ≡ true) where
-              pub size_four : x ≤ 247 → char_size a b c d ≡ sized 4 65536 ((x - 240) * 262144 + (y - 128) * 4096 + (z - 128) * 64 + (w - 128))
-              unfolding char_size
-              size_four n = rw (← ex, ← ey, ← ez, ← ew, lt-leb x 127 h, le-leb 192 x k, lt-leb x 223 l, t, u, le-leb 224 x (omega arith), lt-leb x 239 m, v, le-leb 240 x (omega arith), le-leb x 247 n)
-
-              pub size_none : 247 < x → char_size a b c d ≡ 0
-              unfolding char_size
-              size_none n = rw (← ex, ← ey, ← ez, ← ew, lt-leb x 127 h, le-leb 192 x k, lt-leb x 223 l, t, u, le-leb 224 x (omega arith), lt-leb x 239 m, v, le-leb 240 x (omega arith), lt-leb x 247 n)
+      pub size_four : 239 < x → is_tail w ≡ true → x ≤ 247 → char_size a b c d ≡ sized 4 65536 ((x - 240) * 262144 + (y - 128) * 4096 + (z - 128) * 64 + (w - 128))
+      unfolding char_size
+      size_four m v n = rw (← ex, ← ey, ← ez, ← ew, lt-leb x 127 h, le-leb 192 x k, lt-leb x 223 l, t, u, le-leb 224 x (omega arith), lt-leb x 239 m, v, le-leb 240 x (omega arith), le-leb x 247 n)
 
 -- what has a size is a character
 pub sized_is : (n least v m : ℕ) → sized n least v ≡ suc m → (n ≡ suc m) × (is_char v ≡ true)
@@ -252,25 +261,25 @@ size_within s p m =
     go false false c d false false true eb ec ed h = absurd (omega arith)
     go false false c d false false false eb ec ed h = absurd (omega arith)
 
-pub char_past : (s : List ℕ) (p q : ℕ) → char_at s p ≡ Past q → Advance s p q
+pub char_past : (s : List ℕ) (p q : ℕ) → char_at s p ≡ Ok q → Advance s p q
 unfolding char_at past_or
 char_past s p q = go (char_size_at s p) refl
   where
-    go : (n : ℕ) → char_size_at s p ≡ n → past_or n p ≡ Past q → Advance s p q
+    go : (n : ℕ) → char_size_at s p ≡ n → past_or n p ≡ Ok q → Advance s p q
     go zero f e = never e
     go (suc m) f e = let w = size_within s p m f in let z : p + suc m ≡ q = cc in record { on = omega arith; within = omega arith }
 
 -- char_at, a way out of the code at a time
 module _ (s : List ℕ) (p n : ℕ) (f : n ≡ char_size_at s p) where
-  pub char_none : n ≡ 0 → char_at s p ≡ Broken p
+  pub char_none : n ≡ 0 → char_at s p ≡ Err p
   unfolding char_at past_or
   char_none e = rw (← f, e)
 
-  pub char_some : (n ≡ 0 → ⊥) → char_at s p ≡ Past (p + n)
+  pub char_some : (n ≡ 0 → ⊥) → char_at s p ≡ Ok (p + n)
   unfolding char_at past_or
   char_some e = rw (← f) (go n e)
     where
-      go : (k : ℕ) → (k ≡ 0 → ⊥) → past_or k p ≡ Past (p + k)
+      go : (k : ℕ) → (k ≡ 0 → ⊥) → past_or k p ≡ Ok (p + k)
       go zero h = absurd (h refl)
       go (suc k) h = refl
 
@@ -282,28 +291,28 @@ module _ (s : List ℕ) (p n : ℕ) (f : n ≡ char_size_at s p) where
       go (suc k) g h = size_within s p k (sym g)
 
 -- what char_at says of the size
-pub char_sized : (s : List ℕ) (p q : ℕ) → char_at s p ≡ Past q → p + char_size_at s p ≡ q
+pub char_sized : (s : List ℕ) (p q : ℕ) → char_at s p ≡ Ok q → p + char_size_at s p ≡ q
 unfolding char_at past_or
 char_sized s p q = go (char_size_at s p)
   where
-    go : (n : ℕ) → past_or n p ≡ Past q → p + n ≡ q
+    go : (n : ℕ) → past_or n p ≡ Ok q → p + n ≡ q
     go zero e = never e
     go (suc n) e = cc
 
-pub char_unsized : (s : List ℕ) (p q : ℕ) → char_at s p ≡ Broken q → char_size_at s p ≡ 0
+pub char_unsized : (s : List ℕ) (p q : ℕ) → char_at s p ≡ Err q → char_size_at s p ≡ 0
 unfolding char_at past_or
 char_unsized s p q = go (char_size_at s p)
   where
-    go : (n : ℕ) → past_or n p ≡ Broken q → n ≡ 0
+    go : (n : ℕ) → past_or n p ≡ Err q → n ≡ 0
     go zero e = refl
     go (suc n) e = never (sym e)
 
 -- past the end stands no character
-pub char_end : (s : List ℕ) (p : ℕ) → length s ≤ p → char_at s p ≡ Broken p
+pub char_end : (s : List ℕ) (p : ℕ) → length s ≤ p → char_at s p ≡ Err p
 unfolding char_at past_or
 char_end s p h = go (char_size_at s p) refl
   where
-    go : (n : ℕ) → char_size_at s p ≡ n → past_or n p ≡ Broken p
+    go : (n : ℕ) → char_size_at s p ≡ n → past_or n p ≡ Err p
     go zero e = refl
     go (suc m) e = let w = size_within s p m e in absurd (omega arith)
 
@@ -322,60 +331,30 @@ pub record Referred (P : Reference → Type 0) (rs : List Reference) (s : List �
   pub past : p + length which.written ≡ q
 
 module _ (P : Reference → Type 0) (s : List ℕ) (p q : ℕ) where
-  which_is : (rs : List Reference) → Each P rs → past_ref (which_at rs s p) p ≡ Past q → Referred P rs s p q
+  which_is : (rs : List Reference) → Each P rs → past_ref (which_at rs s p) p ≡ Ok q → Referred P rs s p q
   unfolding which_at
   which_is [] h e = never e
   which_is (r ∷ rs) h e = go (has_at r.written s p) refl (which_is rs h.1) e
     where
-      go : (b : Bool) → has_at r.written s p ≡ b → (past_ref (which_at rs s p) p ≡ Past q → Referred P rs s p q) → past_ref (cond b (some r) (which_at rs s p)) p ≡ Past q → Referred P (r ∷ rs) s p q
+      go : (b : Bool) → has_at r.written s p ≡ b → (past_ref (which_at rs s p) p ≡ Ok q → Referred P rs s p q) → past_ref (cond b (some r) (which_at rs s p)) p ≡ Ok q → Referred P (r ∷ rs) s p q
       go true f more k = record { which = r; is = rw f; holds = h.0; there = f; past = cc }
       go false f more k = let m = more k in record { which = m.which; is = rw f m.is; holds = m.holds; there = m.there; past = m.past }
 
-  pub ref_is : Each P references → ref_at s p ≡ Past q → Referred P references s p q
+  pub ref_is : Each P references → ref_at s p ≡ Ok q → Referred P references s p q
   unfolding ref_at
   ref_is = which_is references
 
 -- where none is passed over none stands
-pub ref_is_none : (s : List ℕ) (p q : ℕ) → ref_at s p ≡ Broken q → which_at references s p ≡ none
+pub ref_is_none : (s : List ℕ) (p q : ℕ) → ref_at s p ≡ Err q → which_at references s p ≡ none
 unfolding ref_at
 ref_is_none s p q = go (which_at references s p)
   where
-    go : (o : Option Reference) → past_ref o p ≡ Broken q → o ≡ none
+    go : (o : Option Reference) → past_ref o p ≡ Err q → o ≡ none
     go none e = refl
     go (some r) e = never (sym e)
 
-pub ref_past : (s : List ℕ) (p q : ℕ) → ref_at s p ≡ Past q → Advance s p q
+pub ref_past : (s : List ℕ) (p q : ℕ) → ref_at s p ≡ Ok q → Advance s p q
 ref_past s p q e =
     let r = ref_is (λ (r : Reference). (n : ℕ) × (length r.written ≡ suc n)) s p q ((4, refl), ((3, refl), ((3, refl), ((5, refl), ((5, refl), tt))))) e in
     let g = has_past r.which.written s p r.holds.0 r.holds.1 r.there in
     record { on = omega arith; within = omega arith }
-
--- ref_at, a way out of the code at a time
-module _ (s : List ℕ) (at : ℕ) where
-  pub ref_amp : has_at (bytes "&amp;") s at ≡ true → ref_at s at ≡ Past (at + 5)
-  unfolding ref_at which_at
-  ref_amp h = rw h
-
-  module _ (a : has_at (bytes "&amp;") s at ≡ false) where
-    pub ref_lt : has_at (bytes "&lt;") s at ≡ true → ref_at s at ≡ Past (at + 4)
-    unfolding ref_at which_at
-    ref_lt h = rw (a, h)
-
-    module _ (b : has_at (bytes "&lt;") s at ≡ false) where
-      pub ref_gt : has_at (bytes "&gt;") s at ≡ true → ref_at s at ≡ Past (at + 4)
-      unfolding ref_at which_at
-      ref_gt h = rw (a, b, h)
-
-      module _ (c : has_at (bytes "&gt;") s at ≡ false) where
-        pub ref_quot : has_at (bytes "&quot;") s at ≡ true → ref_at s at ≡ Past (at + 6)
-        unfolding ref_at which_at
-        ref_quot h = rw (a, b, c, h)
-
-        module _ (d : has_at (bytes "&quot;") s at ≡ false) where
-          pub ref_apos : has_at (bytes "&apos;") s at ≡ true → ref_at s at ≡ Past (at + 6)
-          unfolding ref_at which_at
-          ref_apos h = rw (a, b, c, d, h)
-
-          pub ref_none : has_at (bytes "&apos;") s at ≡ false → ref_at s at ≡ Broken at
-          unfolding ref_at which_at
-          ref_none h = rw (a, b, c, d, h)

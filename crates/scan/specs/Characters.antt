@@ -1,8 +1,6 @@
 -- One character in UTF-8 (RFC 3629) of those that XML 1.0 allows (its production 2).
-use Rattle.std.specs.Prelude.{ℕ, zero, suc, ◌+◌, ◌-◌, ◌*◌, List, Bool, cond, ◌&&◌, ◌||◌, leb, eqb}
+use Rattle.std.specs.Prelude.{ℕ, zero, suc, ◌+◌, ◌-◌, ◌*◌, List, Bool, cond, ◌&&◌, ◌||◌, leb, eqb, Result, Ok, Err}
 use Rattle.scan.specs.Bytes.{byte_at, between}
-use Rattle.scan.specs.declared.Walk.{Walk}
-use Rattle.scan.specs.declared.Walk.TheVariants.{Past, Broken}
 
 -- the characters of XML 1.0: 9, A, D, 20 to D7FF, E000 to FFFD, 10000 to 10FFFF
 unfoldable pub is_char : ℕ → Bool
@@ -33,10 +31,10 @@ abbrev pub char_size_at : List ℕ → ℕ → ℕ
 char_size_at s at = char_size (byte_at s at) (byte_at s (at + 1)) (byte_at s (at + 2)) (byte_at s (at + 3))
 
 -- past n bytes, or broken where n is 0
-unfoldable pub past_or : ℕ → ℕ → Walk
-past_or zero at = Broken at
-past_or (suc n) at = Past (at + suc n)
+unfoldable pub past_or : ℕ → ℕ → Result ℕ ℕ
+past_or zero at = Err at
+past_or (suc n) at = Ok (at + suc n)
 
 -- past the character at a position
-unfoldable pub char_at : List ℕ → ℕ → Walk
+unfoldable pub char_at : List ℕ → ℕ → Result ℕ ℕ
 char_at s at = past_or (char_size_at s at) at

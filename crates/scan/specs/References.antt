@@ -1,9 +1,7 @@
 -- The five references of a text, and the character that each stands for (XML 1.0, 4.6).
-use Rattle.std.specs.Prelude.{ℕ, ◌+◌, List, [], ◌∷◌, cond, length}
+use Rattle.std.specs.Prelude.{ℕ, ◌+◌, List, [], ◌∷◌, cond, length, Result, Ok, Err}
 use Rattle.std.proofs.Math.Option.{Option, none, some}
 use Rattle.scan.specs.Bytes.{bytes, byte, has_at}
-use Rattle.scan.specs.declared.Walk.{Walk}
-use Rattle.scan.specs.declared.Walk.TheVariants.{Past, Broken}
 
 pub record Reference : Type 0 where
   pub written : List ℕ
@@ -25,10 +23,10 @@ which_at [] s at = none
 which_at (r ∷ rs) s at = cond (has_at r.written s at) (some r) (which_at rs s at)
 
 -- past the one that stands there
-abbrev pub past_ref : Option Reference → ℕ → Walk
-past_ref none at = Broken at
-past_ref (some r) at = Past (at + length r.written)
+abbrev pub past_ref : Option Reference → ℕ → Result ℕ ℕ
+past_ref none at = Err at
+past_ref (some r) at = Ok (at + length r.written)
 
 -- past the reference at a position
-unfoldable pub ref_at : List ℕ → ℕ → Walk
+unfoldable pub ref_at : List ℕ → ℕ → Result ℕ ℕ
 ref_at s at = past_ref (which_at references s at) at

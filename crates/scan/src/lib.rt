@@ -8,84 +8,53 @@ ghost use Rattle.scan.specs.Characters.{is_char, sized, is_tail, char_size, char
 ghost use Rattle.scan.specs.References.{ref_at};
 
 // Where a reader stands when it is done, or the place at which what it reads breaks.
-#[derive(Clone, Copy)]
-pub enum Walk {
-    Past(usize),
-    Broken(usize),
-}
+pub type Walk = Result<usize, usize>;
 
 // The byte at a position, 0 past the end.
 pub fn byte(s: &[u8], at: usize) -> u8
     ensures { result ≡ byte_at s.now at }
 {
-    if at < s.len() { s[at] } else { 0 }
+    s.get(at).copied().unwrap_or(0)
 }
 
+#[tactic(auto, unfolding(crate::specs::Bytes::is_letter))]
 pub fn is_letter(b: u8) -> bool
     ensures { result ≡ is_letter b }
 {
-    if b < b'A' {
-        return false;
-    }
-    if b <= b'Z' {
-        return true;
-    }
-    if b < b'a' {
-        return false;
-    }
-    b <= b'z'
+    matches!(b, b'A'..=b'Z' | b'a'..=b'z')
 }
 
+#[tactic(auto, unfolding(crate::specs::Bytes::is_digit))]
 pub fn is_digit(b: u8) -> bool
     ensures { result ≡ is_digit b }
 {
-    if b < b'0' {
-        return false;
-    }
-    b <= b'9'
+    matches!(b, b'0'..=b'9')
 }
 
+#[tactic(auto, unfolding(crate::specs::Bytes::is_alnum))]
 pub fn is_alnum(b: u8) -> bool
     ensures { result ≡ is_alnum b }
 {
-    if is_letter(b) {
-        return true;
-    }
-    is_digit(b)
+    is_letter(b) || is_digit(b)
 }
 
-// Small letters come first: most bytes of a tag are.
+// Small letters come first, by a test of their own: most bytes of a tag are, and one test of all four kinds is slower.
+#[tactic(auto, unfolding(crate::specs::Bytes::is_name_byte, crate::specs::Bytes::is_letter, crate::specs::Bytes::is_digit))]
 pub fn is_name_byte(b: u8) -> bool
     ensures { result ≡ is_name_byte b }
 {
     if b'a' <= b {
-        return b <= b'z';
+        b <= b'z'
+    } else {
+        matches!(b, b'A'..=b'Z' | b'0'..=b'9' | b'_')
     }
-    if b == b'_' {
-        return true;
-    }
-    if b'A' <= b {
-        return b <= b'Z';
-    }
-    if b < b'0' {
-        return false;
-    }
-    b <= b'9'
 }
 
+#[tactic(auto, unfolding(crate::specs::Bytes::is_white))]
 pub fn is_white(b: u8) -> bool
     ensures { result ≡ is_white b }
 {
-    if b == b' ' {
-        return true;
-    }
-    if b == b'\t' {
-        return true;
-    }
-    if b == b'\n' {
-        return true;
-    }
-    b == b'\r'
+    matches!(b, b' ' | b'\t' | b'\n' | b'\r')
 }
 
 // The end of the run of name bytes that starts at a position.
@@ -93,28 +62,14 @@ pub fn name_run(s: &[u8], at: usize) -> usize
     requires { at ≤ length s.now }
     ensures { result ≡ run_end is_name_byte s.now at }
 {
-    let mut i = at;
-    while i < s.len() {
-        if !is_name_byte(s[i]) {
-            return i;
-        }
-        i += 1;
-    }
-    i
+    at + s[at..].iter().take_while(|&&b| is_name_byte(b)).count()
 }
 
 pub fn white_end(s: &[u8], at: usize) -> usize
     requires { at ≤ length s.now }
     ensures { result ≡ run_end is_white s.now at }
 {
-    let mut i = at;
-    while i < s.len() {
-        if !is_white(s[i]) {
-            return i;
-        }
-        i += 1;
-    }
-    i
+    at + s[at..].iter().take_while(|&&b| is_white(b)).count()
 }
 
 // Whether the bytes x stand at a position.
@@ -122,168 +77,91 @@ pub fn has(s: &[u8], at: usize, x: &[u8]) -> bool
     requires { at ≤ length s.now }
     ensures { result ≡ has_at x.now s.now at }
 {
-    if s.len() - at < x.len() {
-        return false;
-    }
-    let mut i = 0;
-    while i < x.len() {
-        if s[at + i] != x[i] {
-            return false;
-        }
-        i += 1;
-    }
-    true
+    s[at..].starts_with(x)
 }
 
 // Whether a text is x: the same bytes and no other.
+#[tactic(auto, using(crate::proofs::Laws::text_is_eq))]
 pub fn same(t: &[u8], x: &[u8]) -> bool
     ensures { result ≡ text_is x.now t.now }
 {
-    if t.len() != x.len() {
-        return false;
-    }
-    has(t, 0, x)
+    t == x
 }
 
+#[tactic(auto, unfolding(crate::specs::Characters::is_char))]
 fn is_char(v: u32) -> bool
     ensures { result ≡ is_char v }
 {
-    if v == 9 {
-        return true;
-    }
-    if v == 10 {
-        return true;
-    }
-    if v == 13 {
-        return true;
-    }
-    if v < 32 {
-        return false;
-    }
-    if v <= 55295 {
-        return true;
-    }
-    if v < 57344 {
-        return false;
-    }
-    if v <= 65533 {
-        return true;
-    }
-    if v < 65536 {
-        return false;
-    }
-    v <= 1114111
+    matches!(v, 0x09 | 0x0a | 0x0d | 0x20..=0xd7ff | 0xe000..=0xfffd | 0x10000..=0x10ffff)
 }
 
+#[tactic(auto, unfolding(crate::specs::Characters::sized))]
 fn size_of(n: usize, least: u32, v: u32) -> usize
     ensures { result ≡ sized n least v }
 {
-    if v < least {
-        return 0;
-    }
-    if is_char(v) { n } else { 0 }
+    if least <= v && is_char(v) { n } else { 0 }
 }
 
-fn is_tail(b: u32) -> bool
+#[tactic(auto, unfolding(crate::specs::Characters::is_tail))]
+fn is_tail(b: u8) -> bool
     ensures { result ≡ is_tail b }
 {
-    if b < 128 {
-        return false;
-    }
-    b <= 191
-}
-
-fn wide(x: u8) -> u32
-    ensures { (result ≡ x) × (result < 256) }
-{
-    x as u32
+    matches!(b, 0x80..=0xbf)
 }
 
 // How many bytes the character has that begins with these four, 0 where there is none.
-fn char_size(b0: u8, b1: u8, b2: u8, b3: u8) -> usize
-    ensures { result ≡ char_size b0 b1 b2 b3 }
+#[tactic(auto, using(crate::proofs::Laws::tail_low), unfolding(crate::specs::Characters::char_size))]
+fn char_size(a: u8, b: u8, c: u8, d: u8) -> usize
+    ensures { result ≡ char_size a b c d }
 {
-    let a = wide(b0);
-    let b = wide(b1);
-    let c = wide(b2);
-    let d = wide(b3);
-    if a <= 127 {
-        return size_of(1, 0, a);
-    }
-    if a < 192 {
-        return 0;
-    }
-    if !is_tail(b) {
-        return 0;
-    }
-    if a <= 223 {
-        return size_of(2, 128, (a - 192) * 64 + (b - 128));
-    }
-    if !is_tail(c) {
-        return 0;
-    }
-    if a <= 239 {
-        return size_of(3, 2048, (a - 224) * 4096 + (b - 128) * 64 + (c - 128));
-    }
-    if !is_tail(d) {
-        return 0;
-    }
-    if a <= 247 {
-        size_of(
+    let (w, x, y, z) = (u32::from(a), u32::from(b), u32::from(c), u32::from(d));
+    match a {
+        0..=0x7f => size_of(1, 0, w),
+        0xc0..=0xdf if is_tail(b) => size_of(2, 0x80, (w - 0xc0) * 0x40 + (x - 0x80)),
+        0xe0..=0xef if is_tail(b) && is_tail(c) => size_of(
+            3,
+            0x800,
+            (w - 0xe0) * 0x1000 + (x - 0x80) * 0x40 + (y - 0x80),
+        ),
+        0xf0..=0xf7 if is_tail(b) && is_tail(c) && is_tail(d) => size_of(
             4,
-            65536,
-            (a - 240) * 262144 + (b - 128) * 4096 + (c - 128) * 64 + (d - 128),
-        )
-    } else {
-        0
+            0x10000,
+            (w - 0xf0) * 0x40000 + (x - 0x80) * 0x1000 + (y - 0x80) * 0x40 + (z - 0x80),
+        ),
+        _ => 0,
     }
 }
 
 // Past the character at a position.
+#[tactic(auto, using(crate::proofs::Laws::char_none, crate::proofs::Laws::char_some, crate::proofs::Laws::char_in_flow))]
 pub fn character(s: &[u8], at: usize) -> Walk
     requires { at ≤ length s.now }
     ensures { result ≡ char_at s.now at }
 {
-    if s.len() <= at {
-        return Walk::Broken(at);
+    match char_size(
+        byte(s, at),
+        byte(s, at + 1),
+        byte(s, at + 2),
+        byte(s, at + 3),
+    ) {
+        0 => Err(at),
+        n => Ok(at + n),
     }
-    let b1 = after(s, at, 1);
-    let b2 = after(s, at, 2);
-    let b3 = after(s, at, 3);
-    let n = char_size(s[at], b1, b2, b3);
-    if n == 0 {
-        return Walk::Broken(at);
-    }
-    Walk::Past(at + n)
-}
-
-// The byte k further on, 0 past the end.
-fn after(s: &[u8], at: usize, k: usize) -> u8
-    requires { at ≤ length s.now }
-    ensures { result ≡ byte_at s.now (at + k) }
-{
-    if k < s.len() - at { s[at + k] } else { 0 }
 }
 
 // Past the reference at a position.
+#[tactic(auto, unfolding(crate::specs::References::ref_at, crate::specs::References::which_at))]
 pub fn reference(s: &[u8], at: usize) -> Walk
     requires { at ≤ length s.now }
     ensures { result ≡ ref_at s.now at }
 {
     if has(s, at, b"&amp;") {
-        return Walk::Past(at + 5);
+        Ok(at + 5)
+    } else if has(s, at, b"&lt;") || has(s, at, b"&gt;") {
+        Ok(at + 4)
+    } else if has(s, at, b"&quot;") || has(s, at, b"&apos;") {
+        Ok(at + 6)
+    } else {
+        Err(at)
     }
-    if has(s, at, b"&lt;") {
-        return Walk::Past(at + 4);
-    }
-    if has(s, at, b"&gt;") {
-        return Walk::Past(at + 4);
-    }
-    if has(s, at, b"&quot;") {
-        return Walk::Past(at + 6);
-    }
-    if has(s, at, b"&apos;") {
-        return Walk::Past(at + 6);
-    }
-    Walk::Broken(at)
 }

@@ -1,5 +1,5 @@
 -- The structure (document 01, "The structure", and of outcome messages document 000, 10.2.5): for each parent its named children, in this order.
-use Rattle.std.specs.Prelude.{ℕ, suc, ◌-◌, List, [], ◌∷◌, Bool, true, false, cond, ◌&&◌, length, eqb}
+use Rattle.std.specs.Prelude.{ℕ, suc, ◌-◌, List, [], ◌∷◌, Bool, true, false, cond, ◌&&◌, length, eqb, Option, Some, None}
 use Prim.Native.String.{String}
 use Rattle.scan.specs.Bytes.{bytes, has_at}
 use Rattle.fields.specs.declared.Form.TheVariants.{CodiceAbi, Identificativo, DataOra, CodiceEnte, Esercizio, TipoOperazione, Numero, Data, Importo, Progressivo, Anagrafica, DataOraZona, Testo, EsitoOperazione, CodiceErrore, Descrizione, Elemento}
@@ -7,8 +7,6 @@ use Rattle.schema.specs.declared.Parent.{Parent}
 use Rattle.schema.specs.declared.Parent.TheVariants.{FlussoOrdinativi, Mandato, Reversale, InformazioniBeneficiario, InformazioniVersante, SostituzioneMandato, SostituzioneReversale, Beneficiario, Versante, MessaggiEsito, TestataMessaggio, EsitoReversali, EsitoMandati, ErroriReversali, ErroriMandati, FlussoOpi, TestataFlusso}
 use Rattle.schema.specs.declared.Holds.{Holds}
 use Rattle.schema.specs.declared.Holds.TheVariants.{Text, Rows}
-use Rattle.schema.specs.declared.Spot.{Spot}
-use Rattle.schema.specs.declared.Spot.TheVariants.{At, Passed}
 
 -- a name, and what the element of that name holds: the text of a field, or the named children of a parent
 infix 20 ◌is◌
@@ -159,12 +157,12 @@ table TestataFlusso =
 unfoldable pub name_is : List ℕ → List ℕ → ℕ → ℕ → Bool
 name_is x s a e = eqb (e - a) (length x) && has_at x s a
 
-abbrev pub among : List Named → ℕ → List ℕ → ℕ → ℕ → Spot → Spot
+abbrev pub among : List Named → ℕ → List ℕ → ℕ → ℕ → Option (ℕ × Holds) → Option (ℕ × Holds)
 among [] n s a e others = others
-among ((x is h) ∷ ns) n s a e others = cond (name_is (bytes x) s a e) (At n h) (among ns n s a e others)
+among ((x is h) ∷ ns) n s a e others = cond (name_is (bytes x) s a e) (Some (n, h)) (among ns n s a e others)
 
 -- the row, counted from n, that the name from a up to e stands in, and what its element holds; "Elements whose name isn't among their parent's
 -- named children .. are passed over"
-abbrev pub spot_in : List Row → ℕ → List ℕ → ℕ → ℕ → Spot
-spot_in [] n s a e = Passed
+abbrev pub spot_in : List Row → ℕ → List ℕ → ℕ → ℕ → Option (ℕ × Holds)
+spot_in [] n s a e = None
 spot_in (r ∷ rs) n s a e = among r.names n s a e (spot_in rs (suc n) s a e)

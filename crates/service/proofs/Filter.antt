@@ -1,4 +1,5 @@
 -- THE FILTER OF A BODY'S KEYS AFTER AN ORDER: its own key is marked, and no other comes in.
+use Rattle.std.specs.Prelude.{Result, Some, Ok, Err}
 use Prim.Native.Nat.{ℕ, ◌+◌, ◌*◌, ◌<◌, ◌≤◌}
 use mathlib.Core.Bool.{Bool, true, false, cond}
 use mathlib.Core.List.{List, [], ◌∷◌, ◌++◌}
@@ -8,7 +9,6 @@ use lib.ListN.{length, set, length-set, length-append}
 use lib.Dec.{eqb}
 use borrow.Author.Tests.{eq-eqb, ne_eqb, eqb-true}
 use Rattle.ranges.specs.Ranges.{is_nothing}
-use Rattle.ranges.specs.declared.Found.TheVariants.{At}
 use Rattle.record.specs.declared.Key.{Key}
 use Rattle.record.specs.declared.Record.{Record}
 use Rattle.record.specs.Slot.{slot_size, key_of}
@@ -22,8 +22,6 @@ use Rattle.replacing.specs.Replacing.{namings, replaced_by}
 use Rattle.replacing.proofs.Marks.{replaced_find, replaced_length}
 use Rattle.rules.specs.declared.Change.{Change}
 use Rattle.rules.specs.declared.Change.TheVariants.{Insert, Vary, Annul, Replace}
-use Rattle.rules.specs.declared.Ruling.{Ruling}
-use Rattle.rules.specs.declared.Ruling.TheVariants.{Accepted, Refused}
 use Rattle.rules.specs.Rules.{key_for, judge_order, written}
 use Rattle.rules.specs.Effects.{stored_at, records_by}
 use Rattle.rules.specs.Inner.{Writable}
@@ -47,14 +45,14 @@ module _ (slots year : ℕ) (o : Ordinativo) (rs : List Record) {marks : List �
       (λ u. ap (λ (b : Bool). cond b (used + 1) used) (eq-eqb i used (q ∙ sym u)) ∙ simp length-append (omega arith)))
 
   -- a record in place of one with its key
-  replaced : (i : ℕ) (new : Record) → find_in rs 0 (key_for year o) ≡ At i → key_of new ≡ key_of (nth rs i) → After (cond (eqb i used) (used + 1) used) (stored_at rs i new)
+  replaced : (i : ℕ) (new : Record) → find_in rs 0 (key_for year o) ≡ Some i → key_of new ≡ key_of (nth rs i) → After (cond (eqb i used) (used + 1) used) (stored_at rs i new)
   replaced i new g e =
       let l = found_below rs (key_for year o) i no_record g in
       subst⁻¹ (After (cond (eqb i used) (used + 1) used)) (stored_set rs i new l)
       (filters_by rs (set rs i new) (key_for year o) f (λ k n z. ap is_nothing (find_set rs i new no_record e 0 k) ∙ z)
       (λ u. ap (λ (b : Bool). cond b (used + 1) used) (ne_eqb i used (λ w. omega arith)) ∙ u ∙ sym (length-set rs i new)))
 
-  by_stand : (c : Change) (i : ℕ) → Stands slots year o rs c i → After (used_after (Accepted c i) used) (records_by year o rs (Accepted c i))
+  by_stand : (c : Change) (i : ℕ) → Stands slots year o rs c i → After (used_after (Ok (c, i)) used) (records_by year o rs (Ok (c, i)))
   unfolding written
   by_stand c i (inserting y g q l) = rw y (added rs i (written year o (nth rs i) Insert) (λ k. refl) refl q refl)
   by_stand c i (replacing y g q l z) =
@@ -62,9 +60,9 @@ module _ (slots year : ℕ) (o : Ordinativo) (rs : List Record) {marks : List �
   by_stand c i (varying y g w) = rw y (replaced i (written year o (nth rs i) Vary) g refl)
   by_stand c i (annulling y g w s) = rw y (replaced i (written year o (nth rs i) Annul) g refl)
 
-  pub order_filters : (j : Ruling) → judge_order slots year o rs ≡ j → After (used_after j used) (records_by year o rs j)
-  order_filters (Accepted c i) e = by_stand c i (accepted slots year o rs c i e)
-  order_filters (Refused code) e = filters_by rs rs (key_for year o) f (λ k n z. z) (λ u. u)
+  pub order_filters : (j : Result (Change × ℕ) ℕ) → judge_order slots year o rs ≡ j → After (used_after j used) (records_by year o rs j)
+  order_filters (Ok (c, i)) e = by_stand c i (accepted slots year o rs c i e)
+  order_filters (Err code) e = filters_by rs rs (key_for year o) f (λ k n z. z) (λ u. u)
 
 -- and on the table that it leaves
 pub order_filtered : (t : List ℕ) (base n year : ℕ) (o : Ordinativo) {marks : List ℕ} {used : ℕ} → base + slot_size * n ≤ length t → body_ok t base n ≡ true → Writable o
@@ -76,25 +74,10 @@ order_filtered t base n year o {marks} {used} fits ok w y f =
     (order_filters n year o (records_at t base n) f (judge_order n year o (records_at t base n)) refl)
 
 -- no more records than there are slots
-pub used_low : (j : Ruling) {used n : ℕ} → used ≤ n → ((c : Change) (i : ℕ) → j ≡ Accepted c i → i < n) → used_after j used ≤ n
-used_low (Refused code) l h = l
-used_low (Accepted c i) {used} {n} l h = go (eqb i used) refl (h c i refl)
+pub used_low : (j : Result (Change × ℕ) ℕ) {used n : ℕ} → used ≤ n → ((c : Change) (i : ℕ) → j ≡ Ok (c, i) → i < n) → used_after j used ≤ n
+used_low (Err code) l h = l
+used_low (Ok (c, i)) {used} {n} l h = go (eqb i used) refl (h c i refl)
   where
     go : (b : Bool) → eqb i used ≡ b → i < n → cond b (used + 1) used ≤ n
     go true e h = omega (arith, eqb-true i used e)
     go false e h = l
-
--- as the code marks and counts them
-pub marked_at : (marks : List ℕ) {k key : Key} {h : ℕ} → k ≡ key → h ≡ mark_of k → set marks h 1 ≡ set marks (mark_of key) 1
-marked_at marks e q = ap (λ (p : ℕ). set marks p 1) (q ∙ ap mark_of e)
-
-module _ {j : Ruling} {used : ℕ} where
-  module _ {c : Change} {i : ℕ} (e : j ≡ Accepted c i) where
-    pub used_more : i ≡ used → used + 1 ≡ used_after j used
-    used_more q = rw (e, eq-eqb i used q)
-
-    pub used_same : (i ≡ used → ⊥) → used ≡ used_after j used
-    used_same q = rw (e, ne_eqb i used q)
-
-  pub used_refused : {code : ℕ} → j ≡ Refused code → used ≡ used_after j used
-  used_refused e = rw e

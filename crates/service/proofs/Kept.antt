@@ -1,4 +1,5 @@
 -- What an order leaves: a table as long as it was, the same bytes outside the body's slots, the body valid, and its cash as it was.
+use Rattle.std.specs.Prelude.{Result, Some, None, Ok, Err}
 use Prim.Native.Nat.{ℕ, ◌+◌, ◌*◌, ◌≤◌, ◌<◌}
 use mathlib.Core.Bool.{true}
 use mathlib.Core.List.{List, [], ◌∷◌, ◌++◌}
@@ -8,7 +9,6 @@ use lib.ListN.{length}
 use lib.Seq.{set_split}
 use Rattle.words.specs.Numbers.{put}
 use Rattle.words.proofs.Laws.{Agree, length_put}
-use Rattle.ranges.specs.declared.Found.TheVariants.{At, Nothing}
 use Rattle.order.specs.Ordinativo.{Ordinativo}
 use Rattle.record.specs.declared.Record.{Record}
 use Rattle.record.specs.Slot.{slot_size, record_at, record_bytes, key_of}
@@ -26,8 +26,6 @@ use Rattle.replacing.proofs.Marks.{replaced_find, replaced_length}
 use Rattle.replacing.proofs.Kept.{lines_within, lines_records}
 use Rattle.rules.specs.declared.Change.{Change}
 use Rattle.rules.specs.declared.Change.TheVariants.{Replace}
-use Rattle.rules.specs.declared.Ruling.{Ruling}
-use Rattle.rules.specs.declared.Ruling.TheVariants.{Accepted, Refused}
 use Rattle.rules.specs.Rules.{key_for, judge_order, written}
 use Rattle.rules.specs.Effects.{stored_at, besides, records_by, all_records}
 use Rattle.rules.proofs.Judging.{Stands, inserting, replacing, varying, annulling, accepted}
@@ -75,7 +73,7 @@ module _ (t : List ℕ) (base n year : ℕ) (o : Ordinativo) (fits : base + slot
   abbrev rs : List Record
   rs = records_at t base n
 
-  module _ (c : Change) (i : ℕ) (e : judge_order n year o rs ≡ Accepted c i) (low : i < n) where
+  module _ (c : Change) (i : ℕ) (e : judge_order n year o rs ≡ Ok (c, i)) (low : i < n) where
     abbrev old : Record
     old = record_at t (base + slot_size * i)
 
@@ -103,7 +101,7 @@ module _ (t : List ℕ) (base n year : ℕ) (o : Ordinativo) (fits : base + slot
     alone = put t (base + slot_size * i) (record_bytes new)
 
     -- in place of its own record
-    module _ (f : find_in rs 0 (key_for year o) ≡ At i) where
+    module _ (f : find_in rs 0 (key_for year o) ≡ Some i) where
       here : Held t base n i
       here = search_held t base n (key_for year o) refl f
 
@@ -120,7 +118,7 @@ module _ (t : List ℕ) (base n year : ℕ) (o : Ordinativo) (fits : base + slot
     long = length_record new valid.states valid.amounts
 
     -- WHERE THE NAMED LINES ARE REPLACED: the record follows the last one, of a body that is valid after them
-    module _ (p : c ≡ Replace) (f : find_in rs 0 (key_for year o) ≡ Nothing) (q : i ≡ length rs) (z : replace_code rs (namings o) ≡ 0) where
+    module _ (p : c ≡ Replace) (f : find_in rs 0 (key_for year o) ≡ None) (q : i ≡ length rs) (z : replace_code rs (namings o) ≡ 0) where
       abbrev marks : List ℕ
       marks = lines_put t base n (namings o)
 
@@ -136,7 +134,7 @@ module _ (t : List ℕ) (base n year : ℕ) (o : Ordinativo) (fits : base + slot
       marks_used : used_at marks base n ≡ i
       marks_used = sym (q ∙ sym (replaced_length rs (namings o)) ∙ sym (ap length marks_records) ∙ length_records marks base n)
 
-      marks_absent : find_in (records_at marks base n) 0 (key_of new) ≡ Nothing
+      marks_absent : find_in (records_at marks base n) 0 (key_of new) ≡ None
       marks_absent = ap (λ (l : List Record). find_in l 0 (key_of new)) marks_records ∙ replaced_find rs (namings o) 0 (key_of new) ∙ ap (find_in rs 0) key ∙ f
 
       marked_ok : body_ok (put marks (base + slot_size * i) (record_bytes new)) base n ≡ true
@@ -153,7 +151,7 @@ module _ (t : List ℕ) (base n year : ℕ) (o : Ordinativo) (fits : base + slot
     -- what it leaves
     record Left : Type 0 where
       within : Within t after base n
-      records : records_at after base n ≡ records_by year o rs (Accepted c i)
+      records : records_at after base n ≡ records_by year o rs (Ok (c, i))
 
     -- a change that replaces nothing
     left_alone : beside ≡ t → besides c o rs ≡ rs → body_ok alone base n ≡ true → records_at alone base n ≡ stored_at rs i (written year o (nth rs i) c) → Left
@@ -181,20 +179,20 @@ module _ (t : List ℕ) (base n year : ℕ) (o : Ordinativo) (fits : base + slot
         left_alone (ap (besides_put t base n o) p) (ap (λ (x : Change). besides x o rs) p) (replaced_ok f)
         (replaced f ∙ ap (λ (r : Record). stored_at rs i (written year o r c)) (same_old f))
 
-  kept_by : (j : Ruling) → order_comes t base n year o ≡ j → Kept t (order_stored t base n year o j) base n
+  kept_by : (j : Result (Change × ℕ) ℕ) → order_comes t base n year o ≡ j → Kept t (order_stored t base n year o j) base n
   unfolding order_comes order_stored
-  kept_by (Accepted c i) e =
+  kept_by (Ok (c, i)) e =
       let x = left c i e (order_low t base n year o c i e) (accepted n year o rs c i e) in
-      within_kept x.within (λ kind. ap (cents_of kind) x.records ∙ order_cash n year o rs (full_at t base n) w.count.1 kind (Accepted c i) e)
-  kept_by (Refused code) e = unchanged t base n ok
+      within_kept x.within (λ kind. ap (cents_of kind) x.records ∙ order_cash n year o rs (full_at t base n) w.count.1 kind (Ok (c, i)) e)
+  kept_by (Err code) e = unchanged t base n ok
 
   pub order_kept : Kept t (order_leaves t base n year o) base n
   order_kept = kept_by (order_comes t base n year o) refl
 
-  records_by_lem : (j : Ruling) → order_comes t base n year o ≡ j → records_at (order_stored t base n year o j) base n ≡ records_by year o rs j
+  records_by_lem : (j : Result (Change × ℕ) ℕ) → order_comes t base n year o ≡ j → records_at (order_stored t base n year o j) base n ≡ records_by year o rs j
   unfolding order_comes order_stored
-  records_by_lem (Accepted c i) e = (left c i e (order_low t base n year o c i e) (accepted n year o rs c i e)).records
-  records_by_lem (Refused code) e = refl
+  records_by_lem (Ok (c, i)) e = (left c i e (order_low t base n year o c i e) (accepted n year o rs c i e)).records
+  records_by_lem (Err code) e = refl
 
   pub order_records : records_at (order_leaves t base n year o) base n ≡ records_by year o rs (judge_order n year o rs)
   unfolding order_comes

@@ -1,5 +1,6 @@
 -- What a moved line leaves: one byte of its record's states, so that record with one state changed, the body valid, and its entry's totals those of
 -- its records.
+use Rattle.std.specs.Prelude.{Result, Some, Ok, Err}
 use Prim.Native.Nat.{ℕ, ◌+◌, ◌-◌, ◌*◌, ◌≤◌, ◌<◌}
 use mathlib.Core.Bool.{Bool, true, false}
 use mathlib.Core.List.{List, [], ◌∷◌}
@@ -15,7 +16,6 @@ use Rattle.record.proofs.Back.{agree_before, agree_after}
 use Rattle.slots.specs.Slots.{records_at, find_in, nth, state_place}
 use Rattle.slots.proofs.Held.{Held, search_held}
 use Rattle.entries.specs.Entry.{entry_size, entry_fixed, kept, kept_bytes}
-use Rattle.ranges.specs.declared.Found.TheVariants.{At}
 use Rattle.body.specs.Body.{body_ok, cents_of}
 use Rattle.body.proofs.Laws.{cents_most}
 use Rattle.body.proofs.Same.{records_agree, body_agree}
@@ -23,8 +23,6 @@ use Rattle.body.proofs.Slots.{valid_at}
 use Rattle.body.proofs.State.{state_records, state_within}
 use Rattle.valid.proofs.Valid.{Valid, ok_bounds}
 use Rattle.valid.proofs.Moved.{moved_valid}
-use Rattle.rules.specs.declared.Noticed.{Noticed}
-use Rattle.rules.specs.declared.Noticed.TheVariants.{Moved, Unmoved}
 use Rattle.rules.specs.Rules.{judge_notice, moved_to}
 use Rattle.rules.specs.Effects.{records_moved}
 use Rattle.rules.proofs.Judging.{Moves, moved}
@@ -49,7 +47,7 @@ module _ (t : List ℕ) (e base n : ℕ) (executing : Bool) (k : Key) (line : �
   ok : body_ok t base n ≡ true
   ok = S.valid
 
-  module _ (i cents : ℕ) (q : judge_notice executing k line (records_at t base n) ≡ Moved i cents) where
+  module _ (i cents : ℕ) (q : judge_notice executing k line (records_at t base n) ≡ Ok (i, cents)) where
     abbrev s : ℕ
     s = moved_to executing
 
@@ -88,12 +86,12 @@ module _ (t : List ℕ) (e base n : ℕ) (executing : Bool) (k : Key) (line : �
     left_ok : body_ok left base n ≡ true
     left_ok = (state_within t base n i (line - 1) s below fits here.used ok new_valid).ok
 
-    left_records : records_at left base n ≡ records_moved executing line (records_at t base n) (Moved i cents)
+    left_records : records_at left base n ≡ records_moved executing line (records_at t base n) (Ok (i, cents))
     left_records = state_records t base n i (line - 1) s below fits here.used
 
     -- THE TOTALS, of the records afterwards
     abbrev new_records : List Record
-    new_records = records_moved executing line rs (Moved i cents)
+    new_records = records_moved executing line rs (Ok (i, cents))
 
     few_cents : (kind : ℕ) → cents_of kind new_records ≤ 18446744073709551615
     few_cents kind = omega (arith, cents_most left base n kind left_ok, ap (cents_of kind) left_records, S.few)
@@ -102,7 +100,7 @@ module _ (t : List ℕ) (e base n : ℕ) (executing : Bool) (k : Key) (line : �
         × (sum_moved executing (cents_of kind rs) (its k.kind kind cents) ≡ cents_of kind new_records)
     moves_cash kind = cash_moves executing k line rs i cents kind q (found_valid i (moved executing k line rs i cents q).0) (few_cents kind)
       where
-        found_valid : (j : ℕ) → find_in rs 0 k ≡ At j → Valid (nth rs j)
+        found_valid : (j : ℕ) → find_in rs 0 k ≡ Some j → Valid (nth rs j)
         found_valid j f = let h = search_held t base n k refl f in rw h.same (valid_at t base n j ok h.used)
 
     long_left : length left ≡ length t
@@ -165,25 +163,25 @@ module _ (t : List ℕ) (e base n : ℕ) (executing : Bool) (k : Key) (line : �
         over : {x y z : List ℕ} {p m : ℕ} → Agree x p y p m → Agree y p z p m → Agree x p z p m
         over a b = record { same = λ j h. a.same j h ∙ b.same j h }
 
-  settled_by : (m : Noticed) → notice_comes t base n executing k line ≡ m → Settled t (notice_stored t e base n executing line m) e base n
+  settled_by : (m : Result (ℕ × ℕ) ℕ) → notice_comes t base n executing k line ≡ m → Settled t (notice_stored t e base n executing line m) e base n
   unfolding notice_comes notice_stored line_moved
-  settled_by (Moved i cents) q = rw (settled_is i cents q) (left_settled i cents q)
-  settled_by (Unmoved c) q = kept_settled S.entry S.agreed (unchanged t base n ok)
+  settled_by (Ok (i, cents)) q = rw (settled_is i cents q) (left_settled i cents q)
+  settled_by (Err c) q = kept_settled S.entry S.agreed (unchanged t base n ok)
 
   pub notice_settled : Settled t (notice_leaves t e base n executing k line) e base n
   notice_settled = settled_by (notice_comes t base n executing k line) refl
 
-  records_by_lem : (m : Noticed) → notice_comes t base n executing k line ≡ m → records_at (notice_stored t e base n executing line m) base n ≡ records_moved executing line (records_at t base n) m
+  records_by_lem : (m : Result (ℕ × ℕ) ℕ) → notice_comes t base n executing k line ≡ m → records_at (notice_stored t e base n executing line m) base n ≡ records_moved executing line (records_at t base n) m
   unfolding notice_comes notice_stored line_moved
-  records_by_lem (Moved i cents) q = ap (λ (x : List ℕ). records_at x base n) (settled_is i cents q) ∙ done_records i cents q
-  records_by_lem (Unmoved c) q = refl
+  records_by_lem (Ok (i, cents)) q = ap (λ (x : List ℕ). records_at x base n) (settled_is i cents q) ∙ done_records i cents q
+  records_by_lem (Err c) q = refl
 
   pub notice_records : records_at (notice_leaves t e base n executing k line) base n ≡ records_moved executing line (records_at t base n) (judge_notice executing k line (records_at t base n))
   unfolding notice_comes
   notice_records = records_by_lem (notice_comes t base n executing k line) refl
 
   -- what the code leaves: the state put, then the kept sums moved
-  pub notice_stored_lem : {i cents x : ℕ} {u t' : List ℕ} → notice_comes t base n executing k line ≡ Moved i cents → x ≡ moved_to executing
+  pub notice_stored_lem : {i cents x : ℕ} {u t' : List ℕ} → notice_comes t base n executing k line ≡ Ok (i, cents) → x ≡ moved_to executing
       → u ≡ put t (state_place base i line) (x ∷ []) → t' ≡ put u (e + entry_fixed) (kept_moved u e executing k.kind cents) → t' ≡ notice_leaves t e base n executing k line
   unfolding notice_comes notice_stored line_moved
   notice_stored_lem {i} {cents} {x} {u} {t'} q m f g =
@@ -191,7 +189,7 @@ module _ (t : List ℕ) (e base n : ℕ) (executing : Bool) (k : Key) (line : �
       g ∙ ap (λ (z : List ℕ). put z (e + entry_fixed) (kept_moved z e executing k.kind cents)) w ∙ moved_is i cents q ∙ sym (settled_is i cents q)
       ∙ ap (notice_stored t e base n executing line) (sym q)
 
-  pub notice_movable : {i cents x : ℕ} {u : List ℕ} → notice_comes t base n executing k line ≡ Moved i cents → x ≡ moved_to executing → u ≡ put t (state_place base i line) (x ∷ [])
+  pub notice_movable : {i cents x : ℕ} {u : List ℕ} → notice_comes t base n executing k line ≡ Ok (i, cents) → x ≡ moved_to executing → u ≡ put t (state_place base i line) (x ∷ [])
       → Movable executing (kept 1 u e) (its k.kind 1 cents) × Movable executing (kept 2 u e) (its k.kind 2 cents)
   unfolding notice_comes
   notice_movable {i} {cents} {x} {u} q m f =

@@ -1,5 +1,6 @@
 -- What a body's calls answer and leave rests on what it owns alone, its slots and its entry from byte 24 on: where these agree, so do the answers, the
 -- outcomes and what it owns afterwards.
+use Rattle.std.specs.Prelude.{Result, Ok, Err}
 use Prim.Native.Nat.{ℕ, ◌+◌, ◌-◌, ◌*◌, ◌≤◌, ◌<◌}
 use mathlib.Core.Bool.{Bool, true, cond}
 use mathlib.Core.List.{List, [], ◌∷◌, ◌++◌}
@@ -25,10 +26,6 @@ use Rattle.replacing.proofs.Bytes.{tk, named_held, named_small, line_put_lem, li
 use Rattle.replacing.proofs.Kept.{lines_long}
 use Rattle.rules.specs.declared.Change.{Change}
 use Rattle.rules.specs.declared.Change.TheVariants.{Insert, Vary, Annul, Replace}
-use Rattle.rules.specs.declared.Ruling.{Ruling}
-use Rattle.rules.specs.declared.Ruling.TheVariants.{Accepted, Refused}
-use Rattle.rules.specs.declared.Noticed.{Noticed}
-use Rattle.rules.specs.declared.Noticed.TheVariants.{Moved, Unmoved}
 use Rattle.rules.specs.Inner.{names_code}
 use Rattle.rules.proofs.Judging.{names_zero}
 use Rattle.rules.specs.Rules.{judge_order, order_code, written, judge_notice, moved_to}
@@ -92,7 +89,7 @@ module _ {s t : List ℕ} {p q : ℕ} (n : ℕ) (a : Agree s p t q (slot_size * 
   slot_same i h = same_record (on a (slot_size * i) slot_size (omega arith))
 
   module _ (hs : p + slot_size * n ≤ length s) (ht : q + slot_size * n ≤ length t) where
-    besides_same : (year : ℕ) (o : Ordinativo) (c : Change) (i : ℕ) → order_comes t q n year o ≡ Accepted c i
+    besides_same : (year : ℕ) (o : Ordinativo) (c : Change) (i : ℕ) → order_comes t q n year o ≡ Ok (c, i)
         → (length (besides_put s p n o c) ≡ length s) × (length (besides_put t q n o c) ≡ length t) × Agree (besides_put s p n o c) p (besides_put t q n o c) q (slot_size * n)
     unfolding order_comes
     besides_same year o c i e = go c (names_zero n year o (records_at t q n) c i e)
@@ -106,15 +103,15 @@ module _ {s t : List ℕ} {p q : ℕ} (n : ℕ) (a : Agree s p t q (slot_size * 
             let y = ap (λ (rs : List Record). replace_code rs (namings o)) (records_agree n a) ∙ z in
             (lines_long s p n (namings o) y hs, lines_long t q n (namings o) z ht, lines_same n (namings o) a hs ht z)
 
-    stored_same : (year : ℕ) (o : Ordinativo) (j : Ruling) → order_comes t q n year o ≡ j → Agree (order_stored s p n year o j) p (order_stored t q n year o j) q (slot_size * n)
+    stored_same : (year : ℕ) (o : Ordinativo) (j : Result (Change × ℕ) ℕ) → order_comes t q n year o ≡ j → Agree (order_stored s p n year o j) p (order_stored t q n year o j) q (slot_size * n)
     unfolding order_stored
-    stored_same year o (Accepted c i) z =
+    stored_same year o (Ok (c, i)) z =
         let l = order_low t q n year o c i z in
         let m = besides_same year o c i z in
         let e : record_bytes (written year o (record_at t (q + slot_size * i)) c) ≡ record_bytes (written year o (record_at s (p + slot_size * i)) c) =
         ap (λ r. record_bytes (written year o r c)) (sym (slot_same i l)) in
         rw e (put_agree m.2 (slot_size * i) (record_bytes (written year o (record_at s (p + slot_size * i)) c)) (omega (arith, m.0)) (omega (arith, m.1)))
-    stored_same year o (Refused code) z = a
+    stored_same year o (Err code) z = a
 
     pub order_own : (year : ℕ) (o : Ordinativo) → Agree (order_leaves s p n year o) p (order_leaves t q n year o) q (slot_size * n)
     order_own year o = rw (order_same year o) (stored_same year o (order_comes t q n year o) refl)
@@ -151,11 +148,11 @@ module _ {s t : List ℕ} {e base n : ℕ} (a : Agree s base t base (slot_size *
       let g = agree_before t (state_place base i line) (moved_to executing ∷ []) (e + entry_fixed) (omega arith) (entry_size - entry_fixed) (omega arith) in
       record { same = λ j k. f.same j k ∙ b.same j k ∙ sym (g.same j k) }
 
-  moved_same : Agree s (e + entry_fixed) t (e + entry_fixed) (entry_size - entry_fixed) → (m : Noticed) → ((i cents : ℕ) → m ≡ Moved i cents → (i < n) × (1 ≤ line) × (line ≤ 8))
+  moved_same : Agree s (e + entry_fixed) t (e + entry_fixed) (entry_size - entry_fixed) → (m : Result (ℕ × ℕ) ℕ) → ((i cents : ℕ) → m ≡ Ok (i, cents) → (i < n) × (1 ≤ line) × (line ≤ 8))
       → Agree (notice_stored s e base n executing line m) base (notice_stored t e base n executing line m) base (slot_size * n)
       × Agree (notice_stored s e base n executing line m) (e + entry_fixed) (notice_stored t e base n executing line m) (e + entry_fixed) (entry_size - entry_fixed)
   unfolding notice_stored settled kept_bytes
-  moved_same b (Moved i cents) h =
+  moved_same b (Ok (i, cents)) h =
       let l = h i cents refl in
       let low = l.0 in
       let many : (1 ≤ line) × (line ≤ 8) = (l.1, l.2) in
@@ -176,7 +173,7 @@ module _ {s t : List ℕ} {e base n : ℕ} (a : Agree s base t base (slot_size *
         record { same = λ j k. f.same j k ∙ c.same j k ∙ sym (g.same j k) },
         rw (ap (λ (q : ℕ). put x q v) z, ap (λ (q : ℕ). put y q v) z) (put_agree (tailed b i low many) 0 v (omega arith) (omega arith)),
       )
-  moved_same b (Unmoved c) h = (a, b)
+  moved_same b (Err c) h = (a, b)
 
 pub notice_own : {s t : List ℕ} {e base n : ℕ} → Agree s base t base (slot_size * n) → Agree s (e + entry_fixed) t (e + entry_fixed) (entry_size - entry_fixed)
     → Served s e base n → Served t e base n → (executing : Bool) (k : Key) (line : ℕ)

@@ -1,4 +1,5 @@
 -- HOW MANY RECORDS HAVE A KEY: at most one, and none goes; so of one line at most one is held. An order with a new key adds one; another order and a notice leave the keys as they are.
+use Rattle.std.specs.Prelude.{Option, Result, Some, None, Ok, Err}
 use Prim.Native.Nat.{ℕ, zero, suc, ◌+◌, ◌-◌, ◌≤◌}
 use mathlib.Core.Path.{◌≡◌, refl, sym, ap, ◌∙◌}
 use mathlib.Core.Bool.{Bool, true, false, cond}
@@ -9,8 +10,6 @@ use lib.Dec.{eqb}
 use borrow.Author.Tests.{eqb-true}
 use Rattle.scan.proofs.Laws.{both}
 use Rattle.ranges.specs.Ranges.{is_nothing}
-use Rattle.ranges.specs.declared.Found.{Found}
-use Rattle.ranges.specs.declared.Found.TheVariants.{At, Nothing}
 use Rattle.record.specs.declared.Key.{Key}
 use Rattle.record.specs.declared.Record.{Record}
 use Rattle.record.specs.Slot.{key_of, key_is, with_state}
@@ -24,10 +23,6 @@ use Rattle.replacing.specs.Replacing.{namings, with_replaced, with_replaced_at, 
 use Rattle.replacing.proofs.Marks.{replaced_length}
 use Rattle.rules.specs.declared.Change.{Change}
 use Rattle.rules.specs.declared.Change.TheVariants.{Insert, Vary, Annul, Replace}
-use Rattle.rules.specs.declared.Ruling.{Ruling}
-use Rattle.rules.specs.declared.Ruling.TheVariants.{Accepted, Refused}
-use Rattle.rules.specs.declared.Noticed.{Noticed}
-use Rattle.rules.specs.declared.Noticed.TheVariants.{Moved, Unmoved}
 use Rattle.rules.specs.Rules.{change_of, key_for, judge_order, written, moved_to}
 use Rattle.rules.specs.Effects.{records_by, records_moved}
 use Rattle.rules.proofs.Judging.{Stands, inserting, replacing, varying, annulling, accepted, accepted_change}
@@ -80,9 +75,9 @@ module _ (key : Key) where
   unfolding with_replaced with_replaced_at
   mark_there rs m = go (find_in rs 0 m.key)
     where
-      go : (f : Found) → there (with_replaced_at rs m f) ≡ there rs
-      go Nothing = refl
-      go (At i) = set_there rs i (with_state (nth rs i) (m.line - 1) 3) refl
+      go : (f : Option ℕ) → there (with_replaced_at rs m f) ≡ there rs
+      go None = refl
+      go (Some i) = set_there rs i (with_state (nth rs i) (m.line - 1) 3) refl
 
   marks_there : (rs : List Record) (ms : List Naming) → there (replaced_by rs ms) ≡ there rs
   unfolding replaced_by
@@ -94,7 +89,7 @@ module _ (key : Key) where
     abbrev its : ℕ
     its = cond (with_key key (key_for year o)) 1 0
 
-    by_stand : (d : Change) (i : ℕ) → Stands slots year o rs d i → there (records_by year o rs (Accepted d i)) ≡ there rs + cond (opening_change d) its 0
+    by_stand : (d : Change) (i : ℕ) → Stands slots year o rs d i → there (records_by year o rs (Ok (d, i))) ≡ there rs + cond (opening_change d) its 0
     unfolding written
     by_stand d i (inserting y f q l) =
         let new : Record = written year o (nth rs i) Insert in
@@ -110,16 +105,16 @@ module _ (key : Key) where
         let new : Record = written year o (nth rs i) Annul in
         rw y (ap there (stored_set rs i new (found_below rs (key_for year o) i no_record f)) ∙ omega (arith, set_there rs i new refl))
 
-    pub order_there : (j : Ruling) → judge_order slots year o rs ≡ j → there (records_by year o rs j) ≡ there rs + weighs j (new_with key year o)
-    order_there (Accepted d i) e =
+    pub order_there : (j : Result (Change × ℕ) ℕ) → judge_order slots year o rs ≡ j → there (records_by year o rs j) ≡ there rs + weighs j (new_with key year o)
+    order_there (Ok (d, i)) e =
         let x : opens o.operation ≡ opening_change d = opens_is o.operation ∙ ap opening_change (sym (accepted_change slots year o rs d i e)) in
         rw x (by_stand d i (accepted slots year o rs d i e))
-    order_there (Refused code) e = omega arith
+    order_there (Err code) e = omega arith
 
   -- A NOTICE
-  pub notice_there : (executing : Bool) (line : ℕ) (rs : List Record) (m : Noticed) → there (records_moved executing line rs m) ≡ there rs
-  notice_there executing line rs (Moved i cents) = set_there rs i (with_state (nth rs i) (line - 1) (moved_to executing)) refl
-  notice_there executing line rs (Unmoved c) = refl
+  pub notice_there : (executing : Bool) (line : ℕ) (rs : List Record) (m : Result (ℕ × ℕ) ℕ) → there (records_moved executing line rs m) ≡ there rs
+  notice_there executing line rs (Ok (i, cents)) = set_there rs i (with_state (nth rs i) (line - 1) (moved_to executing)) refl
+  notice_there executing line rs (Err c) = refl
 
   -- AT MOST ONE
   none_there : (rs : List Record) (j : ℕ) → is_nothing (find_in rs j key) ≡ true → there rs ≡ 0
@@ -127,7 +122,7 @@ module _ (key : Key) where
   none_there [] j e = refl
   none_there (r ∷ rs) j e = go (with_key key (key_of r)) e (none_there rs (j + 1))
     where
-      go : (u : Bool) → is_nothing (cond u (At j) (find_in rs (j + 1) key)) ≡ true → (is_nothing (find_in rs (j + 1) key) ≡ true → there rs ≡ 0) → cond u 1 0 + there rs ≡ 0
+      go : (u : Bool) → is_nothing (cond u (Some j) (find_in rs (j + 1) key)) ≡ true → (is_nothing (find_in rs (j + 1) key) ≡ true → there rs ≡ 0) → cond u 1 0 + there rs ≡ 0
       go true f next = absurd (let z : ◌≡◌ {A = ℕ} 0 1 = cc in omega arith)
       go false f next = omega (arith, next f)
 

@@ -1,5 +1,6 @@
 -- The totals that a body's entry keeps: what settles them, and what a call on the body leaves of its table.
-use Prim.Native.Nat.{ℕ, ◌+◌, ◌-◌, ◌*◌, ◌≤◌}
+use Rattle.std.specs.Prelude.{Ok}
+use Prim.Native.Nat.{ℕ, ◌+◌, ◌*◌, ◌≤◌}
 use mathlib.Core.Bool.{Bool, true, false, ◌&&◌}
 use mathlib.Core.List.{List}
 use mathlib.Core.Path.{◌≡◌, sym, ap, ◌∙◌}
@@ -19,7 +20,6 @@ use Rattle.body.specs.Body.{body_ok, cents_of}
 use Rattle.entries.specs.Entry.{entry_size, entry_fixed, closed_place, kept, kept_bytes}
 use Rattle.table.specs.Table.{agrees}
 use Rattle.valid.proofs.Valid.{Valid}
-use Rattle.rules.specs.declared.Noticed.TheVariants.{Moved}
 use Rattle.rules.specs.Rules.{judge_notice}
 use Rattle.rules.specs.Effects.{records_moved}
 use Rattle.service.specs.Inner.{sum_moved, Movable, its, kept_moved}
@@ -81,10 +81,10 @@ kept_by t e executing kind cents ea eb ex ey ep eq =
     λ i. put t (e + entry_fixed) (kept_bytes (u i) (v i))
 
 -- A NOTICE moves the cash of each kind as a kept sum moves
-pub cash_moves : (executing : Bool) (key : Key) (line : ℕ) (rs : List Record) (i cents kind : ℕ) → judge_notice executing key line rs ≡ Moved i cents → Valid (nth rs i)
-    → cents_of kind (records_moved executing line rs (Moved i cents)) ≤ 18446744073709551615
+pub cash_moves : (executing : Bool) (key : Key) (line : ℕ) (rs : List Record) (i cents kind : ℕ) → judge_notice executing key line rs ≡ Ok (i, cents) → Valid (nth rs i)
+    → cents_of kind (records_moved executing line rs (Ok (i, cents))) ≤ 18446744073709551615
     → Movable executing (cents_of kind rs) (its key.kind kind cents)
-    × (sum_moved executing (cents_of kind rs) (its key.kind kind cents) ≡ cents_of kind (records_moved executing line rs (Moved i cents)))
+    × (sum_moved executing (cents_of kind rs) (its key.kind kind cents) ≡ cents_of kind (records_moved executing line rs (Ok (i, cents))))
 cash_moves true key line rs i cents kind e ok h =
     let x = execute_cash key line rs i cents kind e ok in
     (omega arith, sym x)

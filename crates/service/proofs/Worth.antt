@@ -1,5 +1,6 @@
 -- WHAT A BODY'S RECORDS ARE WORTH: a replacement order moves it by what it brings in and gives up, another order leaves it as it is, and an accepted notice
 -- moves it by what it weighs. Cash of a kind is one such number, and whether one line of one order is held is another.
+use Rattle.std.specs.Prelude.{Result, Some, Ok, Err}
 use Prim.Native.Nat.{ℕ, zero, suc, ◌+◌, ◌-◌, ◌≤◌, ◌<◌}
 use mathlib.Core.Path.{◌≡◌, refl, sym, ap, ◌∙◌}
 use mathlib.Core.Bool.{Bool, true, false, cond, ◌||◌}
@@ -26,10 +27,6 @@ use Rattle.replacing.specs.Replacing.{namings, named_code, with_replaced, replac
 use Rattle.replacing.proofs.Marks.{takes, marked_is, replaced_length, or_zero, inside_list}
 use Rattle.rules.specs.declared.Change.{Change}
 use Rattle.rules.specs.declared.Change.TheVariants.{Insert, Vary, Annul, Replace}
-use Rattle.rules.specs.declared.Ruling.{Ruling}
-use Rattle.rules.specs.declared.Ruling.TheVariants.{Accepted, Refused}
-use Rattle.ranges.specs.declared.Found.TheVariants.{At}
-use Rattle.rules.specs.declared.Noticed.TheVariants.{Moved}
 use Rattle.rules.specs.Rules.{change_of, was_executed, any_executed, key_for, eight_places, amounts_of, judge_order, written, line_moves, moved_to, judge_notice}
 use Rattle.rules.specs.Effects.{stored_at, records_by, records_moved}
 use Rattle.rules.proofs.Judging.{Stands, inserting, replacing, varying, annulling, accepted, accepted_change, Moves, moved}
@@ -90,9 +87,9 @@ cond_none true e = e
 cond_none false e = refl
 
 -- an accepted order's weight; a refused one weighs nothing
-abbrev pub weighs : Ruling → ℕ → ℕ
-weighs (Accepted c i) n = n
-weighs (Refused code) n = 0
+abbrev pub weighs : Result (Change × ℕ) ℕ → ℕ → ℕ
+weighs (Ok (c, i)) n = n
+weighs (Err code) n = 0
 
 -- the change of an accepted order tells whether it replaces
 abbrev replacing_change : Change → Bool
@@ -191,7 +188,7 @@ module _ (c : States) (C : Counts c) where
     none_in r e = cond_none (p (key_of r)) e
 
     -- A LINE of the record with a key whose state becomes s
-    module _ (key : Key) (line : ℕ) (rs : List Record) (i s cents : ℕ) (found : find_in rs 0 key ≡ At i) (first : 1 ≤ line)
+    module _ (key : Key) (line : ℕ) (rs : List Record) (i s cents : ℕ) (found : find_in rs 0 key ≡ Some i) (first : 1 ≤ line)
         (in-states : line - 1 < length (nth rs i).states) (in-amounts : line - 1 < length (nth rs i).amounts) (amount : cents ≡ get_or (nth rs i).amounts (line - 1) 0) where
       abbrev old : Record
       old = nth rs i
@@ -222,7 +219,7 @@ module _ (c : States) (C : Counts c) where
           omega arith
 
     -- A NOTICE
-    module _ (executing : Bool) (key : Key) (line : ℕ) (rs : List Record) (i cents : ℕ) (e : judge_notice executing key line rs ≡ Moved i cents) (ok : Valid (nth rs i)) where
+    module _ (executing : Bool) (key : Key) (line : ℕ) (rs : List Record) (i cents : ℕ) (e : judge_notice executing key line rs ≡ Ok (i, cents)) (ok : Valid (nth rs i)) where
       moves : Moves executing line (nth rs i) cents
       moves = (moved executing key line rs i cents e).1
 
@@ -235,7 +232,7 @@ module _ (c : States) (C : Counts c) where
           state_worth key line rs i (moved_to executing) cents (moved executing key line rs i cents e).0 f (omega (arith, ok.states)) (omega (arith, ok.amounts)) m.amount
 
     module _ (key : Key) (line : ℕ) (rs : List Record) (i cents : ℕ) where
-      pub execute_worth : judge_notice true key line rs ≡ Moved i cents → Valid (nth rs i)
+      pub execute_worth : judge_notice true key line rs ≡ Ok (i, cents) → Valid (nth rs i)
           → worth_of c p v (set rs i (with_state (nth rs i) (line - 1) (moved_to true))) ≡ worth_of c p v rs + cond (p key) (v line cents) 0
       execute_worth e ok =
           let x = notice_worth true key line rs i cents e ok in
@@ -243,7 +240,7 @@ module _ (c : States) (C : Counts c) where
           let y = ap (λ (n : ℕ). cond (p key) n 0) (executed_paid 2 (v line cents) refl) in
           omega arith
 
-      pub reverse_worth : judge_notice false key line rs ≡ Moved i cents → Valid (nth rs i)
+      pub reverse_worth : judge_notice false key line rs ≡ Ok (i, cents) → Valid (nth rs i)
           → worth_of c p v (set rs i (with_state (nth rs i) (line - 1) (moved_to false))) + cond (p key) (v line cents) 0 ≡ worth_of c p v rs
       unfolding line_moves
       reverse_worth e ok =
@@ -305,7 +302,7 @@ module _ (c : States) (C : Counts c) where
     -- AN ORDER
     module _ (slots year : ℕ) (o : Ordinativo) (rs : List Record) (full : Full rs) (few : length o.lines ≤ 8) where
       replace_worth : (i : ℕ) → i ≡ length rs → replace_code rs (namings o) ≡ 0
-          → worth_of c p v (records_by year o rs (Accepted Replace i)) + lost (named_worth p v (namings o)) ≡ worth_of c p v rs + cond (p (key_for year o)) (lines_worth v 1 o.lines) 0
+          → worth_of c p v (records_by year o rs (Ok (Replace, i))) + lost (named_worth p v (namings o)) ≡ worth_of c p v rs + cond (p (key_for year o)) (lines_worth v 1 o.lines) 0
       unfolding written
       replace_worth i q e =
           let left : List Record = replaced_by rs (namings o) in
@@ -324,23 +321,23 @@ module _ (c : States) (C : Counts c) where
       unfolding written
       waits = none_paid v 1 (eight_places (replicate (length o.lines) 1)) _ (waiting_all (length o.lines))
 
-      insert_worth : (i : ℕ) → i ≡ length rs → worth_of c p v (records_by year o rs (Accepted Insert i)) ≡ worth_of c p v rs
+      insert_worth : (i : ℕ) → i ≡ length rs → worth_of c p v (records_by year o rs (Ok (Insert, i))) ≡ worth_of c p v rs
       unfolding written
       insert_worth i q =
           let new : Record = written year o (nth rs i) Insert in
           ap (worth_of c p v) (stored_end rs i new q) ∙ omega (arith, add_worth rs new, none_in new waits)
 
-      vary_worth : (i : ℕ) → i < length rs → any_executed (nth rs i).states ≡ false → worth_of c p v (records_by year o rs (Accepted Vary i)) ≡ worth_of c p v rs
+      vary_worth : (i : ℕ) → i < length rs → any_executed (nth rs i).states ≡ false → worth_of c p v (records_by year o rs (Ok (Vary, i))) ≡ worth_of c p v rs
       unfolding written
       vary_worth i h w = set_none i (written year o (nth rs i) Vary) h waits w
 
-      annul_worth : (i : ℕ) → i < length rs → any_executed (nth rs i).states ≡ false → worth_of c p v (records_by year o rs (Accepted Annul i)) ≡ worth_of c p v rs
+      annul_worth : (i : ℕ) → i < length rs → any_executed (nth rs i).states ≡ false → worth_of c p v (records_by year o rs (Ok (Annul, i))) ≡ worth_of c p v rs
       unfolding written
       annul_worth i h w = set_none i (written year o (nth rs i) Annul) h (none_paid v 1 (nth rs i).states _ w) w
 
       -- what it gives up and brings in, by its change
       abbrev Balanced : Change → ℕ → Bool → Type 0
-      Balanced d i u = worth_of c p v (records_by year o rs (Accepted d i)) + lost (cond u (named_worth p v (namings o)) 0)
+      Balanced d i u = worth_of c p v (records_by year o rs (Ok (d, i))) + lost (cond u (named_worth p v (namings o)) 0)
           ≡ worth_of c p v rs + cond u (cond (p (key_for year o)) (lines_worth v 1 o.lines) 0) 0
 
       by_stand : (d : Change) (i : ℕ) → Stands slots year o rs d i → Balanced d i (replacing_change d)
@@ -349,12 +346,12 @@ module _ (c : States) (C : Counts c) where
       by_stand d i (varying y f w) = rw y (omega (arith, vary_worth i (found_below rs (key_for year o) i no_record f) w.waits, lost_none))
       by_stand d i (annulling y f w s) = rw y (omega (arith, annul_worth i (found_below rs (key_for year o) i no_record f) w.waits, lost_none))
 
-      pub order_worth : (j : Ruling) → judge_order slots year o rs ≡ j
+      pub order_worth : (j : Result (Change × ℕ) ℕ) → judge_order slots year o rs ≡ j
           → worth_of c p v (records_by year o rs j) + lost (weighs j (given_by p v year o)) ≡ worth_of c p v rs + weighs j (brought_by p v year o)
-      order_worth (Accepted d i) e =
+      order_worth (Ok (d, i)) e =
           let x : is_replacement o.operation ≡ replacing_change d = replaces_is o.operation ∙ ap replacing_change (sym (accepted_change slots year o rs d i e)) in
           rw x (by_stand d i (accepted slots year o rs d i e))
-      order_worth (Refused code) e = omega (arith, lost_none)
+      order_worth (Err code) e = omega (arith, lost_none)
 
 -- CASH
 cents_in : (n : ℕ) (states amounts : List ℕ) → executed_in states amounts ≡ worth_in are_executed its_cents n states amounts
@@ -373,24 +370,24 @@ cents_worth kind (r ∷ rs) =
 
 -- NO ORDER MOVES CASH; an accepted notice moves that of its order's kind by exactly its cents
 module _ (slots year : ℕ) (o : Ordinativo) (rs : List Record) (full : Full rs) (few : length o.lines ≤ 8) (kind : ℕ) where
-  pub order_cash : (j : Ruling) → judge_order slots year o rs ≡ j → cents_of kind (records_by year o rs j) ≡ cents_of kind rs
+  pub order_cash : (j : Result (Change × ℕ) ℕ) → judge_order slots year o rs ≡ j → cents_of kind (records_by year o rs j) ≡ cents_of kind rs
   order_cash j e =
       let x = order_worth are_executed executed_count (of_kind kind) its_cents slots year o rs full few j e in
       let y = ap (weighs j) (kind_even kind year o) in
       cents_worth kind (records_by year o rs j) ∙ omega arith ∙ sym (cents_worth kind rs)
 
 module _ (key : Key) (line : ℕ) (rs : List Record) (i cents kind : ℕ) where
-  pub execute_cash : judge_notice true key line rs ≡ Moved i cents → Valid (nth rs i)
-      → cents_of kind (records_moved true line rs (Moved i cents)) ≡ cents_of kind rs + cond (eqb key.kind kind) cents 0
+  pub execute_cash : judge_notice true key line rs ≡ Ok (i, cents) → Valid (nth rs i)
+      → cents_of kind (records_moved true line rs (Ok (i, cents))) ≡ cents_of kind rs + cond (eqb key.kind kind) cents 0
   execute_cash e ok =
-      let x = cents_worth kind (records_moved true line rs (Moved i cents)) in
+      let x = cents_worth kind (records_moved true line rs (Ok (i, cents))) in
       let y = cents_worth kind rs in
       omega (arith, execute_worth are_executed executed_count (of_kind kind) its_cents key line rs i cents e ok)
 
-  pub reverse_cash : judge_notice false key line rs ≡ Moved i cents → Valid (nth rs i)
-      → cents_of kind (records_moved false line rs (Moved i cents)) + cond (eqb key.kind kind) cents 0 ≡ cents_of kind rs
+  pub reverse_cash : judge_notice false key line rs ≡ Ok (i, cents) → Valid (nth rs i)
+      → cents_of kind (records_moved false line rs (Ok (i, cents))) + cond (eqb key.kind kind) cents 0 ≡ cents_of kind rs
   reverse_cash e ok =
-      let x = cents_worth kind (records_moved false line rs (Moved i cents)) in
+      let x = cents_worth kind (records_moved false line rs (Ok (i, cents))) in
       let y = cents_worth kind rs in
       omega (arith, reverse_worth are_executed executed_count (of_kind kind) its_cents key line rs i cents e ok)
 

@@ -1,5 +1,5 @@
 -- What an order comes to by what its search told, and how a kept sum moves, for the functions that they are handed on to. The promises speak of none of it.
-use Rattle.std.specs.Prelude.{ℕ, ◌+◌, ◌-◌, ◌*◌, ◌≤◌, ◌≡◌, Bool, true, false, cond, List, length, eqb}
+use Rattle.std.specs.Prelude.{ℕ, ◌+◌, ◌-◌, ◌*◌, ◌≤◌, ◌≡◌, Bool, true, false, cond, List, length, eqb, Result, Ok, Err}
 use Rattle.bounds.specs.Bounds.{max_slots}
 use Rattle.words.specs.Numbers.{put}
 use Rattle.order.specs.Ordinativo.{Ordinativo}
@@ -9,34 +9,32 @@ use Rattle.body.specs.Body.{body_ok}
 use Rattle.entries.specs.Entry.{entry_size, kept, kept_bytes}
 use Rattle.table.specs.Table.{agrees}
 use Rattle.rules.specs.declared.Change.{Change}
-use Rattle.rules.specs.declared.Ruling.{Ruling}
-use Rattle.rules.specs.declared.Ruling.TheVariants.{Accepted, Refused}
 use Rattle.rules.specs.Rules.{unless, written}
 use Rattle.rules.specs.Inner.{record_code, absent_code}
 
 -- AN ORDER
 
 -- its record stands at index i of its body
-abbrev pub on_record : List ℕ → ℕ → ℕ → Ordinativo → Change → Ruling
-on_record t base i o c = unless Refused (record_code c o (record_at t (base + slot_size * i))) (Accepted c i)
+abbrev pub on_record : List ℕ → ℕ → ℕ → Ordinativo → Change → Result (Change × ℕ) ℕ
+on_record t base i o c = unless Err (record_code c o (record_at t (base + slot_size * i))) (Ok (c, i))
 
 -- none of the body's n records is its own, and the lines that it names come to `named`
-abbrev pub on_none : Change → ℕ → ℕ → ℕ → Ruling
-on_none c named n slots = unless Refused (absent_code c named n slots) (Accepted c n)
+abbrev pub on_none : Change → ℕ → ℕ → ℕ → Result (Change × ℕ) ℕ
+on_none c named n slots = unless Err (absent_code c named n slots) (Ok (c, n))
 
 -- the record of an accepted order alone
-abbrev pub record_stored : List ℕ → ℕ → ℕ → Ordinativo → Ruling → List ℕ
-record_stored t base year o (Accepted c i) = put t (base + slot_size * i) (record_bytes (written year o (record_at t (base + slot_size * i)) c))
-record_stored t base year o (Refused code) = t
+abbrev pub record_stored : List ℕ → ℕ → ℕ → Ordinativo → Result (Change × ℕ) ℕ → List ℕ
+record_stored t base year o (Ok (c, i)) = put t (base + slot_size * i) (record_bytes (written year o (record_at t (base + slot_size * i)) c))
+record_stored t base year o (Err code) = t
 
 -- the ruling j is the one that the rules give, and the table t' is what it leaves
-abbrev pub Ruled : (Ruling → List ℕ) → Ruling → Ruling → List ℕ → Type 0
+abbrev pub Ruled : (Result (Change × ℕ) ℕ → List ℕ) → Result (Change × ℕ) ℕ → Result (Change × ℕ) ℕ → List ℕ → Type 0
 Ruled leaves rules j t' = (j ≡ rules) × (t' ≡ leaves j)
 
 -- how many records there are after an order, where there were `used` before
-abbrev pub used_after : Ruling → ℕ → ℕ
-used_after (Accepted c i) used = cond (eqb i used) (used + 1) used
-used_after (Refused code) used = used
+abbrev pub used_after : Result (Change × ℕ) ℕ → ℕ → ℕ
+used_after (Ok (c, i)) used = cond (eqb i used) (used + 1) used
+used_after (Err code) used = used
 
 -- A NOTICE
 

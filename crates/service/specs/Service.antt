@@ -1,5 +1,5 @@
 -- Orders and notices served on one body of a table's bytes (document 01, "Answers"): the rules over its records, and the bytes they leave.
-use Rattle.std.specs.Prelude.{ℕ, ◌+◌, ◌*◌, ◌≡◌, Bool, cond, List, [], ◌∷◌, ◌++◌, length, eqb}
+use Rattle.std.specs.Prelude.{ℕ, ◌+◌, ◌*◌, ◌≡◌, Bool, cond, List, [], ◌∷◌, ◌++◌, length, eqb, Result, Ok, Err}
 use Rattle.words.specs.Numbers.{put, bytes4, bytes8}
 use Rattle.codes.specs.Codes.{operation_number}
 use Rattle.order.specs.Ordinativo.{Ordinativo}
@@ -12,10 +12,6 @@ use Rattle.entries.specs.Entry.{entry_fixed, kept_bytes}
 use Rattle.replacing.specs.Replacing.{namings, lines_put}
 use Rattle.rules.specs.declared.Change.{Change}
 use Rattle.rules.specs.declared.Change.TheVariants.{Insert, Vary, Annul, Replace}
-use Rattle.rules.specs.declared.Ruling.{Ruling}
-use Rattle.rules.specs.declared.Ruling.TheVariants.{Accepted, Refused}
-use Rattle.rules.specs.declared.Noticed.{Noticed}
-use Rattle.rules.specs.declared.Noticed.TheVariants.{Moved, Unmoved}
 use Rattle.rules.specs.Rules.{judge_order, order_code, written, judge_notice, moved_to}
 use Rattle.rules.specs.Searches.{steps_of}
 use Rattle.service.specs.declared.Counted.{Counted}
@@ -23,7 +19,7 @@ use Rattle.service.specs.declared.Counted.{Counted}
 -- A BODY of a table: where its slots begin, and how many they are; for a notice, where its entry begins too. An ORDER is served in the flow's esercizio, `year`.
 
 -- what an order comes to
-unfoldable pub order_comes : List ℕ → ℕ → ℕ → ℕ → Ordinativo → Ruling
+unfoldable pub order_comes : List ℕ → ℕ → ℕ → ℕ → Ordinativo → Result (Change × ℕ) ℕ
 order_comes t base n year o = judge_order n year o (records_at t base n)
 
 -- the table beside the order's own record: a SOSTITUZIONE's named lines are replaced (document 02, Req 07)
@@ -34,10 +30,10 @@ besides_put t base n o Annul = t
 besides_put t base n o Replace = lines_put t base n (namings o)
 
 -- the table after it: the accepted order's record in its slot, a SOSTITUZIONE's named lines replaced, every other byte as it was
-unfoldable pub order_stored : List ℕ → ℕ → ℕ → ℕ → Ordinativo → Ruling → List ℕ
-order_stored t base n year o (Accepted c i) =
+unfoldable pub order_stored : List ℕ → ℕ → ℕ → ℕ → Ordinativo → Result (Change × ℕ) ℕ → List ℕ
+order_stored t base n year o (Ok (c, i)) =
     put (besides_put t base n o c) (base + slot_size * i) (record_bytes (written year o (record_at t (base + slot_size * i)) c))
-order_stored t base n year o (Refused code) = t
+order_stored t base n year o (Err code) = t
 
 abbrev pub order_leaves : List ℕ → ℕ → ℕ → ℕ → Ordinativo → List ℕ
 order_leaves t base n year o = order_stored t base n year o (order_comes t base n year o)
@@ -84,7 +80,7 @@ all_steps t base n year (o ∷ os) = order_steps t base n year o + all_steps (or
 
 -- A NOTICE
 
-unfoldable pub notice_comes : List ℕ → ℕ → ℕ → Bool → Key → ℕ → Noticed
+unfoldable pub notice_comes : List ℕ → ℕ → ℕ → Bool → Key → ℕ → Result (ℕ × ℕ) ℕ
 notice_comes t base n executing k line = judge_notice executing k line (records_at t base n)
 
 -- the line's state is set
@@ -97,14 +93,14 @@ unfoldable pub settled : List ℕ → ℕ → List Record → List ℕ
 settled t e rs = put t (e + entry_fixed) (kept_bytes (cents_of mandato_kind rs) (cents_of reversale_kind rs))
 
 -- the table after it: the line's state and the totals that its body's entry at e keeps, or nothing changes
-unfoldable pub notice_stored : List ℕ → ℕ → ℕ → ℕ → Bool → ℕ → Noticed → List ℕ
-notice_stored t e base n executing line (Moved i cents) =
+unfoldable pub notice_stored : List ℕ → ℕ → ℕ → ℕ → Bool → ℕ → Result (ℕ × ℕ) ℕ → List ℕ
+notice_stored t e base n executing line (Ok (i, cents)) =
     settled (line_moved t base executing line i) e (records_at (line_moved t base executing line i) base n)
-notice_stored t e base n executing line (Unmoved c) = t
+notice_stored t e base n executing line (Err c) = t
 
 abbrev pub notice_leaves : List ℕ → ℕ → ℕ → ℕ → Bool → Key → ℕ → List ℕ
 notice_leaves t e base n executing k line = notice_stored t e base n executing line (notice_comes t base n executing k line)
 
 -- a notice served on the table t: what it comes to, m, and the table t' afterwards
-abbrev pub NoticeServed : List ℕ → ℕ → ℕ → ℕ → Bool → Key → ℕ → Noticed → List ℕ → Type 0
+abbrev pub NoticeServed : List ℕ → ℕ → ℕ → ℕ → Bool → Key → ℕ → Result (ℕ × ℕ) ℕ → List ℕ → Type 0
 NoticeServed t e base n executing k line m t' = (m ≡ notice_comes t base n executing k line) × (t' ≡ notice_leaves t e base n executing k line)

@@ -18,10 +18,8 @@ ghost use Rattle.service.specs.Inner.{on_record, on_none, record_stored, Ruled, 
 
 use codes::Operation;
 use order::Order;
-use ranges::Found;
 use record::Key;
 use rules::{Change, Noticed, Ruling};
-use slots::Sought;
 
 // What an order comes to, and how many slots its search looked at.
 #[derive(Clone, Copy)]
@@ -42,10 +40,10 @@ fn serve_record(t: &mut [u8], base: usize, i: usize, year: u64, o: Order, c: Cha
     let r = record::record_at(t, at);
     let code = rules::record_code(c, o, r);
     if code != 0 {
-        return Ruling::Refused(code);
+        return Err(code);
     }
     record::put_record(t, at, rules::written_by(year, o, r, c));
-    Ruling::Accepted(c, i)
+    Ok((c, i))
 }
 
 // What the lines that an order names come to: only a replacement names any.
@@ -54,27 +52,25 @@ fn names_code(t: &[u8], base: usize, n: usize, o: Order, c: Change) -> u8
     ensures { result ≡ names_code c (ordinativo o) (records_at t.now base n) }
 {
     match c {
-        Change::Insert => 0,
-        Change::Vary => 0,
-        Change::Annul => 0,
+        Change::Insert | Change::Vary | Change::Annul => 0,
         Change::Replace => replacing::replace_code(t, base, n, o),
     }
 }
 
 // The lines that an order names become replaced, all of them judged before.
+#[tactic(auto, unfolding(crate::specs::Service::besides_put))]
 fn mark_names(t: &mut [u8], base: usize, n: usize, o: Order, c: Change)
     requires { (base + slot_size * n ≤ length t.old) × (names_code c (ordinativo o) (records_at t.old base n) ≡ 0) }
     ensures { t.new ≡ besides_put t.old base n (ordinativo o) c }
 {
     match c {
-        Change::Insert => {}
-        Change::Vary => {}
-        Change::Annul => {}
+        Change::Insert | Change::Vary | Change::Annul => {}
         Change::Replace => replacing::mark_lines(t, base, n, o),
     }
 }
 
 // Serves a change where none of the body's `used` records is the order's: no record is looked at but those that a replacement names.
+#[tactic(auto, using(crate::proofs::Laws::names_stand, crate::proofs::Laws::slot_fits))]
 fn serve_absent(
     t: &mut [u8],
     base: usize,
@@ -91,11 +87,11 @@ fn serve_absent(
     let named = names_code(t, base, n, o, c);
     let code = rules::absent_code(c, named, used, n);
     if code != 0 {
-        return Ruling::Refused(code);
+        return Err(code);
     }
     mark_names(t, base, n, o, c);
     record::put_record(t, base + record::SLOT * used, rules::new_record(year, o, c));
-    Ruling::Accepted(c, used)
+    Ok((c, used))
 }
 
 // The key of an order's record.
@@ -125,21 +121,20 @@ fn serve_change(
         (judge_change n year (ordinativo o) (records_at t.old base n) c) result.ruling t.new
         × (result.steps ≡ steps_of year (ordinativo o) (records_at t.old base n)) }
 {
-    let ls = o.lines;
-    let code = lines::check_lines(ls, o.total);
+    let code = lines::check_lines(o.lines, o.total);
     if code != 0 {
         return Counted {
-            ruling: Ruling::Refused(code),
+            ruling: Err(code),
             steps: 0,
         };
     }
     let key = key_for(year, o);
     match slots::seek_marked(t, base, n, used, marks, key) {
-        Sought::At(i) => Counted {
+        Ok(i) => Counted {
             ruling: serve_record(t, base, i, year, o, c),
             steps: i + 1,
         },
-        Sought::Absent(all) => Counted {
+        Err(all) => Counted {
             ruling: serve_absent(t, base, n, all, year, o, c),
             steps: all,
         },
@@ -160,8 +155,7 @@ pub fn serve_order(
     requires { (base + slot_size * n ≤ length t.old) × Filters marks.now used (records_at t.old base n) }
     ensures { OrderServed t.old base n year (ordinativo o) result t.new }
 {
-    let operation = o.operation;
-    match operation {
+    match o.operation {
         Operation::Inserimento => serve_change(t, base, n, used, marks, year, o, Change::Insert),
         Operation::Variazione => serve_change(t, base, n, used, marks, year, o, Change::Vary),
         Operation::Annullo => serve_change(t, base, n, used, marks, year, o, Change::Annul),
@@ -176,8 +170,8 @@ pub fn note_order(marks: &mut [u8], used: usize, year: u64, o: Order, j: Ruling)
 {
     marks[slots::mark_of(key_for(year, o))] = 1;
     match j {
-        Ruling::Accepted(_, i) => if i == used { used + 1 } else { used },
-        Ruling::Refused(_) => used,
+        Ok((_, i)) => if i == used { used + 1 } else { used },
+        Err(_) => used,
     }
 }
 
@@ -186,10 +180,8 @@ pub fn put_outcome(out: &mut [u8], at: usize, o: Order, code: u8)
     requires { at + outcome_size ≤ length out.old }
     ensures { out.new ≡ put out.old at (outcome_bytes (ordinativo o) code) }
 {
-    let ls = o.lines;
-    let n = order::count_of(ls);
-    let operation = o.operation;
-    let head = [o.kind, codes::operation_number(operation), code, n as u8];
+    let n = order::count_of(o.lines);
+    let head = [o.kind, codes::operation_number(o.operation), code, n as u8];
     words::copy_in(out, at, &head);
     words::write4(out, at + 4, o.number);
     words::write8(out, at + 8, o.total);
@@ -207,15 +199,9 @@ pub fn judge_notice(
     requires { (base + slot_size * n ≤ length t.now) × (body_ok t.now base n ≡ true) }
     ensures { result ≡ notice_comes t.now base n executing key line }
 {
-    match slots::find(t, base, n, key) {
-        Found::At(i) => rules::notice_in(
-            executing,
-            line,
-            i,
-            record::record_at(t, base + record::SLOT * i),
-        ),
-        Found::Nothing => Noticed::Unmoved(16),
-    }
+    let i = slots::find(t, base, n, key).ok_or(16)?;
+    let r = record::record_at(t, base + record::SLOT * i);
+    rules::notice_in(executing, line, i, r)
 }
 
 // A kept sum after a line of so many cents was executed, or reversed.
@@ -260,15 +246,10 @@ pub fn serve_notice(
     requires { Served t.old e base n }
     ensures { NoticeServed t.old e base n executing key line result t.new }
 {
-    let m = judge_notice(t, base, n, executing, key, line);
-    match m {
-        Noticed::Moved(i, cents) => {
-            let at = base + record::SLOT * i + record::STATES + ((line - 1) as usize);
-            let state = [rules::moved_to(executing)];
-            words::copy_in(t, at, &state);
-            move_kept(t, e, executing, key.kind, cents);
-            Noticed::Moved(i, cents)
-        }
-        Noticed::Unmoved(c) => Noticed::Unmoved(c),
-    }
+    let (i, cents) = judge_notice(t, base, n, executing, key, line)?;
+    let at = base + record::SLOT * i + record::STATES + ((line - 1) as usize);
+    let state = [rules::moved_to(executing)];
+    words::copy_in(t, at, &state);
+    move_kept(t, e, executing, key.kind, cents);
+    Ok((i, cents))
 }

@@ -1,4 +1,5 @@
 -- The orders of a flow served one after the other.
+use Rattle.std.specs.Prelude.{Option, Result, Some, None}
 use mathlib.Core.Path.{◌≡◌, refl, sym, ap, ◌∙◌}
 use mathlib.Core.List.{List, [], ◌∷◌, ◌++◌}
 use mathlib.Core.Bool.{cond}
@@ -13,14 +14,11 @@ use Rattle.slots.specs.Slots.{records_at}
 use Rattle.slots.specs.Inner.{mark_of, Filters}
 use Rattle.schema.specs.declared.Parent.{Parent}
 use Rattle.rows.specs.declared.Kept.{Kept}
-use Rattle.rows.specs.declared.Next.{Next}
-use Rattle.rows.specs.declared.Next.TheVariants.{Named, Done}
 use Rattle.rows.specs.Kept.{kept_from, next_of}
 use Rattle.order.specs.declared.Order.{Order}
 use Rattle.order.specs.Ordinativo.{Ordinativo, ordinativo}
 use Rattle.orders.specs.Orders.{those, order_of, is_order, orders_in}
 use Rattle.orders.proofs.Laws.{those_at, orders_one, orders_end, OrderAt, order_at}
-use Rattle.rules.specs.declared.Ruling.{Ruling}
 use Rattle.rules.specs.Rules.{key_for, order_code}
 use Rattle.rules.specs.Inner.{Writable, Writables, more}
 use Rattle.service.specs.Service.{order_comes, order_steps, order_leaves, outcome_bytes, all_leave, all_outcomes, all_accepted, all_steps}
@@ -30,15 +28,16 @@ use Rattle.service.proofs.Searches.{order_most}
 use Rattle.service.proofs.Kept.{order_kept}
 use Rattle.service.proofs.Filter.{order_filtered, used_low}
 use Rattle.serving.specs.Served.{orders_from, Rooted, Servable, max_steps}
+use Rattle.rules.specs.declared.Change.{Change}
 
 -- HOW MANY: each order takes at least a byte of the flow
 orders_by : (m : ℕ) (root : Parent) (f : List ℕ) (i : ℕ) → length f - i < m → i ≤ length f → length (orders_from root f i) ≤ length f - i
 orders_by zero root f i h w = absurd (omega arith)
 orders_by (suc m) root f i h w = go (next_of (those is_order (kept_from root f i))) refl (orders_by m root f)
   where
-    go : (x : Next) → next_of (those is_order (kept_from root f i)) ≡ x → ((j : ℕ) → length f - j < m → j ≤ length f → length (orders_from root f j) ≤ length f - j) → length (orders_from root f i) ≤ length f - i
-    go Done e ih = rw (orders_end root f i e) (omega arith)
-    go (Named k) e ih =
+    go : (x : Option Kept) → next_of (those is_order (kept_from root f i)) ≡ x → ((j : ℕ) → length f - j < m → j ≤ length f → length (orders_from root f j) ≤ length f - j) → length (orders_from root f i) ≤ length f - i
+    go None e ih = rw (orders_end root f i e) (omega arith)
+    go (Some k) e ih =
         let l = (those_at is_order root f i k e).lies in
         let n = ih k.child.after (omega arith) (omega arith) in
         rw (orders_one root f i k e) (omega arith)
@@ -101,7 +100,7 @@ module _ (root : Parent) (f past : List ℕ) (base n year : ℕ) (t₀ out₀ : 
   }
 
   module _ (t out marks : List ℕ) (i to accepted steps used : ℕ) (s : Serving root f past base n year t₀ out₀ from t out marks i to accepted steps used) where
-    pub serving_end : next_of (those is_order (kept_from root f i)) ≡ Done
+    pub serving_end : next_of (those is_order (kept_from root f i)) ≡ None
         → (accepted ≡ all_accepted t₀ base n year (orders_from root f from)) × (steps ≡ all_steps t₀ base n year (orders_from root f from)) × (t ≡ all_leave t₀ base n year (orders_from root f from)) × (out ≡ put out₀ 0 (all_outcomes t₀ base n year (orders_from root f from)))
     unfolding all_accepted all_steps all_leave all_outcomes
     serving_end e =
@@ -112,7 +111,7 @@ module _ (root : Parent) (f past : List ℕ) (base n year : ℕ) (t₀ out₀ : 
         let o : put out to [] ≡ put out₀ 0 (all_outcomes t₀ base n year (orders_from root f from)) = rw z at s.outcomes in
         (omega arith, omega arith, l, sym (put_nil out to) ∙ o)
 
-    module _ (k : Kept) (e : next_of (those is_order (kept_from root f i)) ≡ Named k) where
+    module _ (k : Kept) (e : next_of (those is_order (kept_from root f i)) ≡ Some k) where
       pub serving_order : OrderAt root f i k
       serving_order = order_at root f i k s.rooted.holds e
 
@@ -125,7 +124,7 @@ module _ (root : Parent) (f past : List ℕ) (base n year : ℕ) (t₀ out₀ : 
           let h : steps + max_slots * suc (length (orders_from root f k.child.after)) ≤ max_steps = rw serving_order.rest at s.most in
           omega (arith, order_most t base n year o, s.body.few)
 
-      pub serving_step : {o : Order} {j : Ruling} {d code a used' : ℕ} {t' out' marks' : List ℕ} → o ≡ order_of f k → j ≡ order_comes t base n year (ordinativo o)
+      pub serving_step : {o : Order} {j : Result (Change × ℕ) ℕ} {d code a used' : ℕ} {t' out' marks' : List ℕ} → o ≡ order_of f k → j ≡ order_comes t base n year (ordinativo o)
           → d ≡ order_steps t base n year (ordinativo o) → t' ≡ order_leaves t base n year (ordinativo o) → length t' ≡ length t
           → code ≡ order_code j → out' ≡ put out to (outcome_bytes (ordinativo o) code) → length out' ≡ length out → a ≡ cond (eqb code 0) 1 0 → a ≤ 1
           → used' ≡ used_after j used → marks' ≡ set marks (mark_of (key_for year (ordinativo o))) 1

@@ -9,8 +9,7 @@ ghost use Rattle.rules.specs.Rules.{order_code};
 ghost use Rattle.service.specs.Service.{outcome_size};
 ghost use Rattle.serving.specs.Served.{orders_from, Rooted, Servable, max_steps, AllServed};
 
-use rows::Next;
-use rules::Ruling;
+use rules::{Change, Ruling};
 use schema::Parent;
 
 // What a flow's orders come to together: how many were accepted, and how many slots their searches looked at.
@@ -25,8 +24,8 @@ pub fn code_of(j: Ruling) -> u8
     ensures { result ≡ order_code j }
 {
     match j {
-        Ruling::Accepted(_, _) => 0,
-        Ruling::Refused(c) => c,
+        Ok((_, _)) => 0,
+        Err(c) => c,
     }
 }
 
@@ -34,7 +33,7 @@ pub fn code_of(j: Ruling) -> u8
 pub fn one_of(code: u8) -> usize
     ensures { (result ≡ cond (eqb code 0) 1 0) × (result ≤ 1) }
 {
-    if code == 0 { 1 } else { 0 }
+    usize::from(code == 0)
 }
 
 // Serves the orders among a root's named children from a place on, each on the table that the one before left. The filter has the keys of the body's
@@ -62,10 +61,7 @@ fn serve_marked(
     let mut accepted: usize = 0;
     let mut steps: usize = 0;
     let mut used = records;
-    loop {
-        let Next::Named(k) = orders::next_order(f, i, root, past) else {
-            return FlowSums { accepted, steps };
-        };
+    while let Some(k) = orders::next_order(f, i, root, past) {
         let c = k.child;
         let o = orders::order_of(f, k, past);
         let s = service::serve_order(t, base, n, used, marks, year, o);
@@ -78,6 +74,7 @@ fn serve_marked(
         to += service::OUTCOME;
         i = c.after;
     }
+    FlowSums { accepted, steps }
 }
 
 // The same, with a filter of its own. For few orders every place is marked: to mark the keys of a body's records costs as much as two searches.

@@ -2,42 +2,24 @@
 // orders and the bodies' totals on standard output, with a sentence for each refusal where asked. Everything that decides is in the library.
 #![tactic(auto)]
 
-ghost use Rattle.std.specs.Prelude.{◌+◌, ◌≤◌, length};
-
 use printing::{say_body, say_flow, say_order};
 use std::io;
 use std::io::{Read, Write};
 
-// The line of an order, and why it is refused.
-fn tell_order<W: Write>(to: &mut W, out: &[u8], at: usize, explaining: bool) -> io::Result<()>
-    requires { at + 16 ≤ length out.now }
-{
-    say_order(to, out, at)?;
-    if explaining {
-        reasons::of_order(to, out[at + 2])
-    } else {
-        Ok(())
-    }
-}
-
+// The lines of the orders, and why each that is refused is.
 fn tell_orders<W: Write>(to: &mut W, out: &[u8], orders: u64, explaining: bool) -> io::Result<()> {
-    let mut at: usize = 0;
-    let mut left = orders;
-    while 0 < left {
-        if out.len() - at < 16 {
-            return Ok(());
+    for order in out.as_chunks::<16>().0.iter().take(orders as usize) {
+        say_order(to, order)?;
+        if explaining {
+            reasons::of_order(to, order[2])?;
         }
-        tell_order(to, out, at, explaining)?;
-        at += 16;
-        left -= 1;
     }
     Ok(())
 }
 
-fn tell_body<W: Write>(to: &mut W, table: &[u8], code: &[u8]) -> io::Result<()> {
-    let t = notices::totals(table, code);
-    let balance = t.balance;
-    say_body(to, code, t.used, balance)
+fn tell_body<W: Write>(to: &mut W, table: &[u8], code: &str) -> io::Result<()> {
+    let t = notices::totals(table, code.as_bytes());
+    say_body(to, code, t.used, t.balance)
 }
 
 fn tell_reason<W: Write>(
@@ -82,8 +64,8 @@ fn run<W: Write>(to: &mut W, flow: &[u8], explaining: bool) -> io::Result<()> {
     say_flow(to, code, place, orders, accepted)?;
     tell_reason(to, flow, code, place, cause, explaining)?;
     tell_orders(to, &outcomes, orders, explaining)?;
-    tell_body(to, &table, b"000471")?;
-    tell_body(to, &table, b"471")
+    tell_body(to, &table, "000471")?;
+    tell_body(to, &table, "471")
 }
 
 // The whole program. One byte more than the longest flow is read, so that a longer one shows; input that cannot be read is no flow.
@@ -98,8 +80,7 @@ pub fn serve<S: Read, W: Write, E: Write>(
     if got.failed {
         return printing::complain(errors, b"the input cannot be read\n");
     }
-    let n = got.read;
-    if run(to, &input[..n], explaining).is_err() {
+    if run(to, &input[..got.read], explaining).is_err() {
         return printing::complain(errors, b"the output cannot be written\n");
     }
     Ok(())

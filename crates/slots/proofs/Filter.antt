@@ -1,10 +1,11 @@
 -- The filter of keys that were seen, and the walk over the slots from the last to the first.
+use Rattle.std.specs.Prelude.{Err}
 use Prim.Native.Nat.{ℕ, zero, suc, ◌+◌, ◌-◌, ◌*◌, ◌≤◌, ◌<◌}
 use mathlib.Core.Bool.{Bool, true, false, ◌&&◌, not, and-false}
 use mathlib.Core.List.{List, [], ◌∷◌, ◌++◌}
 use mathlib.Core.Path.{◌≡◌, refl, sym, ap, subst⁻¹, ◌∙◌}
 use native.Mathlib.Omega.{arith}
-use native.Mathlib.Numerals.{add-one}
+use native.Mathlib.Numerals.{add-one, unary_clauses}
 use lib.ListN.{length, get_or, set, replicate, length-set, length-replicate, get_or-replicate}
 use lib.Seq.{get_or-set_same, get_or-set_other}
 use lib.Dec.{eqb}
@@ -16,8 +17,7 @@ use Rattle.ranges.specs.Ranges.{is_nothing}
 use Rattle.slots.specs.Inner.{seek_in, mark_of, Filters}
 pub use Rattle.slots.specs.Inner.{Marked}
 use Rattle.slots.specs.Slots.{used_at, slots_at, records_at, find_in, distinct}
-use Rattle.slots.specs.declared.Sought.TheVariants.{Absent}
-use Rattle.slots.proofs.Laws.{used_more, slots_none, slots_more, find_nil, distinct_more}
+use Rattle.slots.proofs.Laws.{slots_none, slots_more, find_nil, distinct_more, used_next}
 use Rattle.slots.proofs.Search.{key_is_lem, cons_none, none_add, nothing_is, seek_none}
 use Rattle.slots.proofs.Index.{length_records, slots_snoc}
 
@@ -108,32 +108,28 @@ pub mark_last : (seen : List ℕ) (rs : List Record) (r : Record) (h : ℕ) → 
 mark_last seen rs r h m q l = marked_by seen rs (rs ++ r ∷ []) h m l (λ k n. none_add rs r k (other_key r k (λ p. n (p ∙ sym q))))
 
 -- the slots before i are used, and their keys marked
-pub record Marking (t : List ℕ) (base n : ℕ) (seen : List ℕ) (at i : ℕ) : Type 0 where
-  pub place : at ≡ base + slot_size * i
+pub record Marking (t : List ℕ) (base n : ℕ) (seen : List ℕ) (i : ℕ) : Type 0 where
   pub low : i ≤ n
-  pub count : used_at t base n ≡ i + used_at t at (n - i)
+  pub count : used_at t base n ≡ i + used_at t (base + slot_size * i) (n - i)
   pub marked : Marked seen (slots_at t base i)
 
 module _ (t : List ℕ) (base n : ℕ) {seen : List ℕ} where
-  pub marking_start : length seen ≡ 4096 → Marking t base n seen base 0
-  marking_start l =
-      let q : n - 0 ≡ n = omega arith in
-      record { place = omega arith; low = omega arith; count = omega (arith, ap (used_at t base) q); marked = marked_none l (slots_none t base 0 refl) }
+  pub marking_start : length seen ≡ 4096 → Marking t base n seen 0
+  marking_start l = record { low = omega arith; count = simp unary_clauses (omega arith); marked = marked_none l (slots_none t base 0 refl) }
 
-  module _ {at i : ℕ} (m : Marking t base n seen at i) where
-    pub marking_more : {k : Key} (h : ℕ) → i < n → (get_or t at 0 ≡ 0 → ⊥) → k ≡ key_of (record_at t at) → h ≡ mark_of k → h < 4096 → Marking t base n (set seen h 1) (at + slot_size) (i + 1)
+  module _ {i : ℕ} (m : Marking t base n seen i) where
+    pub marking_more : {k : Key} (h : ℕ) → i < n → (get_or t (base + slot_size * i) 0 ≡ 0 → ⊥) → k ≡ key_of (record_at t (base + slot_size * i)) → h ≡ mark_of k → h < 4096
+        → Marking t base n (set seen h 1) (i + 1)
     marking_more h b z e p l =
-        let q = m.place in
         let u = m.count in
-        let w = mark_last seen (slots_at t base i) (record_at t (base + slot_size * i)) h m.marked (p ∙ ap mark_of (e ∙ ap (λ (a : ℕ). key_of (record_at t a)) q)) l in
+        let w = mark_last seen (slots_at t base i) (record_at t (base + slot_size * i)) h m.marked (p ∙ ap mark_of e) l in
         record {
-          place = omega arith;
           low = omega arith;
-          count = omega (arith, used_more t at (n - i) (n - (i + 1)) (omega arith) z);
+          count = omega (arith, used_next t base n i b z);
           marked = subst⁻¹ (λ (rs : List Record). Marked (set seen h 1) rs) (ap (slots_at t base) (add-one i) ∙ slots_snoc t base i) w;
         }
 
-    pub marking_end : used_at t at (n - i) ≡ 0 → (i ≡ used_at t base n) × Marked seen (records_at t base n)
+    pub marking_end : used_at t (base + slot_size * i) (n - i) ≡ 0 → (i ≡ used_at t base n) × Marked seen (records_at t base n)
     marking_end z =
         let e : used_at t base n ≡ i = omega (arith, m.count) in
         (sym e, subst⁻¹ (λ (j : ℕ). Marked seen (slots_at t base j)) e m.marked)
@@ -163,7 +159,7 @@ filters_by {seen} rs more key f g c = record {
   many = λ k z. c (f.many k (still_unmarked seen (mark_of key) (mark_of k) f.marked.size (mark_low key) z).1);
 }
 
-pub seek_unmarked : {seen : List ℕ} {used : ℕ} (rs : List Record) (k : Key) (h : ℕ) → Filters seen used rs → h ≡ mark_of k → get_or seen h 0 ≡ 0 → Absent used ≡ seek_in rs 0 k
+pub seek_unmarked : {seen : List ℕ} {used : ℕ} (rs : List Record) (k : Key) (h : ℕ) → Filters seen used rs → h ≡ mark_of k → get_or seen h 0 ≡ 0 → Err used ≡ seek_in rs 0 k
 seek_unmarked {seen} rs k h f q z =
     let u : get_or seen (mark_of k) 0 ≡ 0 = ap (λ (p : ℕ). get_or seen p 0) (sym q) ∙ z in
-    ap Absent (f.many k u) ∙ sym (seek_none rs k (nothing_is (find_in rs 0 k) (f.marked.absent k u)))
+    ap Err (f.many k u) ∙ sym (seek_none rs k (nothing_is (find_in rs 0 k) (f.marked.absent k u)))

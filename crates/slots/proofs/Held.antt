@@ -1,11 +1,10 @@
 -- A record of a body's list, and the slot that holds it.
+use Rattle.std.specs.Prelude.{Option, Some}
 use Prim.Native.Nat.{ℕ, ◌+◌, ◌*◌, ◌<◌}
 use mathlib.Core.List.{List}
 use mathlib.Core.Path.{◌≡◌, sym, ◌∙◌}
 use native.Mathlib.Omega.{arith}
 use lib.ListN.{length}
-use Rattle.ranges.specs.declared.Found.{Found}
-use Rattle.ranges.specs.declared.Found.TheVariants.{At}
 use Rattle.record.specs.declared.Record.{Record}
 use Rattle.record.specs.declared.Key.{Key}
 use Rattle.record.specs.Slot.{slot_size, record_at}
@@ -30,5 +29,5 @@ module _ (t : List ℕ) (base n : ℕ) where
       let u : i < used_at t base n = omega arith in
       record { low = omega (arith, used_le t base n); used = u; same = get_record t base n i no_record u }
 
-  pub search_held : {f : Found} {i : ℕ} (k : Key) → f ≡ find_in records 0 k → f ≡ At i → Held t base n i
+  pub search_held : {f : Option ℕ} {i : ℕ} (k : Key) → f ≡ find_in records 0 k → f ≡ Some i → Held t base n i
   search_held {f} {i} k e g = held i (found_below records k i no_record (sym e ∙ g))

@@ -1,8 +1,9 @@
 -- Laws of a body's slots and of the search, one slot at a time.
-use Prim.Native.Nat.{ℕ, zero, suc, ◌+◌, ◌≤◌}
+use Rattle.std.specs.Prelude.{Some, None, Ok, Err}
+use Prim.Native.Nat.{ℕ, zero, suc, ◌+◌, ◌-◌, ◌*◌, ◌≤◌, ◌<◌}
 use mathlib.Core.Bool.{Bool, true, false, ◌&&◌, cond}
 use mathlib.Core.List.{List, [], ◌∷◌}
-use mathlib.Core.Path.{◌≡◌, refl, ap}
+use mathlib.Core.Path.{◌≡◌, refl, ap, ◌∙◌}
 use native.Mathlib.Omega.{arith}
 use lib.ListN.{get_or}
 use lib.Dec.{eqb}
@@ -11,10 +12,8 @@ use Rattle.record.specs.Slot.{slot_size, record_at, key_is, key_of}
 use Rattle.record.specs.declared.Record.{Record}
 use Rattle.record.specs.declared.Key.{Key}
 use Rattle.ranges.specs.Ranges.{is_nothing}
-use Rattle.ranges.specs.declared.Found.TheVariants.{At, Nothing}
 use Rattle.slots.specs.Slots.{used_at, slots_at, records_at, find_in, distinct}
 use Rattle.slots.specs.Inner.{seek_in}
-use Rattle.slots.specs.declared.Sought.TheVariants as sought
 
 -- THE RECORDS OF A BODY
 
@@ -62,10 +61,30 @@ module _ (t : List ℕ) (at n : ℕ) where
   unfolding slots_at
   records_none q = ap (slots_at t at) (used_none t at n q)
 
+-- the slots from the one at an index on
+module _ (t : List ℕ) (base n i : ℕ) (h : i < n) where
+  abbrev pub place_of : ℕ → ℕ
+  place_of j = base + slot_size * j
+
+  step : place_of i + slot_size ≡ place_of (i + 1)
+  step = omega arith
+
+  rest : n - i ≡ suc (n - (i + 1))
+  rest = omega arith
+
+  pub used_next : (get_or t (place_of i) 0 ≡ 0 → ⊥) → used_at t (place_of i) (n - i) ≡ suc (used_at t (place_of (i + 1)) (n - (i + 1)))
+  used_next z = used_more t (place_of i) (n - i) (n - (i + 1)) rest z ∙ ap (λ (p : ℕ). suc (used_at t p (n - (i + 1)))) step
+
+  pub slots_next : slots_at t (place_of i) (n - i) ≡ record_at t (place_of i) ∷ slots_at t (place_of (i + 1)) (n - (i + 1))
+  slots_next = slots_more t (place_of i) (n - i) (n - (i + 1)) rest ∙ ap (λ (p : ℕ). record_at t (place_of i) ∷ slots_at t p (n - (i + 1))) step
+
+  pub records_next : (get_or t (place_of i) 0 ≡ 0 → ⊥) → records_at t (place_of i) (n - i) ≡ record_at t (place_of i) ∷ records_at t (place_of (i + 1)) (n - (i + 1))
+  records_next z = records_more t (place_of i) (n - i) (n - (i + 1)) rest z ∙ ap (λ (p : ℕ). record_at t (place_of i) ∷ records_at t p (n - (i + 1))) step
+
 -- THE SEARCH
 
 module _ {rs rest : List Record} {r : Record} (e : rs ≡ r ∷ rest) (i : ℕ) (k : Key) where
-  pub find_first : key_is r k ≡ true → find_in rs i k ≡ At i
+  pub find_first : key_is r k ≡ true → find_in rs i k ≡ Some i
   unfolding find_in
   find_first h = rw (e, h)
 
@@ -73,13 +92,13 @@ module _ {rs rest : List Record} {r : Record} (e : rs ≡ r ∷ rest) (i : ℕ) 
   unfolding find_in
   find_later h = rw (e, h)
 
-pub find_nil : {rs : List Record} → rs ≡ [] → (i : ℕ) (k : Key) → find_in rs i k ≡ Nothing
+pub find_nil : {rs : List Record} → rs ≡ [] → (i : ℕ) (k : Key) → find_in rs i k ≡ None
 unfolding find_in
 find_nil e i k = rw e
 
 -- the search for an order
 module _ {rs rest : List Record} {r : Record} (e : rs ≡ r ∷ rest) (i : ℕ) (k : Key) where
-  pub seek_first : key_is r k ≡ true → seek_in rs i k ≡ sought.At i
+  pub seek_first : key_is r k ≡ true → seek_in rs i k ≡ Ok i
   unfolding seek_in
   seek_first h = rw (e, h)
 
@@ -87,7 +106,7 @@ module _ {rs rest : List Record} {r : Record} (e : rs ≡ r ∷ rest) (i : ℕ) 
   unfolding seek_in
   seek_later h = rw (e, h)
 
-pub seek_nil : {rs : List Record} → rs ≡ [] → (i : ℕ) (k : Key) → seek_in rs i k ≡ sought.Absent i
+pub seek_nil : {rs : List Record} → rs ≡ [] → (i : ℕ) (k : Key) → seek_in rs i k ≡ Err i
 unfolding seek_in
 seek_nil e i k = rw e
 

@@ -1,4 +1,6 @@
 -- The search over a list of records, and lists where no key stands twice.
+use Rattle.std.specs.Prelude.{Option, Result, Some, None, Ok, Err}
+use Rattle.std.specs.Result.{result_ok}
 use Prim.Native.Nat.{ℕ, zero, suc, ◌+◌, ◌-◌, ◌≤◌, ◌<◌}
 use mathlib.Core.Bool.{Bool, true, false, ◌&&◌, cond}
 use mathlib.Core.List.{List, [], ◌∷◌, ◌++◌}
@@ -12,12 +14,8 @@ use Rattle.record.specs.Slot.{key_is, key_of}
 use Rattle.record.specs.declared.Record.{Record}
 use Rattle.record.specs.declared.Key.{Key}
 use Rattle.ranges.specs.Ranges.{is_nothing}
-use Rattle.ranges.specs.declared.Found.{Found}
-use Rattle.ranges.specs.declared.Found.TheVariants.{At, Nothing}
 use Rattle.slots.specs.Slots.{find_in, distinct}
 use Rattle.slots.specs.Inner.{seek_in}
-use Rattle.slots.specs.declared.Sought.{Sought}
-use Rattle.slots.specs.declared.Sought.TheVariants as sought
 use Rattle.valid.proofs.Laws.{same_test}
 
 clash : {A : Type 0} → ◌≡◌ {A = Bool} false true → A
@@ -47,9 +45,9 @@ key_swap r x =
 
 -- WHAT IS FOUND
 
-pub nothing_is : (f : Found) → is_nothing f ≡ true → f ≡ Nothing
-nothing_is Nothing e = refl
-nothing_is (At i) e = clash e
+pub nothing_is : (f : Option ℕ) → is_nothing f ≡ true → f ≡ None
+nothing_is None e = refl
+nothing_is (Some i) e = clash e
 
 -- it is one of the records, and the one with the key
 pub record Hit (rs : List Record) (k : Key) (i j : ℕ) (d : Record) : Type 0 where
@@ -57,11 +55,11 @@ pub record Hit (rs : List Record) (k : Key) (i j : ℕ) (d : Record) : Type 0 wh
   pub below : j < i + length rs
   pub key : key_of (get_or rs (j - i) d) ≡ k
 
-find_hit : (rs : List Record) (i : ℕ) (k : Key) (j : ℕ) (d : Record) → find_in rs i k ≡ At j → Hit rs k i j d
+find_hit : (rs : List Record) (i : ℕ) (k : Key) (j : ℕ) (d : Record) → find_in rs i k ≡ Some j → Hit rs k i j d
 unfolding find_in
 find_hit [] i k j d e = clash (sym (ap is_nothing e))
 find_hit (r ∷ rs) i k j d e = go (key_is r k) refl e (find_hit rs (i + 1) k j d) where
-  go : (b : Bool) → key_is r k ≡ b → cond b (At i) (find_in rs (i + 1) k) ≡ At j → (find_in rs (i + 1) k ≡ At j → Hit rs k (i + 1) j d) → Hit (r ∷ rs) k i j d
+  go : (b : Bool) → key_is r k ≡ b → cond b (Some i) (find_in rs (i + 1) k) ≡ Some j → (find_in rs (i + 1) k ≡ Some j → Hit rs k (i + 1) j d) → Hit (r ∷ rs) k i j d
   go true h f next =
       let q : i ≡ j = cc in
       let z : j - i ≡ 0 = omega arith in
@@ -71,7 +69,7 @@ find_hit (r ∷ rs) i k j d e = go (key_is r k) refl e (find_hit rs (i + 1) k j 
       let z : j - i ≡ suc (j - (i + 1)) = omega arith in
       record { from = omega arith; below = omega arith; key = ap (λ (m : ℕ). key_of (get_or (r ∷ rs) m d)) z ∙ g.key }
 
-module _ (rs : List Record) (k : Key) (j : ℕ) (d : Record) (e : find_in rs 0 k ≡ At j) where
+module _ (rs : List Record) (k : Key) (j : ℕ) (d : Record) (e : find_in rs 0 k ≡ Some j) where
   pub found_below : j < length rs
   found_below = omega (arith, (find_hit rs 0 k j d e).below)
 
@@ -79,43 +77,53 @@ module _ (rs : List Record) (k : Key) (j : ℕ) (d : Record) (e : find_in rs 0 k
   found_key = let q : j ≡ j - 0 = omega arith in ap (λ (m : ℕ). key_of (get_or rs m d)) q ∙ (find_hit rs 0 k j d e).key
 
 -- THE SEARCH FOR AN ORDER finds what the search does, and counts the records where it finds none
-told : {A : Type 0} {j m : ℕ} → sought.At j ≡ sought.Absent m → A
+told : {A : Type 0} {j m : ℕ} → ◌≡◌ {A = Result ℕ ℕ} (Ok j) (Err m) → A
 told e = let z : ◌≡◌ {A = ℕ} 0 1 = cc in absurd (omega arith)
 
-pub seek_at : (rs : List Record) (i : ℕ) (k : Key) (j : ℕ) → seek_in rs i k ≡ sought.At j → find_in rs i k ≡ At j
+pub seek_at : (rs : List Record) (i : ℕ) (k : Key) (j : ℕ) → seek_in rs i k ≡ Ok j → find_in rs i k ≡ Some j
 unfolding seek_in find_in
 seek_at [] i k j e = told (sym e)
 seek_at (r ∷ rs) i k j e = go (key_is r k) e (seek_at rs (i + 1) k j)
   where
-    go : (b : Bool) → cond b (sought.At i) (seek_in rs (i + 1) k) ≡ sought.At j → (seek_in rs (i + 1) k ≡ sought.At j → find_in rs (i + 1) k ≡ At j)
-        → cond b (At i) (find_in rs (i + 1) k) ≡ At j
-    go true f next = let q : i ≡ j = cc in ap At q
+    go : (b : Bool) → cond b (Ok i) (seek_in rs (i + 1) k) ≡ Ok j → (seek_in rs (i + 1) k ≡ Ok j → find_in rs (i + 1) k ≡ Some j)
+        → cond b (Some i) (find_in rs (i + 1) k) ≡ Some j
+    go true f next = let q : i ≡ j = cc in ap Some q
     go false f next = next f
 
-pub seek_absent : (rs : List Record) (i : ℕ) (k : Key) (m : ℕ) → seek_in rs i k ≡ sought.Absent m → (find_in rs i k ≡ Nothing) × (m ≡ i + length rs)
+pub seek_absent : (rs : List Record) (i : ℕ) (k : Key) (m : ℕ) → seek_in rs i k ≡ Err m → (find_in rs i k ≡ None) × (m ≡ i + length rs)
 unfolding seek_in find_in
 seek_absent [] i k m e = let q : i ≡ m = cc in (refl, omega arith)
 seek_absent (r ∷ rs) i k m e = go (key_is r k) e (seek_absent rs (i + 1) k m)
   where
-    go : (b : Bool) → cond b (sought.At i) (seek_in rs (i + 1) k) ≡ sought.Absent m → (seek_in rs (i + 1) k ≡ sought.Absent m → (find_in rs (i + 1) k ≡ Nothing) × (m ≡ i + 1 + length rs))
-        → (cond b (At i) (find_in rs (i + 1) k) ≡ Nothing) × (m ≡ i + suc (length rs))
+    go : (b : Bool) → cond b (Ok i) (seek_in rs (i + 1) k) ≡ Err m → (seek_in rs (i + 1) k ≡ Err m → (find_in rs (i + 1) k ≡ None) × (m ≡ i + 1 + length rs))
+        → (cond b (Some i) (find_in rs (i + 1) k) ≡ None) × (m ≡ i + suc (length rs))
     go true f next = told f
     go false f next = let n = next f in (n.0, omega arith)
 
-pub seek_none : (rs : List Record) (k : Key) → find_in rs 0 k ≡ Nothing → seek_in rs 0 k ≡ sought.Absent (length rs)
+-- what a search finds is what it found where it walked
+pub seek_found : (rs : List Record) (i : ℕ) (k : Key) → result_ok (seek_in rs i k) ≡ find_in rs i k
+unfolding seek_in find_in
+seek_found [] i k = refl
+seek_found (r ∷ rs) i k = go (key_is r k) (seek_found rs (i + 1) k)
+  where
+    go : (b : Bool) → result_ok (seek_in rs (i + 1) k) ≡ find_in rs (i + 1) k → result_ok (cond b (Ok i) (seek_in rs (i + 1) k)) ≡ cond b (Some i) (find_in rs (i + 1) k)
+    go true e = refl
+    go false e = e
+
+pub seek_none : (rs : List Record) (k : Key) → find_in rs 0 k ≡ None → seek_in rs 0 k ≡ Err (length rs)
 seek_none rs k n = go (seek_in rs 0 k) refl
   where
-    go : (s : Sought) → seek_in rs 0 k ≡ s → seek_in rs 0 k ≡ sought.Absent (length rs)
-    go (sought.At j) e = clash (ap is_nothing (sym (seek_at rs 0 k j e) ∙ n))
-    go (sought.Absent m) e = let q : m ≡ length rs = omega (arith, (seek_absent rs 0 k m e).1) in e ∙ ap sought.Absent q
+    go : (s : Result ℕ ℕ) → seek_in rs 0 k ≡ s → seek_in rs 0 k ≡ Err (length rs)
+    go (Ok j) e = clash (ap is_nothing (sym (seek_at rs 0 k j e) ∙ n))
+    go (Err m) e = let q : m ≡ length rs = omega (arith, (seek_absent rs 0 k m e).1) in e ∙ ap Err q
 
 -- A RECORD REPLACED BY ONE OF THE SAME KEY
 
 pub find_set : (rs : List Record) (i : ℕ) (r d : Record) → key_of r ≡ key_of (get_or rs i d) → (j : ℕ) (k : Key) → find_in (set rs i r) j k ≡ find_in rs j k
 unfolding find_in
 find_set [] i r d e j k = refl
-find_set (x ∷ rs) zero r d e j k = ap (λ (b : Bool). cond b (At j) (find_in rs (j + 1) k)) (key_same r x e k)
-find_set (x ∷ rs) (suc i) r d e j k = ap (cond (key_is x k) (At j)) (find_set rs i r d e (j + 1) k)
+find_set (x ∷ rs) zero r d e j k = ap (λ (b : Bool). cond b (Some j) (find_in rs (j + 1) k)) (key_same r x e k)
+find_set (x ∷ rs) (suc i) r d e j k = ap (cond (key_is x k) (Some j)) (find_set rs i r d e (j + 1) k)
 
 pub distinct_set : (rs : List Record) (i : ℕ) (r d : Record) → key_of r ≡ key_of (get_or rs i d) → distinct (set rs i r) ≡ distinct rs
 unfolding distinct
@@ -134,7 +142,7 @@ unfolding find_in
 none_any [] i j k = refl
 none_any (r ∷ rs) i j k = go (key_is r k) (none_any rs (i + 1) (j + 1) k) where
   go : (b : Bool) → is_nothing (find_in rs (i + 1) k) ≡ is_nothing (find_in rs (j + 1) k)
-      → is_nothing (cond b (At i) (find_in rs (i + 1) k)) ≡ is_nothing (cond b (At j) (find_in rs (j + 1) k))
+      → is_nothing (cond b (Some i) (find_in rs (i + 1) k)) ≡ is_nothing (cond b (Some j) (find_in rs (j + 1) k))
   go true e = refl
   go false e = e
 
@@ -142,13 +150,13 @@ none_any (r ∷ rs) i j k = go (key_is r k) (none_any rs (i + 1) (j + 1) k) wher
 none_cons : (r : Record) (rs : List Record) (k : Key) → is_nothing (find_in (r ∷ rs) 0 k) ≡ true → (key_is r k ≡ false) × (is_nothing (find_in rs 0 k) ≡ true)
 unfolding find_in
 none_cons r rs k e = go (key_is r k) e where
-  go : (b : Bool) → is_nothing (cond b (At 0) (find_in rs (0 + 1) k)) ≡ true → (b ≡ false) × (is_nothing (find_in rs 0 k) ≡ true)
+  go : (b : Bool) → is_nothing (cond b (Some 0) (find_in rs (0 + 1) k)) ≡ true → (b ≡ false) × (is_nothing (find_in rs 0 k) ≡ true)
   go true f = clash f
   go false f = (refl, none_any rs 0 1 k ∙ f)
 
 pub cons_none : (r : Record) (rs : List Record) (k : Key) → key_is r k ≡ false → is_nothing (find_in rs 0 k) ≡ true → is_nothing (find_in (r ∷ rs) 0 k) ≡ true
 unfolding find_in
-cons_none r rs k e f = ap (λ (b : Bool). is_nothing (cond b (At 0) (find_in rs (0 + 1) k))) e ∙ none_any rs 1 0 k ∙ f
+cons_none r rs k e f = ap (λ (b : Bool). is_nothing (cond b (Some 0) (find_in rs (0 + 1) k))) e ∙ none_any rs 1 0 k ∙ f
 
 pub none_add : (rs : List Record) (r : Record) (k : Key) → key_is r k ≡ false → is_nothing (find_in rs 0 k) ≡ true → is_nothing (find_in (rs ++ r ∷ []) 0 k) ≡ true
 none_add [] r k m e = cons_none r [] k m e

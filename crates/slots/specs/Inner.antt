@@ -1,18 +1,16 @@
 -- How the slots are walked. The promises speak of none of it.
-use Rattle.std.specs.Prelude.{ℕ, ◌+◌, ◌*◌, ◌%◌, ◌≡◌, true, cond, List, [], ◌∷◌, length, get_or}
+use Rattle.std.specs.Prelude.{ℕ, ◌+◌, ◌*◌, ◌%◌, ◌≡◌, true, cond, List, [], ◌∷◌, length, get_or, Result, Ok, Err}
 use Rattle.ranges.specs.Ranges.{is_nothing}
 use Rattle.record.specs.declared.Record.{Record}
 use Rattle.record.specs.declared.Key.{Key}
 use Rattle.record.specs.Slot.{key_is}
 use Rattle.slots.specs.Slots.{find_in}
-use Rattle.slots.specs.declared.Sought.{Sought}
-use Rattle.slots.specs.declared.Sought.TheVariants.{At, Absent}
 
 -- THE SEARCH FOR AN ORDER: the first of the records with this key, or that none has it, and how many there are; i is the first record's index. That it
 -- finds what `find_in` does, and counts the records, is proved
-unfoldable pub seek_in : List Record → ℕ → Key → Sought
-seek_in [] i k = Absent i
-seek_in (r ∷ rs) i k = cond (key_is r k) (At i) (seek_in rs (i + 1) k)
+unfoldable pub seek_in : List Record → ℕ → Key → Result ℕ ℕ
+seek_in [] i k = Err i
+seek_in (r ∷ rs) i k = cond (key_is r k) (Ok i) (seek_in rs (i + 1) k)
 
 -- THE FILTER OF KEYS, for the walk for repeated keys and for the searches of a flow's orders: no answer depends on it
 

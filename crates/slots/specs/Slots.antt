@@ -1,11 +1,9 @@
 -- The records of a body's slots (document 01, "The table").
-use Rattle.std.specs.Prelude.{ℕ, zero, suc, ◌+◌, ◌-◌, ◌*◌, Bool, true, ◌&&◌, cond, List, [], ◌∷◌, get_or, eqb}
+use Rattle.std.specs.Prelude.{ℕ, zero, suc, ◌+◌, ◌-◌, ◌*◌, Bool, true, ◌&&◌, cond, List, [], ◌∷◌, get_or, eqb, Option, Some, None}
 use Rattle.record.specs.Slot.{slot_size, states_offset, record_at, key_is, key_of}
 use Rattle.record.specs.declared.Record.{Record}
 use Rattle.record.specs.declared.Key.{Key}
 use Rattle.ranges.specs.Ranges.{is_nothing}
-use Rattle.ranges.specs.declared.Found.{Found}
-use Rattle.ranges.specs.declared.Found.TheVariants.{At, Nothing}
 
 -- THE RECORDS
 
@@ -38,9 +36,9 @@ state_place base i line = base + slot_size * i + states_offset + (line - 1)
 -- THE SEARCH
 
 -- the first of the records with this key; i is the first record's index
-unfoldable pub find_in : List Record → ℕ → Key → Found
-find_in [] i k = Nothing
-find_in (r ∷ rs) i k = cond (key_is r k) (At i) (find_in rs (i + 1) k)
+unfoldable pub find_in : List Record → ℕ → Key → Option ℕ
+find_in [] i k = None
+find_in (r ∷ rs) i k = cond (key_is r k) (Some i) (find_in rs (i + 1) k)
 
 -- "no two records of one body share kind, esercizio and number"
 unfoldable pub distinct : List Record → Bool

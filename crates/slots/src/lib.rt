@@ -7,15 +7,10 @@ ghost use Rattle.ranges.specs.Ranges.{is_nothing};
 ghost use Rattle.slots.specs.Slots.{used_at, slots_at, records_at, find_in, distinct};
 ghost use Rattle.slots.specs.Inner.{seek_in, filter_size, mark_of, Marked, Filters};
 
-use ranges::Found;
 use record::Key;
 
-// What a search for an order tells: the place of its record, or that it is absent, and how many records there are; the next slot is the first empty one.
-#[derive(Clone, Copy)]
-pub enum Sought {
-    At(usize),
-    Absent(usize),
-}
+// Where a search found its key, or how many slots it looked at in vain.
+pub type Sought = Result<usize, usize>;
 
 // The places of the filter of keys that were seen.
 const FILTER: u64 = 4096;
@@ -25,14 +20,10 @@ pub fn used_slots(t: &[u8], base: usize, n: usize) -> usize
     requires { base + slot_size * n ≤ length t.now }
     ensures { result ≡ used_at t.now base n }
 {
-    let mut at = base;
-    let mut left = n;
-    while 0 < left {
-        if t[at] == 0 {
-            return n - left;
+    for i in 0..n {
+        if t[base + record::SLOT * i] == 0 {
+            return i;
         }
-        at += record::SLOT;
-        left -= 1;
     }
     n
 }
@@ -43,30 +34,25 @@ pub fn seek(t: &[u8], base: usize, n: usize, key: Key) -> Sought
     requires { base + slot_size * n ≤ length t.now }
     ensures { result ≡ seek_in (records_at t.now base n) 0 key }
 {
-    let mut at = base;
-    let mut i = 0;
-    while i < n {
+    for i in 0..n {
+        let at = base + record::SLOT * i;
         if t[at] == 0 {
-            return Sought::Absent(i);
+            return Err(i);
         }
         if record::hit_at(t, at, key) {
-            return Sought::At(i);
+            return Ok(i);
         }
-        at += record::SLOT;
-        i += 1;
     }
-    Sought::Absent(i)
+    Err(n)
 }
 
 // The place among a body's records of the one with this key.
-pub fn find(t: &[u8], base: usize, n: usize, key: Key) -> Found
+#[tactic(auto, using(crate::proofs::Search::seek_found))]
+pub fn find(t: &[u8], base: usize, n: usize, key: Key) -> Option<usize>
     requires { base + slot_size * n ≤ length t.now }
     ensures { result ≡ find_in (records_at t.now base n) 0 key }
 {
-    match seek(t, base, n, key) {
-        Sought::At(i) => Found::At(i),
-        Sought::Absent(_) => Found::Nothing,
-    }
+    seek(t, base, n, key).ok()
 }
 
 // Whether none of the n used slots from base on has this key.
@@ -74,14 +60,10 @@ fn key_absent(t: &[u8], base: usize, n: usize, key: Key) -> bool
     requires { base + slot_size * n ≤ length t.now }
     ensures { result ≡ is_nothing (find_in (slots_at t.now base n) 0 key) }
 {
-    let mut at = base;
-    let mut left = n;
-    while 0 < left {
-        if record::hit_at(t, at, key) {
+    for i in 0..n {
+        if record::hit_at(t, base + record::SLOT * i, key) {
             return false;
         }
-        at += record::SLOT;
-        left -= 1;
     }
     true
 }
@@ -91,10 +73,7 @@ fn key_new(t: &[u8], base: usize, n: usize, key: Key, maybe: bool) -> bool
     requires { (base + slot_size * n ≤ length t.now) × (maybe ≡ false → is_nothing (find_in (slots_at t.now base n) 0 key) ≡ true) }
     ensures { result ≡ is_nothing (find_in (slots_at t.now base n) 0 key) }
 {
-    if !maybe {
-        return true;
-    }
-    key_absent(t, base, n, key)
+    !maybe || key_absent(t, base, n, key)
 }
 
 // A key's place in the filter of keys that were seen.
@@ -113,19 +92,15 @@ pub fn keys_distinct(t: &[u8], base: usize, n: usize) -> bool
     requires { base + slot_size * n ≤ length t.now }
     ensures { result ≡ distinct (slots_at t.now base n) }
 {
-    let mut seen: [u8; 4096] = [0; 4096];
-    let mut later = 0;
-    let mut next = base + record::SLOT * n;
-    while later < n {
-        let at = next - record::SLOT;
-        let key = record::key_at(t, at);
+    let mut seen = [0u8; 4096];
+    for later in 0..n {
+        let next = base + record::SLOT * (n - later);
+        let key = record::key_at(t, next - record::SLOT);
         let h = mark_of(key);
         if !key_new(t, next, later, key, seen[h] != 0) {
             return false;
         }
         seen[h] = 1;
-        later += 1;
-        next = at;
     }
     true
 }
@@ -135,17 +110,14 @@ pub fn mark_keys(t: &[u8], base: usize, n: usize, marks: &mut [u8]) -> usize
     requires { (base + slot_size * n ≤ length t.now) × (length marks.old ≡ filter_size) }
     ensures { (result ≡ used_at t.now base n) × Marked marks.new (records_at t.now base n) }
 {
-    let mut at = base;
-    let mut i = 0;
-    while i < n {
+    for i in 0..n {
+        let at = base + record::SLOT * i;
         if t[at] == 0 {
             return i;
         }
         marks[mark_of(record::key_at(t, at))] = 1;
-        at += record::SLOT;
-        i += 1;
     }
-    i
+    n
 }
 
 // The search for an order where the keys of the body's used slots are marked: only where its own place is marked are the slots looked at.
@@ -154,7 +126,7 @@ pub fn seek_marked(t: &[u8], base: usize, n: usize, used: usize, marks: &[u8], k
     ensures { result ≡ seek_in (records_at t.now base n) 0 key }
 {
     if marks[mark_of(key)] == 0 {
-        return Sought::Absent(used);
+        return Err(used);
     }
     seek(t, base, n, key)
 }

@@ -1,11 +1,9 @@
 -- The fields of a flow in document order, and the first that breaks (document 01, code 5).
-use Rattle.std.specs.Prelude.{ℕ, zero, suc, ◌+◌, List, [], ◌∷◌, ◌++◌}
+use Rattle.std.specs.Prelude.{ℕ, zero, suc, ◌+◌, List, [], ◌∷◌, ◌++◌, Result, Ok, Err}
 use Rattle.scan.specs.Bytes.{part}
 use Rattle.tokens.specs.Tokens.{white_at}
 use Rattle.fields.specs.declared.Cause.{Cause}
 use Rattle.fields.specs.declared.Form.{Form}
-use Rattle.fields.specs.declared.Reading.{Reading}
-use Rattle.fields.specs.declared.Reading.TheVariants as reading
 use Rattle.fields.specs.Fields.{reading_of}
 use Rattle.schema.specs.declared.Parent.{Parent}
 use Rattle.schema.specs.declared.Holds.{Holds}
@@ -13,6 +11,7 @@ use Rattle.schema.specs.declared.Holds.TheVariants.{Text, Rows}
 use Rattle.rows.specs.declared.Kept.{Kept}
 use Rattle.rows.specs.Kept.{kept_from}
 use Rattle.rows.specs.Replaces.{rows_for}
+use Rattle.fields.specs.declared.Value.{Value}
 
 -- a field: the form it is to have, the place of its <, and its text, a part of the flow
 pub record Field : Type 0 where
@@ -43,9 +42,9 @@ pub data Bad : Type 0 where
   Place : ℕ → Cause → Bad
   Nowhere : Bad
 
-abbrev pub bad_or : ℕ → Bad → Reading → Bad
-bad_or lt rest (reading.Holds v) = rest
-bad_or lt rest (reading.Breaks c) = Place lt c
+abbrev pub bad_or : ℕ → Bad → Result Value Cause → Bad
+bad_or lt rest (Ok v) = rest
+bad_or lt rest (Err c) = Place lt c
 
 -- the place of the first field that hasn't its form, and what is wrong with that field
 unfoldable pub first_bad : List Field → Bad

@@ -1,5 +1,5 @@
 -- What the first walk over a level's named children has said and has still to say: names for the contracts of the walks.
-use Rattle.std.specs.Prelude.{ℕ, ◌+◌, ◌-◌, ◌≤◌, ◌<◌, ◌≡◌, List, length}
+use Rattle.std.specs.Prelude.{ℕ, ◌+◌, ◌-◌, ◌≤◌, ◌<◌, ◌≡◌, List, length, Option}
 use Rattle.children.specs.declared.Child.{Child}
 use Rattle.schema.specs.declared.Parent.{Parent}
 use Rattle.schema.specs.declared.Holds.{Holds}
@@ -19,14 +19,14 @@ abbrev pub below : ℕ → List ℕ → Parent → ℕ → List Field
 below d s = λ q a. fields_at (d - 1) q s a
 
 -- what a named child holds
-abbrev pub held_breaking : ℕ → List ℕ → Child → Holds → Breaking
+abbrev pub held_breaking : ℕ → List ℕ → Child → Holds → Option Breaking
 held_breaking d s c (Text f) = field_breaking s f c
 held_breaking d s c (Rows q) = forget (standing_at (d - 1) (rows_for q s (c.gt + 1)) s (c.gt + 1))
 
 -- what the named children ks come to, after some of which n stand in `row`
-unfoldable pub rest : ℕ → Parent → List ℕ → ℕ → ℕ → List Kept → Breaking
+unfoldable pub rest : ℕ → Parent → List ℕ → ℕ → ℕ → List Kept → Option Breaking
 rest d p s row n ks = breaking_by (goes_on (ranges (table p)) (kept_holds (deeper d s) s) row n ks) (first_bad (fields_by (below d s) s ks))
 
 -- where the walk stands: w is what all come to, `so` what those up to i do, of which n stand in `row`
-abbrev pub Goes : Breaking → ℕ → Parent → List ℕ → Breaking → ℕ → ℕ → ℕ → Type 0
+abbrev pub Goes : Option Breaking → ℕ → Parent → List ℕ → Option Breaking → ℕ → ℕ → ℕ → Type 0
 Goes w d p s so i row n = (i ≤ length s) × (n ≤ i) × (row < length (ranges (table p))) × (w ≡ after so (rest d p s row n (kept_from p s i)))

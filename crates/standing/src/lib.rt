@@ -8,20 +8,18 @@ ghost use Rattle.schema.specs.Table.{table};
 ghost use Rattle.rows.specs.Kept.{kept_from};
 ghost use Rattle.structure.specs.Structure.{ranges};
 ghost use Rattle.standing.specs.Readings.{fields_at, first_bad};
-ghost use Rattle.standing.specs.Standing.{standing_by_fields, standing_at, forget, bad_at, field_breaking, structured, after, sound};
+ghost use Rattle.standing.specs.Standing.{standing_by_fields, standing_at, forget, bad_at, field_breaking, structured, after};
 ghost use Rattle.standing.specs.Walk.{held_breaking, rest, Goes};
 
 use children::Child;
-use fields::{Cause, Form, Reading};
-use rows::{FieldRead, Next};
+use fields::{Cause, Form};
 use schema::{Holds, Parent};
 
-// What content comes to; a field that breaks is named by its `<`, with its cause.
+// What breaks in content: its structure, or a field, named by its `<`, with its cause.
 #[derive(Clone, Copy)]
-pub enum Standing {
+pub enum Flaw {
     StructureBreaks,
     FieldBreaks(usize, Cause),
-    Stands,
 }
 
 // What breaks in content. It has no place and no cause, which content that stands would pay for.
@@ -29,54 +27,43 @@ pub enum Standing {
 pub enum Breaking {
     Structure,
     Field,
-    Nothing,
 }
 
 // Whether the structure stands.
-fn has_structure(b: Breaking) -> bool
+fn has_structure(b: Option<Breaking>) -> bool
     ensures { result ≡ structured b }
 {
-    match b {
-        Breaking::Structure => false,
-        Breaking::Field => true,
-        Breaking::Nothing => true,
-    }
+    !matches!(b, Some(Breaking::Structure))
 }
 
 // One part and another: the structure of either is said first, then a field.
-fn then(first: Breaking, next: Breaking) -> Breaking
+fn then(first: Option<Breaking>, next: Option<Breaking>) -> Option<Breaking>
     ensures { result ≡ after first next }
 {
     match first {
-        Breaking::Structure => Breaking::Structure,
-        Breaking::Field => {
-            if has_structure(next) {
-                Breaking::Field
-            } else {
-                Breaking::Structure
-            }
-        }
-        Breaking::Nothing => next,
+        None => next,
+        Some(Breaking::Field) if has_structure(next) => first,
+        Some(_) => Some(Breaking::Structure),
     }
 }
 
 // A field: it holds no element, and has its form.
-fn field_breaking(s: &[u8], c: Child, f: Form, past: &[u32]) -> Breaking
+fn field_breaking(s: &[u8], c: Child, f: Form, past: &[u32]) -> Option<Breaking>
     requires { (c.gt + 1 ≤ c.to) × (c.to ≤ length s.now) × Noted s.now past.now }
     ensures { result ≡ field_breaking s.now f c }
 {
     if !structure::text_only(s, c.gt + 1, past) {
-        return Breaking::Structure;
-    }
-    match rows::read_field(s, c, f) {
-        FieldRead::Said(_, _) => Breaking::Nothing,
-        FieldRead::Broken(_) => Breaking::Field,
+        Some(Breaking::Structure)
+    } else if rows::read_field(s, c, f).is_err() {
+        Some(Breaking::Field)
+    } else {
+        None
     }
 }
 
 // What a named child holds, of at most d levels with its own: a field, or the rows of a parent.
 #[cycle(held_breaking_walk_on)]
-fn held_breaking(s: &[u8], c: Child, h: Holds, d: usize, past: &[u32]) -> Breaking
+fn held_breaking(s: &[u8], c: Child, h: Holds, d: usize, past: &[u32]) -> Option<Breaking>
     requires { (c.gt + 1 ≤ c.to) × (c.to ≤ length s.now) × (1 ≤ d) × Noted s.now past.now }
     ensures { result ≡ held_breaking d s.now c h }
 {
@@ -84,7 +71,7 @@ fn held_breaking(s: &[u8], c: Child, h: Holds, d: usize, past: &[u32]) -> Breaki
         Holds::Text(f) => field_breaking(s, c, f, past),
         Holds::Rows(q) => {
             if d == 1 {
-                return Breaking::Structure;
+                return Some(Breaking::Structure);
             }
             let inner = c.gt + 1;
             let p = rows::rows_for(s, inner, q, past);
@@ -104,88 +91,69 @@ fn walk_on(
     parent: Parent,
     d: usize,
     past: &[u32],
-) -> Breaking
+) -> Option<Breaking>
     requires { (from ≤ length s.now) × (n ≤ from) × (row < length (ranges (table parent))) × (1 ≤ d) × Noted s.now past.now }
     ensures { result ≡ rest d parent s.now row n (kept_from parent s.now from) }
 {
     let mut i = from;
     let mut last = row;
     let mut m = n;
-    let mut so_far = Breaking::Nothing;
+    let mut so_far = None;
     while has_structure(so_far) {
-        let Next::Named(k) = rows::next_named(s, i, parent, past) else {
-            if structure::filled(parent, last, m, structure::rows(parent)) {
-                return so_far;
-            }
-            return Breaking::Structure;
+        let Some(k) = rows::next_named(s, i, parent, past) else {
+            return if structure::filled(parent, last, m, structure::rows(parent)) {
+                so_far
+            } else {
+                Some(Breaking::Structure)
+            };
         };
         let c = k.child;
         let h = k.holds;
         let next = k.row;
         if !structure::filled(parent, last, m, next) {
-            return Breaking::Structure;
+            return Some(Breaking::Structure);
         }
         m = structure::counted(last, m, next);
         last = next;
         i = c.after;
         so_far = then(so_far, held_breaking(s, c, h, d, past));
     }
-    Breaking::Structure
-}
-
-// Whether no field has been found.
-fn is_sound(found: Standing) -> bool
-    ensures { result ≡ sound found }
-{
-    match found {
-        Standing::StructureBreaks => false,
-        Standing::FieldBreaks(_, _) => false,
-        Standing::Stands => true,
-    }
+    Some(Breaking::Structure)
 }
 
 // A field's reading, with its cause.
-fn field_found(s: &[u8], c: Child, f: Form) -> Standing
+fn field_found(s: &[u8], c: Child, f: Form) -> Result<(), Flaw>
     requires { (c.gt + 1 ≤ c.to) × (c.to ≤ length s.now) }
     ensures { result ≡ standing_by_fields (bad_at s.now f c) }
 {
-    let from = c.gt + 1;
-    let to = c.to;
-    match fields::field_of(f, &s[from..to]) {
-        Reading::Holds(_) => Standing::Stands,
-        Reading::Breaks(x) => Standing::FieldBreaks(c.lt, x),
+    match fields::field_of(f, &s[c.gt + 1..c.to]) {
+        Ok(_) => Ok(()),
+        Err(x) => Err(Flaw::FieldBreaks(c.lt, x)),
     }
 }
 
 // The first field that breaks in the content at a place, of at most d levels, whatever its structure.
-fn first_bad(s: &[u8], at: usize, parent: Parent, d: usize, past: &[u32]) -> Standing
+fn first_bad(s: &[u8], at: usize, parent: Parent, d: usize, past: &[u32]) -> Result<(), Flaw>
     requires { (at ≤ length s.now) × Noted s.now past.now }
     ensures { result ≡ standing_by_fields (first_bad (fields_at d parent s.now at)) }
 {
     if d == 0 {
-        return Standing::Stands;
+        return Ok(());
     }
     let mut i = scan::white_end(s, at);
-    let mut found = Standing::Stands;
-    while is_sound(found) {
-        let Next::Named(k) = rows::next_named(s, i, parent, past) else {
-            return Standing::Stands;
-        };
+    while let Some(k) = rows::next_named(s, i, parent, past) {
         let c = k.child;
-        let h = k.holds;
-        i = c.after;
-        match h {
-            Holds::Text(f) => {
-                found = field_found(s, c, f);
-            }
+        match k.holds {
+            Holds::Text(f) => field_found(s, c, f)?,
             Holds::Rows(q) => {
                 let inner = c.gt + 1;
                 let deeper = rows::rows_for(s, inner, q, past);
-                found = first_bad(s, inner, deeper, d - 1, past);
+                first_bad(s, inner, deeper, d - 1, past)?
             }
         }
+        i = c.after;
     }
-    found
+    Ok(())
 }
 
 // What the content at a place comes to, of at most d levels, where all before `from` stands: n of those children stand in `row` and none after it.
@@ -198,25 +166,25 @@ pub fn judge_on(
     parent: Parent,
     d: usize,
     past: &[u32],
-) -> Standing
+) -> Result<(), Flaw>
     requires at_in_bounds { (at ≤ length s.now) × (1 ≤ d) × Noted s.now past.now }
-    requires goes { Goes (forget (standing_at d parent s.now at)) d parent s.now Breaking.Nothing from row n }
+    requires goes { Goes (forget (standing_at d parent s.now at)) d parent s.now None from row n }
     ensures { result ≡ standing_at d parent s.now at }
 {
     match walk_on(s, from, row, n, parent, d, past) {
-        Breaking::Structure => Standing::StructureBreaks,
-        Breaking::Field => first_bad(s, at, parent, d, past),
-        Breaking::Nothing => Standing::Stands,
+        Some(Breaking::Structure) => Err(Flaw::StructureBreaks),
+        Some(Breaking::Field) => first_bad(s, at, parent, d, past),
+        None => Ok(()),
     }
 }
 
 // What the content at a place comes to, of at most d levels.
-pub fn judge(s: &[u8], at: usize, parent: Parent, d: usize, past: &[u32]) -> Standing
+pub fn judge(s: &[u8], at: usize, parent: Parent, d: usize, past: &[u32]) -> Result<(), Flaw>
     requires { (at ≤ length s.now) × Noted s.now past.now }
     ensures { result ≡ standing_at d parent s.now at }
 {
     if d == 0 {
-        return Standing::StructureBreaks;
+        return Err(Flaw::StructureBreaks);
     }
     judge_on(s, at, scan::white_end(s, at), 0, 0, parent, d, past)
 }

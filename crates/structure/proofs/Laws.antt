@@ -1,4 +1,6 @@
 -- What the structure says of a parent's named children, for the crates that read them one after the other.
+use Rattle.std.specs.Prelude.{Option, Some, None}
+use Rattle.std.proofs.lemmas.Option.{some_pair_parts}
 use mathlib.Core.Path.{◌≡◌, refl, sym, ap, ◌∙◌}
 use mathlib.Core.Logic.{◌⊎◌, inl, inr}
 use mathlib.Core.List.{List, [], ◌∷◌}
@@ -15,10 +17,7 @@ use Rattle.children.specs.declared.Child.{Child}
 use Rattle.schema.specs.declared.Parent.{Parent}
 use Rattle.schema.specs.declared.Parent.TheVariants.{InformazioniBeneficiario, InformazioniVersante}
 use Rattle.schema.specs.declared.Holds.{Holds}
-use Rattle.schema.specs.declared.Spot.{Spot}
-use Rattle.schema.specs.declared.Spot.TheVariants.{At, Passed}
 use Rattle.rows.specs.declared.Kept.{Kept}
-use Rattle.rows.specs.declared.Next.TheVariants as next
 use Rattle.children.specs.Child.{children_from}
 use Rattle.schema.specs.Table.{Named, ◌is◌, Row, table, name_is, among, spot_in}
 use Rattle.rows.specs.Kept.{keep_one, keep, kept_from, next_of}
@@ -96,10 +95,10 @@ order_last r n ks e =
 
 -- the same of a walk, where k is the next named child
 module _ (p : Parent) (s : List ℕ) (i : ℕ) where
-  pub once_done : (rs : List Range) (n : ℕ) → in_order (record { least = 1; most = 1 } ∷ rs) n (rows_of (kept_from p s i)) ≡ true → next_of (kept_from p s i) ≡ next.Done → ⊥
+  pub once_done : (rs : List Range) (n : ℕ) → in_order (record { least = 1; most = 1 } ∷ rs) n (rows_of (kept_from p s i)) ≡ true → next_of (kept_from p s i) ≡ None → ⊥
   once_done rs n e f = let o = order_once rs n (kept_from p s i) e in let x = next_done p s i f in let y = o.are in let z : ◌≡◌ {A = ℕ} 0 1 = cc in omega arith
 
-  module _ (k : Kept) (f : next_of (kept_from p s i) ≡ next.Named k) where
+  module _ (k : Kept) (f : next_of (kept_from p s i) ≡ Some k) where
     pub once_next : (rs : List Range) (n : ℕ) → in_order (record { least = 1; most = 1 } ∷ rs) n (rows_of (kept_from p s i)) ≡ true → (k.row ≡ n) × (in_order rs (suc n) (rows_of (kept_from p s k.child.after)) ≡ true)
     once_next rs n e =
         let o = order_once rs n (kept_from p s i) e in
@@ -122,27 +121,27 @@ HeldIn [] n h = ⊥
 HeldIn (r ∷ rs) zero h = HeldBy r.names h
 HeldIn (r ∷ rs) (suc n) h = HeldIn rs n h
 
-no_spot : {m : ℕ} {h : Holds} {A : Type 0} → Passed ≡ At m h → A
+no_spot : {m : ℕ} {h : Holds} {A : Type 0} → ◌≡◌ {A = Option (ℕ × Holds)} (None) (Some (m, h)) → A
 no_spot e = let z : ◌≡◌ {A = ℕ} 0 1 = cc in absurd (omega arith)
 
 module _ (s : List ℕ) (a e : ℕ) (m : ℕ) (h : Holds) where
-  among_held : (ns : List Named) (n : ℕ) (others : Spot) → among ns n s a e others ≡ At m h → ((m ≡ n) × HeldBy ns h) ⊎ (others ≡ At m h)
+  among_held : (ns : List Named) (n : ℕ) (others : Option (ℕ × Holds)) → among ns n s a e others ≡ Some (m, h) → ((m ≡ n) × HeldBy ns h) ⊎ (others ≡ Some (m, h))
   among_held [] n others f = inr f
   among_held ((x is g) ∷ ns) n others f = go (name_is (bytes x) s a e) f (among_held ns n others)
     where
-      go : (b : Bool) → cond b (At n g) (among ns n s a e others) ≡ At m h → (among ns n s a e others ≡ At m h → ((m ≡ n) × HeldBy ns h) ⊎ (others ≡ At m h)) → ((m ≡ n) × ((g ≡ h) ⊎ HeldBy ns h)) ⊎ (others ≡ At m h)
-      go true f more = let u : m ≡ n = cc in let v : g ≡ h = cc in inl (u, inl v)
+      go : (b : Bool) → cond b (Some (n, g)) (among ns n s a e others) ≡ Some (m, h) → (among ns n s a e others ≡ Some (m, h) → ((m ≡ n) × HeldBy ns h) ⊎ (others ≡ Some (m, h))) → ((m ≡ n) × ((g ≡ h) ⊎ HeldBy ns h)) ⊎ (others ≡ Some (m, h))
+      go true f more = let u = some_pair_parts n m g h f in inl (sym u.0, inl u.1)
       go false f more = wrap (more f)
         where
-          wrap : ((m ≡ n) × HeldBy ns h) ⊎ (others ≡ At m h) → ((m ≡ n) × ((g ≡ h) ⊎ HeldBy ns h)) ⊎ (others ≡ At m h)
+          wrap : ((m ≡ n) × HeldBy ns h) ⊎ (others ≡ Some (m, h)) → ((m ≡ n) × ((g ≡ h) ⊎ HeldBy ns h)) ⊎ (others ≡ Some (m, h))
           wrap (inl y) = inl (y.0, inr y.1)
           wrap (inr y) = inr y
 
-  spot_held : (rs : List Row) (n : ℕ) → spot_in rs n s a e ≡ At m h → (j : ℕ) × (m ≡ n + j) × HeldIn rs j h
+  spot_held : (rs : List Row) (n : ℕ) → spot_in rs n s a e ≡ Some (m, h) → (j : ℕ) × (m ≡ n + j) × HeldIn rs j h
   spot_held [] n f = no_spot f
   spot_held (r ∷ rs) n f = go (among_held r.names n (spot_in rs (suc n) s a e) f) (spot_held rs (suc n))
     where
-      go : ((m ≡ n) × HeldBy r.names h) ⊎ (spot_in rs (suc n) s a e ≡ At m h) → (spot_in rs (suc n) s a e ≡ At m h → (j : ℕ) × (m ≡ suc n + j) × HeldIn rs j h) → (j : ℕ) × (m ≡ n + j) × HeldIn (r ∷ rs) j h
+      go : ((m ≡ n) × HeldBy r.names h) ⊎ (spot_in rs (suc n) s a e ≡ Some (m, h)) → (spot_in rs (suc n) s a e ≡ Some (m, h) → (j : ℕ) × (m ≡ suc n + j) × HeldIn rs j h) → (j : ℕ) × (m ≡ n + j) × HeldIn (r ∷ rs) j h
       go (inl y) more = (0, (let z = y.0 in omega arith), y.1)
       go (inr y) more = let k = more y in (suc k.0, (let z = k.1 in omega arith), k.2)
 
@@ -156,9 +155,9 @@ unfolding keep
 keep_held p s [] k t e = let z : ◌≡◌ {A = ℕ} 0 1 = cc in absurd (omega arith)
 keep_held p s (c ∷ cs) k t e = go (spot_in (table p) 0 s (c.lt + 1) c.gt) refl e (keep_held p s cs k t)
   where
-    go : (w : Spot) → spot_in (table p) 0 s (c.lt + 1) c.gt ≡ w → keep_one w c (keep p s cs) ≡ k ∷ t → (keep p s cs ≡ k ∷ t → HeldIn (table p) k.row k.holds) → HeldIn (table p) k.row k.holds
-    go Passed f h more = more h
-    go (At m g) f h more =
+    go : (w : Option (ℕ × Holds)) → spot_in (table p) 0 s (c.lt + 1) c.gt ≡ w → keep_one w c (keep p s cs) ≡ k ∷ t → (keep p s cs ≡ k ∷ t → HeldIn (table p) k.row k.holds) → HeldIn (table p) k.row k.holds
+    go None f h more = more h
+    go (Some (m, g)) f h more =
         let u : record { child = c; row = m; holds = g } ≡ k = cc in
         let y = spot_held s (c.lt + 1) c.gt m g (table p) 0 f in
         let z : y.0 ≡ m = let x = y.1 in omega arith in

@@ -1,21 +1,21 @@
 -- The walk over a level's named children: after some of them, what is left to say of the others.
+use Rattle.std.specs.Prelude.{Option, Some, None, is_some}
 use mathlib.Core.Path.{◌≡◌, refl, sym, ap, ◌∙◌}
 use mathlib.Core.List.{List, [], ◌∷◌}
-use mathlib.Core.Bool.{Bool, true, false, cond, ◌&&◌, and-true, and-false, and_assoc}
+use mathlib.Core.Bool.{Bool, true, false, cond, not, ◌&&◌, and-true, and-false, and_assoc}
 use Prim.Native.Nat.{ℕ, zero, suc, ◌+◌, ◌*◌, ◌/◌, ◌-◌, ◌≤◌, ◌<◌}
 use native.Mathlib.Nat.{add-zero}
 use native.Mathlib.Numerals.{add-one}
 use native.Mathlib.Omega.{arith}
 use lib.ListN.{length, get_or, drop, drop_of_length-le}
 use lib.Dec.{eqb, leb}
-use borrow.Author.Tests.{eq-eqb, ne_eqb, le-leb, lt-leb, leb-true, leb-false}
+use borrow.Author.Tests.{not-true, not-false, eq-eqb, ne_eqb, le-leb, lt-leb, leb-true, leb-false}
 use Rattle.scan.specs.Bytes.{between, run}
 use Rattle.scan.proofs.Laws.{both}
 use Rattle.tokens.specs.Tokens.{white_at}
 use Rattle.children.specs.declared.Child.{Child}
 use Rattle.schema.specs.declared.Parent.{Parent}
 use Rattle.schema.specs.declared.Parent.TheVariants.{FlussoOrdinativi, Mandato, Reversale, InformazioniBeneficiario, InformazioniVersante, SostituzioneMandato, SostituzioneReversale, Beneficiario, Versante, MessaggiEsito, TestataMessaggio, EsitoReversali, EsitoMandati, ErroriReversali, ErroriMandati, FlussoOpi, TestataFlusso}
-use Rattle.children.specs.declared.Step.TheVariants.{One, End}
 use Rattle.rows.specs.declared.Kept.{Kept}
 use Rattle.children.specs.Child.{child_at}
 use Rattle.schema.specs.Table.{table}
@@ -239,10 +239,7 @@ fits_level (suc d) p s at f =
 
 -- TEXT
 module _ (s : List ℕ) (at : ℕ) where
-  pub text_none : child_at s (white_at s at) ≡ End → text_only s at ≡ true
+  pub text_is : (o : Option Child) (b : Bool) → is_some o ≡ not b → o ≡ child_at s (white_at s at) → b ≡ text_only s at
   unfolding text_only
-  text_none e = rw (children_end s (white_at s at) e)
-
-  pub text_some : (c : Child) → child_at s (white_at s at) ≡ One c → text_only s at ≡ false
-  unfolding text_only
-  text_some c e = rw (children_one s (white_at s at) c e)
+  text_is None b k e = rw (children_end s (white_at s at) (sym e)) (not-false b (sym k))
+  text_is (Some c) b k e = rw (children_one s (white_at s at) c (sym e)) (not-true b (sym k))

@@ -7,7 +7,6 @@ ghost use Rattle.schema.specs.Table.{table};
 ghost use Rattle.structure.specs.Structure.{ranges, allows, text_only};
 ghost use Rattle.structure.specs.Walk.{paired, filled_from, all_one, counted_of};
 
-use children::Step;
 use schema::Parent;
 
 // HOW MANY elements each row of a parent takes: for each row the least and the most.
@@ -47,26 +46,13 @@ const FLUSSO_OPI: [u8; 6] = *b"\x01\x01\x01\x01\x01\x40";
 
 const TESTATA_FLUSSO: [u8; 8] = *b"\x01\x01\x01\x01\x01\x01\x01\x01";
 
-// A byte as a number.
-fn wide(b: u8) -> usize
-    ensures { result ≡ b }
-{
-    b as usize
-}
-
 // Whether n elements may stand in a row, where the least and the most of each row are a pair of bytes.
 fn row_allows(row: usize, n: usize, pairs: &[u8]) -> bool
     ensures { result ≡ allows (paired pairs.now) row n }
 {
-    if pairs.len() / 2 <= row {
-        return false;
-    }
-    let i = 2 * row;
-    let j = i + 1;
-    if n < wide(pairs[i]) {
-        return false;
-    }
-    n <= wide(pairs[j])
+    row < pairs.len() / 2
+        && usize::from(pairs[2 * row]) <= n
+        && n <= usize::from(pairs[2 * row + 1])
 }
 
 // A line has three rows, and a fourth where its order replaces others.
@@ -81,22 +67,15 @@ pub fn rows(parent: Parent) -> usize
 {
     match parent {
         Parent::FlussoOrdinativi => 6,
-        Parent::Mandato(_) => 5,
-        Parent::Reversale(_) => 5,
-        Parent::InformazioniBeneficiario(r) => line_rows(r),
-        Parent::InformazioniVersante(r) => line_rows(r),
-        Parent::SostituzioneMandato => 3,
-        Parent::SostituzioneReversale => 3,
-        Parent::Beneficiario => 1,
-        Parent::Versante => 1,
-        Parent::MessaggiEsito => 4,
-        Parent::TestataMessaggio => 9,
-        Parent::EsitoReversali => 9,
-        Parent::EsitoMandati => 9,
-        Parent::ErroriReversali => 4,
-        Parent::ErroriMandati => 4,
-        Parent::FlussoOpi => 3,
-        Parent::TestataFlusso => 4,
+        Parent::Mandato(_) | Parent::Reversale(_) => 5,
+        Parent::InformazioniBeneficiario(r) | Parent::InformazioniVersante(r) => line_rows(r),
+        Parent::SostituzioneMandato | Parent::SostituzioneReversale | Parent::FlussoOpi => 3,
+        Parent::Beneficiario | Parent::Versante => 1,
+        Parent::TestataMessaggio | Parent::EsitoReversali | Parent::EsitoMandati => 9,
+        Parent::MessaggiEsito
+        | Parent::ErroriReversali
+        | Parent::ErroriMandati
+        | Parent::TestataFlusso => 4,
     }
 }
 
@@ -107,13 +86,11 @@ fn filled_in(row: usize, n: usize, to: usize, pairs: &[u8]) -> bool
     if to < row {
         return false;
     }
-    let mut i = row;
     let mut m = n;
-    while i < to {
+    for i in row..to {
         if !row_allows(i, m, pairs) {
             return false;
         }
-        i += 1;
         m = 0;
     }
     true
@@ -138,10 +115,12 @@ pub fn filled(parent: Parent, row: usize, n: usize, to: usize) -> bool
         Parent::FlussoOrdinativi => filled_in(row, n, to, &FLUSSO_ORDINATIVI),
         Parent::Mandato(_) => filled_in(row, n, to, &MANDATO),
         Parent::Reversale(_) => filled_in(row, n, to, &REVERSALE),
-        Parent::InformazioniBeneficiario(r) => line_filled(row, n, to, r),
-        Parent::InformazioniVersante(r) => line_filled(row, n, to, r),
-        Parent::SostituzioneMandato => filled_in(row, n, to, &SOSTITUZIONE),
-        Parent::SostituzioneReversale => filled_in(row, n, to, &SOSTITUZIONE),
+        Parent::InformazioniBeneficiario(r) | Parent::InformazioniVersante(r) => {
+            line_filled(row, n, to, r)
+        }
+        Parent::SostituzioneMandato | Parent::SostituzioneReversale => {
+            filled_in(row, n, to, &SOSTITUZIONE)
+        }
         Parent::Beneficiario => filled_in(row, n, to, &BENEFICIARIO),
         Parent::Versante => filled_in(row, n, to, &VERSANTE),
         Parent::MessaggiEsito => filled_in(row, n, to, &MESSAGGI_ESITO),
@@ -159,25 +138,13 @@ pub fn filled(parent: Parent, row: usize, n: usize, to: usize) -> bool
 fn ones(parent: Parent) -> bool
     ensures { result ≡ all_one (ranges (table parent)) }
 {
-    match parent {
-        Parent::FlussoOrdinativi => true,
-        Parent::Mandato(_) => true,
-        Parent::Reversale(_) => true,
-        Parent::InformazioniBeneficiario(_) => true,
-        Parent::InformazioniVersante(_) => true,
-        Parent::SostituzioneMandato => true,
-        Parent::SostituzioneReversale => true,
-        Parent::Beneficiario => true,
-        Parent::Versante => true,
-        Parent::MessaggiEsito => true,
-        Parent::TestataMessaggio => true,
-        Parent::EsitoReversali => false,
-        Parent::EsitoMandati => false,
-        Parent::ErroriReversali => false,
-        Parent::ErroriMandati => false,
-        Parent::FlussoOpi => true,
-        Parent::TestataFlusso => true,
-    }
+    !matches!(
+        parent,
+        Parent::EsitoReversali
+            | Parent::EsitoMandati
+            | Parent::ErroriReversali
+            | Parent::ErroriMandati
+    )
 }
 
 // As `filled`, for a row of the parent: mostly one more element of the row follows, or one of the next row after one, and no row need be looked at.
@@ -185,22 +152,11 @@ pub fn in_turn(parent: Parent, row: usize, n: usize, to: usize) -> bool
     requires { row < length (ranges (table parent)) }
     ensures { result ≡ filled_from (ranges (table parent)) row n to }
 {
-    if to == row {
-        return true;
-    }
-    if row < to {
-        if to - row == 1 {
-            if n == 1 {
-                if ones(parent) {
-                    return true;
-                }
-            }
-        }
-    }
-    filled(parent, row, n, to)
+    to == row || row < to && to - row == 1 && n == 1 && ones(parent) || filled(parent, row, n, to)
 }
 
 // How many elements of row `to` there are with one more, after n of `row`.
+#[tactic(auto, unfolding(crate::specs::Walk::counted_of))]
 pub fn counted(row: usize, n: usize, to: usize) -> usize
     requires { n < 18446744073709551615 }
     ensures { result ≡ counted_of row n to }
@@ -213,8 +169,5 @@ pub fn text_only(s: &[u8], at: usize, past: &[u32]) -> bool
     requires { (at ≤ length s.now) × Noted s.now past.now }
     ensures { result ≡ text_only s.now at }
 {
-    match children::child_at(s, scan::white_end(s, at), past) {
-        Step::One(_) => false,
-        Step::End => true,
-    }
+    children::child_at(s, scan::white_end(s, at), past).is_none()
 }

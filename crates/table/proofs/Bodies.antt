@@ -1,4 +1,5 @@
 -- What a table whose contents are right tells of each body: its slots lie past the entries, within the table and apart from those of every other body, and its code is its own.
+use Rattle.std.specs.Prelude.{Some}
 use mathlib.Core.Path.{◌≡◌, refl, sym, ap, ◌∙◌}
 use mathlib.Core.List.{List}
 use mathlib.Core.Bool.{Bool, true, false, ◌&&◌}
@@ -10,7 +11,6 @@ use lib.ListN.{length}
 use lib.Dec.{leb}
 use borrow.Author.Tests.{leb-true, leb-false}
 use Rattle.record.specs.Slot.{slot_size}
-use Rattle.ranges.specs.declared.Found.TheVariants.{At}
 use Rattle.entries.specs.Entry.{entry_size, code_at, slots_of, place_of}
 use Rattle.entries.proofs.Laws.{times, Form, form}
 use Rattle.entries.proofs.Codes.{found_below, found_code, found_own, found_one}
@@ -149,13 +149,13 @@ module _ (t : List ℕ) (ok : table_ok t ≡ true) where
           inr (before c b (below c b (omega arith) d) h)
 
   -- BODIES BY CODE: what is found has the code, each code finds its own body, and no two bodies share one
-  pub found_body : (code : List ℕ) (b : ℕ) → body_of t code ≡ At b → b < bodies t
+  pub found_body : (code : List ℕ) (b : ℕ) → body_of t code ≡ Some b → b < bodies t
   found_body code b e = found_below entry_size t head_size (bodies t) code b e
 
-  pub body_code : (code : List ℕ) (b : ℕ) → body_of t code ≡ At b → code_at t (entry_of b) ≡ code
+  pub body_code : (code : List ℕ) (b : ℕ) → body_of t code ≡ Some b → code_at t (entry_of b) ≡ code
   body_code code b e = found_code entry_size t head_size (bodies t) code b e
 
-  pub own_body : (b : ℕ) → b < bodies t → body_of t (code_at t (entry_of b)) ≡ At b
+  pub own_body : (b : ℕ) → b < bodies t → body_of t (code_at t (entry_of b)) ≡ Some b
   own_body b h = found_own entry_size t head_size (bodies t) (table table2 t ok).distinct b h
 
   pub one_body : (b c : ℕ) → b < bodies t → c < bodies t → code_at t (entry_of b) ≡ code_at t (entry_of c) → b ≡ c

@@ -1,7 +1,10 @@
 -- Laws of the head, the entries and the layout: what the code of this crate goes by, and what a valid table tells.
+use Rattle.std.specs.Prelude.{Some, None}
+use Rattle.std.proofs.lemmas.Option.{some_pair_parts}
 use mathlib.Core.Path.{◌≡◌, refl, sym, ap, ◌∙◌}
 use mathlib.Core.List.{List}
 use mathlib.Core.Bool.{Bool, true, false, ◌&&◌, cond}
+use Rattle.std.proofs.lemmas.Option.{some_pair_parts}
 use Prim.Native.Nat.{ℕ, zero, suc, ◌+◌, ◌-◌, ◌*◌, ◌≤◌, ◌<◌}
 use native.Mathlib.Nat.{mul-le-mul}
 use native.Mathlib.Omega.{arith}
@@ -15,12 +18,11 @@ use Rattle.record.specs.Slot.{slot_size}
 use Rattle.ranges.specs.Ranges.{zeros}
 use Rattle.slots.specs.Slots.{records_at}
 use Rattle.record.specs.declared.Record.{Record}
-use Rattle.body.specs.Body.{body_ok, cents_of, all_later}
+use Rattle.body.specs.Body.{body_ok, all_later}
 use Rattle.body.specs.Inner.{summed}
-use Rattle.body.specs.declared.Sums.TheVariants.{Broken, Right}
 use Rattle.body.proofs.Laws.{summed_right, summed_broken}
 use Rattle.body.proofs.Later.{open_later}
-use Rattle.entries.specs.Entry.{entry_size, kept, closed_of, closed_ok, slots_of, place_of, form_ok, forms_ok, codes_from, distinct_codes}
+use Rattle.entries.specs.Entry.{entry_size, closed_of, closed_ok, slots_of, place_of, form_ok, forms_ok, codes_from, distinct_codes}
 use Rattle.entries.proofs.Laws.{times, Form, form}
 use Rattle.bounds.specs.Bounds.{max_bodies}
 use Rattle.table.specs.declared.Layout.{Layout}
@@ -60,29 +62,13 @@ module _ (L : Layout) (t : List ℕ) where
   unfolding head_ok
   head_short h = rw (lt-leb head_size (length t) h)
 
-  pub head_over : head_size ≤ length t → L.most < length t → head_ok L t ≡ false
-  unfolding head_ok
-  head_over lo h = rw (le-leb head_size (length t) lo, lt-leb (length t) L.most h)
-
   module _ (lo : head_size ≤ length t) (hi : length t ≤ L.most) (n : ℕ) (e : n ≡ bodies t) where
-    pub head_none : n < 1 → head_ok L t ≡ false
-    unfolding head_ok
-    head_none h = rw (le-leb head_size (length t) lo, le-leb (length t) L.most hi, ← e, lt-leb 1 n h)
-
-    pub head_many : 16 < n → head_ok L t ≡ false
-    unfolding head_ok
-    head_many h = rw (le-leb head_size (length t) lo, le-leb (length t) L.most hi, ← e, le-leb 1 n (omega arith), lt-leb n 16 h)
-
     module _ (a : 1 ≤ n) (b : n ≤ 16) (v : ℕ) (f : v ≡ be2 t 2) where
       pub head_first : (v ≡ L.number → ⊥) → head_ok L t ≡ false
       unfolding head_ok
       head_first h = rw (le-leb head_size (length t) lo, le-leb (length t) L.most hi, ← e, le-leb 1 n a, le-leb n 16 b, ← f, ne_eqb v L.number h)
 
       module _ (o : v ≡ L.number) (l : ℕ) (g : l ≡ be4 t 4) where
-        pub head_other : (l ≡ length t → ⊥) → head_ok L t ≡ false
-        unfolding head_ok
-        head_other h = rw (le-leb head_size (length t) lo, le-leb (length t) L.most hi, ← e, le-leb 1 n a, le-leb n 16 b, ← f, eq-eqb v L.number o, ← g, ne_eqb l (length t) h)
-
         module _ (s : l ≡ length t) where
           -- what is left to test
           rest : head_ok L t ≡ (all is_digit (part t 8 13) && (zeros t 13 16 && leb (head_size + L.entry * n) (length t)))
@@ -93,9 +79,6 @@ module _ (L : Layout) (t : List ℕ) where
           head_abi h = rw (rest, h)
 
           module _ (d : all is_digit (part t 8 13) ≡ true) where
-            pub head_pad : zeros t 13 16 ≡ false → head_ok L t ≡ false
-            head_pad h = rw (rest, d, h)
-
             pub head_room : zeros t 13 16 ≡ true → head_ok L t ≡ leb (head_size + L.entry * n) (length t)
             head_room h = rw (rest, d, h)
 
@@ -111,10 +94,6 @@ module _ (L : Layout) (t : List ℕ) (at p : ℕ) where
     entry_place h = rw (f, ← e, ne_eqb q p h)
 
     module _ (h : q ≡ p) {b : Bool} (g : b ≡ year_ok L t at) where
-      pub entry_year : b ≡ false → entry_ok L t at p ≡ false
-      unfolding entry_ok
-      entry_year y = rw (f, ← e, eq-eqb q p h, ← g, y)
-
       pub entry_rest_lem : b ≡ true → entry_ok L t at p ≡ zeros t (at + L.rest) (at + L.entry)
       unfolding entry_ok
       entry_rest_lem y = rw (f, ← e, eq-eqb q p h, ← g, y)
@@ -191,25 +170,18 @@ module _ (L : Layout) (t : List ℕ) (at k p : ℕ) (h : 0 < k) (l : layout_ok L
 pub body_same : (t : List ℕ) {a b p n : ℕ} → a ≡ p → b ≡ n → body_ok t a b ≡ body_ok t p n
 body_same t e f i = body_ok t (e i) (f i)
 
--- an entry that keeps these sums
-pub kept_not : (t : List ℕ) (at v p q : ℕ) → v ≡ kept 1 t at → (v ≡ p → ⊥) → sums_agree t at p q ≡ false
-kept_not t at v p q e n = rw (← e, ne_eqb v p n)
-
-pub kept_go : (t : List ℕ) (at v p q : ℕ) → v ≡ kept 1 t at → v ≡ p → sums_agree t at p q ≡ eqb (kept 2 t at) q
-kept_go t at v p q e f = rw (← e, eq-eqb v p f)
-
 -- the body of one entry, judged: its place p and its slots n are read, and its sums told
 module _ (L : Layout) (t : List ℕ) (at : ℕ) {p n : ℕ} (e : p ≡ place_of t at) (f : n ≡ slots_of t at) where
   its : summed (body_ok t p n) (records_at t p n) ≡ summed (body_ok t (place_of t at) (slots_of t at)) (records_of t at)
   its i = summed (body_ok t (e i) (f i)) (records_at t (e i) (f i))
 
-  pub holds_not : summed (body_ok t p n) (records_at t p n) ≡ Broken → body_holds L t at ≡ false
+  pub holds_not : summed (body_ok t p n) (records_at t p n) ≡ None → body_holds L t at ≡ false
   unfolding body_holds
   holds_not g = rw (summed_broken (body_ok t (place_of t at) (slots_of t at)) (records_of t at) (sym its ∙ g))
 
-  module _ {a b : ℕ} (g : summed (body_ok t p n) (records_at t p n) ≡ Right a b) where
-    its_right : (body_ok t (place_of t at) (slots_of t at) ≡ true) × (Right a b ≡ summed true (records_of t at))
-    its_right = summed_right (body_ok t (place_of t at) (slots_of t at)) (records_of t at) a b (sym its ∙ g)
+  module _ {a b : ℕ} (g : summed (body_ok t p n) (records_at t p n) ≡ Some (a, b)) where
+    its_right : (body_ok t (place_of t at) (slots_of t at) ≡ true) × (Some (a, b) ≡ summed true (records_of t at))
+    its_right = summed_right (body_ok t (place_of t at) (slots_of t at)) (records_of t at) (a, b) (sym its ∙ g)
 
     module _ {c : Bool} (q : c ≡ lines_hold L (records_at t p n)) where
       read_lines : lines_hold L (records_at t p n) ≡ lines_hold L (records_of t at)
@@ -241,10 +213,8 @@ module _ (L : Layout) (t : List ℕ) (at : ℕ) {p n : ℕ} (e : p ≡ place_of 
         pub holds_kept : d ≡ true → L.keeps ≡ true → body_holds L t at ≡ sums_agree t at a b
         unfolding agrees
         holds_kept x k =
-            let z = its_right.1 in
-            let u : a ≡ cents_of 1 (records_of t at) = cc in
-            let v : b ≡ cents_of 2 (records_of t at) = cc in
-            its_last x k ∙ rw (← u, ← v)
+            let z = some_pair_parts a _ b _ its_right.1 in
+            its_last x k ∙ rw (← z.0, ← z.1)
 
         pub holds_bare : d ≡ true → L.keeps ≡ false → body_holds L t at ≡ true
         holds_bare x k = its_last x k

@@ -1,6 +1,6 @@
 -- The table (document 01, "The table"): "Contents first, then the bodies' records. Numbers have the highest byte first; the buffer has exactly the
 -- length that the head states". Document 02, Req 04, makes it table 2; a table 1 is only converted.
-use Rattle.std.specs.Prelude.{ℕ, zero, suc, ◌+◌, ◌*◌, Bool, true, false, ◌&&◌, cond, List, length, eqb, leb}
+use Rattle.std.specs.Prelude.{ℕ, zero, suc, ◌+◌, ◌*◌, Bool, true, false, ◌&&◌, cond, List, length, eqb, leb, Option}
 use Rattle.scan.specs.Bytes.{between, part, all, is_digit}
 use Rattle.bounds.specs.Bounds.{abi_length, max_bodies, max_length}
 use Rattle.words.specs.Numbers.{be2, be4}
@@ -9,7 +9,6 @@ use Rattle.record.specs.declared.Record.{Record}
 use Rattle.ranges.specs.Ranges.{zeros}
 use Rattle.slots.specs.Slots.{records_at}
 use Rattle.body.specs.Body.{body_ok, cents_of, none_replaced, all_later}
-use Rattle.ranges.specs.declared.Found.{Found}
 use Rattle.entries.specs.Entry.{entry_size, entry_fixed, entry_rest, kept, closed_of, closed_ok, slots_of, place_of, form_ok, codes_from, find_code, distinct_codes}
 use Rattle.table.specs.declared.Layout.{Layout}
 
@@ -111,7 +110,7 @@ abbrev pub codes_of : List ℕ → List (List ℕ)
 codes_of t = codes_from entry_size t head_size (bodies t)
 
 -- which body has this code
-abbrev pub body_of : List ℕ → List ℕ → Found
+abbrev pub body_of : List ℕ → List ℕ → Option ℕ
 body_of t code = find_code (codes_of t) 0 code
 
 -- where body b's entry begins

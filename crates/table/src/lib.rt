@@ -11,8 +11,7 @@ ghost use Rattle.entries.specs.Entry.{entry_size, slots_of, place_of};
 ghost use Rattle.table.specs.Table.{table1, table2, head_size, bodies, head_ok, year_ok, entry_ok, layout_ok, lines_hold, years_hold, body_holds, bodies_ok, valid_as, table_ok, body_of, contents_ok};
 ghost use Rattle.table.specs.Inner.{Known, sums_agree};
 
-use body::Sums;
-use ranges::{Class, Found};
+use ranges::Class;
 
 pub const HEAD: usize = 16;
 
@@ -73,37 +72,22 @@ pub fn body_count(t: &[u8]) -> usize
     words::read2(t, 0) as usize
 }
 
+#[tactic(auto, using(crate::proofs::Laws::entries_most), unfolding(crate::specs::Table::head_ok))]
 fn head_ok(t: &[u8], l: Layout) -> bool
     requires { Known l }
     ensures { result ≡ head_ok l t.now }
 {
-    let len = t.len();
-    if len < HEAD {
-        return false;
-    }
-    if l.most < len {
+    if !(HEAD..=l.most).contains(&t.len()) {
         return false;
     }
     let n = body_count(t);
-    if n < 1 {
+    if !(1..=bounds::MAX_BODIES).contains(&n) || t.len() < HEAD + l.entry * n {
         return false;
     }
-    if bounds::MAX_BODIES < n {
-        return false;
-    }
-    if words::read2(t, 2) != l.number {
-        return false;
-    }
-    if words::read4(t, 4) != len as u64 {
-        return false;
-    }
-    if !ranges::are_of(t, ABI, REST, Class::Digits) {
-        return false;
-    }
-    if !ranges::are_zero(t, REST, HEAD) {
-        return false;
-    }
-    HEAD + l.entry * n <= len
+    words::read2(t, 2) == l.number
+        && words::read4(t, 4) == t.len() as u64
+        && ranges::are_of(t, ABI, REST, Class::Digits)
+        && ranges::are_zero(t, REST, HEAD)
 }
 
 // Whether an entry's closed year may stand, where it has one.
@@ -111,43 +95,31 @@ fn year_ok(t: &[u8], at: usize, l: Layout) -> bool
     requires { Known l × (at + l.entry ≤ length t.now) }
     ensures { result ≡ year_ok l t.now at }
 {
-    if l.closes {
-        entries::closed_ok(entries::closed_of(t, at))
-    } else {
-        true
-    }
+    !l.closes || entries::closed_ok(entries::closed_of(t, at))
 }
 
+#[tactic(auto, unfolding(crate::specs::Table::entry_ok))]
 fn entry_ok(t: &[u8], at: usize, p: usize, l: Layout) -> bool
     requires { Known l × (at + l.entry ≤ length t.now) × (length t.now ≤ max_length) }
     ensures { result ≡ entry_ok l t.now at p }
 {
-    if !entries::form_ok(t, at) {
-        return false;
-    }
-    if entries::place_of(t, at) != p {
-        return false;
-    }
-    if !year_ok(t, at, l) {
-        return false;
-    }
-    ranges::are_zero(t, at + l.rest, at + l.entry)
+    entries::form_ok(t, at)
+        && entries::place_of(t, at) == p
+        && year_ok(t, at, l)
+        && ranges::are_zero(t, at + l.rest, at + l.entry)
 }
 
 fn layout_ok(t: &[u8], n: usize, l: Layout) -> bool
     requires { Known l × (n ≤ max_bodies) × (head_size + l.entry * n ≤ length t.now) × (length t.now ≤ max_length) }
     ensures { result ≡ layout_ok l t.now head_size n (head_size + l.entry * n) }
 {
-    let mut at = HEAD;
-    let mut left = n;
     let mut p = HEAD + l.entry * n;
-    while 0 < left {
+    for i in 0..n {
+        let at = HEAD + l.entry * i;
         if !entry_ok(t, at, p, l) {
             return false;
         }
         p += record::SLOT * entries::slots_of(t, at);
-        at += l.entry;
-        left -= 1;
     }
     p == t.len()
 }
@@ -157,10 +129,8 @@ fn kept_are(t: &[u8], at: usize, paid: u64, collected: u64) -> bool
     requires { at + entry_size ≤ length t.now }
     ensures { result ≡ sums_agree t.now at paid collected }
 {
-    if words::read8(t, at + entries::FIXED) != paid {
-        return false;
-    }
-    words::read8(t, at + entries::COLLECTED) == collected
+    words::read8(t, at + entries::FIXED) == paid
+        && words::read8(t, at + entries::COLLECTED) == collected
 }
 
 // Whether a body's lines are as the layout has them: where none may be replaced, none is.
@@ -168,10 +138,7 @@ fn lines_hold(t: &[u8], base: usize, n: usize, l: Layout) -> bool
     requires { base + slot_size * n ≤ length t.now }
     ensures { result ≡ lines_hold l (records_at t.now base n) }
 {
-    if l.replaces {
-        return true;
-    }
-    body::none_replaced(t, base, n)
+    l.replaces || body::none_replaced(t, base, n)
 }
 
 // Whether a valid body's records are of later years than the entry's closed one, where it has one. A body that never closed is not walked again: valid
@@ -184,13 +151,11 @@ fn years_hold(t: &[u8], at: usize, base: usize, n: usize, l: Layout) -> bool
         return true;
     }
     let closed = entries::closed_of(t, at);
-    if closed == 0 {
-        return true;
-    }
-    body::all_later(t, base, n, closed)
+    closed == 0 || body::all_later(t, base, n, closed)
 }
 
 // Whether the body of the entry at a place is valid, and what the entry keeps agrees with it.
+#[tactic(auto, using(crate::proofs::Laws::holds_not, crate::proofs::Laws::holds_lines, crate::proofs::Laws::holds_years, crate::proofs::Laws::holds_kept, crate::proofs::Laws::holds_bare))]
 fn body_holds(t: &[u8], at: usize, l: Layout) -> bool
     requires { Known l × (at + l.entry ≤ length t.now) × (place_of t.now at + slot_size * slots_of t.now at ≤ length t.now)
         × (slots_of t.now at ≤ max_slots) }
@@ -198,20 +163,12 @@ fn body_holds(t: &[u8], at: usize, l: Layout) -> bool
 {
     let base = entries::place_of(t, at);
     let n = entries::slots_of(t, at);
-    let Sums::Right(paid, collected) = body::judge(t, base, n) else {
+    let Some((paid, collected)) = body::judge(t, base, n) else {
         return false;
     };
-    if !lines_hold(t, base, n, l) {
-        return false;
-    }
-    if !years_hold(t, at, base, n, l) {
-        return false;
-    }
-    if l.keeps {
-        kept_are(t, at, paid, collected)
-    } else {
-        true
-    }
+    lines_hold(t, base, n, l)
+        && years_hold(t, at, base, n, l)
+        && (!l.keeps || kept_are(t, at, paid, collected))
 }
 
 fn bodies_ok(t: &[u8], n: usize, l: Layout) -> bool
@@ -219,19 +176,16 @@ fn bodies_ok(t: &[u8], n: usize, l: Layout) -> bool
         × (layout_ok l t.now head_size n (head_size + l.entry * n) ≡ true) }
     ensures { result ≡ bodies_ok l t.now head_size n }
 {
-    let mut at = HEAD;
-    let mut left = n;
-    while 0 < left {
-        if !body_holds(t, at, l) {
+    for i in 0..n {
+        if !body_holds(t, HEAD + l.entry * i, l) {
             return false;
         }
-        at += l.entry;
-        left -= 1;
     }
     true
 }
 
 // Whether head and entries of any bytes at all are right, what the entries keep aside.
+#[tactic(auto, using(crate::proofs::Laws::contents_layout, crate::proofs::Laws::contents_codes))]
 pub fn contents_ok(t: &[u8], l: Layout) -> bool
     requires { Known l }
     ensures { result ≡ contents_ok l t.now }
@@ -240,22 +194,16 @@ pub fn contents_ok(t: &[u8], l: Layout) -> bool
         return false;
     }
     let n = body_count(t);
-    if !layout_ok(t, n, l) {
-        return false;
-    }
-    entries::codes_distinct(t, HEAD, l.entry, n)
+    layout_ok(t, n, l) && entries::codes_distinct(t, HEAD, l.entry, n)
 }
 
 // Whether any bytes at all are a valid table of this layout.
+#[tactic(auto, using(crate::proofs::Laws::table_contents, crate::proofs::Laws::table_bodies))]
 pub fn valid_as(t: &[u8], l: Layout) -> bool
     requires { Known l }
     ensures { result ≡ valid_as l t.now }
 {
-    if !contents_ok(t, l) {
-        return false;
-    }
-    let n = body_count(t);
-    bodies_ok(t, n, l)
+    contents_ok(t, l) && bodies_ok(t, body_count(t), l)
 }
 
 // Whether any bytes at all are a valid table.
@@ -266,7 +214,7 @@ pub fn table_ok(t: &[u8]) -> bool
 }
 
 // Which body of a valid table has this code.
-pub fn find_body(t: &[u8], code: &[u8]) -> Found
+pub fn find_body(t: &[u8], code: &[u8]) -> Option<usize>
     requires { table_ok t.now ≡ true }
     ensures { result ≡ body_of t.now code.now }
 {

@@ -1,4 +1,5 @@
 -- A tag stands wherever its bytes stand: what is seen of the bytes by themselves is seen of them in a flow.
+use Rattle.std.specs.Prelude.{Option, Result, Some, None, Ok, Err}
 use mathlib.Core.Path.{◌≡◌, refl, sym, ap, ◌∙◌}
 use mathlib.Core.List.{List, [], ◌∷◌, ◌++◌}
 use mathlib.Core.Bool.{Bool, true, false, cond, ◌&&◌}
@@ -9,8 +10,6 @@ use lib.ListN.{length, drop, length-drop, length-take}
 use lib.Seq.{drop-drop, drop-append-le, take-append-le}
 use lib.Dec.{leb, eqb}
 use borrow.Author.Tests.{eqb-true, leb-true}
-use Rattle.scan.specs.declared.Walk.{Walk}
-use Rattle.scan.specs.declared.Walk.TheVariants.{Past, Broken}
 use Rattle.scan.specs.Bytes.{bytes, byte, byte_at, part, is_letter, is_digit, is_name_byte, run, run_end, starts_with, has_at}
 use Rattle.scan.proofs.Laws.{both, cond_past, stands, has_within}
 use Rattle.tokens.specs.Tokens.{name_at, end_tag_at}
@@ -21,11 +20,7 @@ use Rattle.schema.specs.declared.Parent.{Parent}
 use Rattle.schema.specs.declared.Parent.TheVariants.{FlussoOrdinativi, Mandato, Reversale, InformazioniBeneficiario, InformazioniVersante, Beneficiario, Versante, FlussoOpi, TestataFlusso}
 use Rattle.schema.specs.declared.Holds.{Holds}
 use Rattle.schema.specs.declared.Holds.TheVariants.{Text, Rows}
-use Rattle.schema.specs.declared.Spot.{Spot}
-use Rattle.schema.specs.declared.Spot.TheVariants.{At, Passed}
 use Rattle.schema.specs.Table.{Named, ◌is◌, Row, table, name_is, among, spot_in}
-use Rattle.tags.specs.declared.Tag.{Tag}
-use Rattle.tags.specs.declared.Tag.TheVariants.{Opening, Other}
 use Rattle.tags.specs.Tags.{Opens, Seen}
 use Rattle.tags.specs.Inner.{tag_at, order_at, Heads}
 use Rattle.tags.proofs.Words.{has_join, has_same}
@@ -57,10 +52,10 @@ module _ (x s : List ℕ) (i : ℕ) (has : has_at x s i ≡ true) where
       let z = run_append p (drop k x) (has_join x s i has).0 (omega (arith, length-drop k x)) in
       rw (after k h, z) (omega arith)
 
-  pub name_in : (e : ℕ) → name_at x 1 ≡ Past e → e < length x → name_at s (i + 1) ≡ Past (i + e)
+  pub name_in : (e : ℕ) → name_at x 1 ≡ Ok e → e < length x → name_at s (i + 1) ≡ Ok (i + e)
   unfolding name_at
   name_in e n l =
-      let c = cond_past (is_letter (byte_at x 1) && leb (run_end is_name_byte x 1 - 1) 48) (Past (run_end is_name_byte x 1)) 1 n in
+      let c = cond_past (is_letter (byte_at x 1) && leb (run_end is_name_byte x 1 - 1) 48) (Ok (run_end is_name_byte x 1)) 1 n in
       let b = both (is_letter (byte_at x 1)) (leb (run_end is_name_byte x 1 - 1) 48) c.0 in
       let y = c.1 in
       let r : run_end is_name_byte x 1 ≡ e = cc in
@@ -80,7 +75,7 @@ module _ (x s : List ℕ) (i : ℕ) (has : has_at x s i ≡ true) where
       go false f = refl
 
   module _ (e : ℕ) (h : 1 ≤ e) (l : e ≤ length x) where
-    among_in : (ns : List Named) (n : ℕ) (o w : Spot) → o ≡ w → among ns n s (i + 1) (i + e) o ≡ among ns n x 1 e w
+    among_in : (ns : List Named) (n : ℕ) (o w : Option (ℕ × Holds)) → o ≡ w → among ns n s (i + 1) (i + e) o ≡ among ns n x 1 e w
     among_in [] n o w f = f
     among_in ((y is k) ∷ ns) n o w f = rw (is_in (bytes y) 1 e h l, among_in ns n o w f)
 
@@ -97,10 +92,10 @@ module _ (x s : List ℕ) (i : ℕ) (has : has_at x s i ≡ true) where
       let z : i + e - (i + a) ≡ e - a = omega arith in
       rw (z, after a (omega arith)) (take-append-le (e - a) (drop a x) (has_join x s i has).0 (omega (arith, length-drop a x)))
 
-  pub end_in : (e p q : ℕ) → 1 ≤ e → e ≤ length x → end_tag_at x 1 e p ≡ Past q → end_tag_at s (i + 1) (i + e) (i + p) ≡ Past (i + q)
+  pub end_in : (e p q : ℕ) → 1 ≤ e → e ≤ length x → end_tag_at x 1 e p ≡ Ok q → end_tag_at s (i + 1) (i + e) (i + p) ≡ Ok (i + q)
   unfolding end_tag_at
   end_in e p q h l f =
-      let c = cond_past (has_at (bytes "</") x p && (has_at (part x 1 e) x (p + 2) && eqb (byte_at x (p + 2 + (e - 1))) 62)) (Past (p + 2 + (e - 1) + 1)) p f in
+      let c = cond_past (has_at (bytes "</") x p && (has_at (part x 1 e) x (p + 2) && eqb (byte_at x (p + 2 + (e - 1))) 62)) (Ok (p + 2 + (e - 1) + 1)) p f in
       let d = both (has_at (bytes "</") x p) (has_at (part x 1 e) x (p + 2) && eqb (byte_at x (p + 2 + (e - 1))) 62) c.0 in
       let g = both (has_at (part x 1 e) x (p + 2)) (eqb (byte_at x (p + 2 + (e - 1))) 62) d.1 in
       let w : p + 2 + (e - 1) < length x = stands 61 x (p + 2 + (e - 1)) g.1 in
@@ -112,7 +107,7 @@ module _ (x s : List ℕ) (i : ℕ) (has : has_at x s i ≡ true) where
       let z₃ : i + p + 2 + (i + e - (i + 1)) + 1 ≡ i + q = omega arith in
       let k : has_at (part s (i + 1) (i + e)) s (i + p + 2) ≡ true = rw (part_in 1 e h l) (rw z₁ at (has_in (part x 1 e) (p + 2) (omega arith) ∙ g.0)) in
       let b : byte_at s (i + p + 2 + (i + e - (i + 1))) ≡ 62 = rw z₂ at (has_same s x i has (p + 2 + (e - 1)) w ∙ eqb-true _ _ g.1) in
-      end_some s (i + 1) (i + e) (i + p) (has_in (bytes "</") p (omega arith) ∙ d.0) k b ∙ ap Past z₃
+      end_some s (i + 1) (i + e) (i + p) (has_in (bytes "</") p (omega arith) ∙ d.0) k b ∙ ap Ok z₃
 
   pub opens_in : (p : Parent) (e row : ℕ) (h : Holds) → i ≤ length s → Opens p x 0 e row h → Opens p s i (i + e) row h
   opens_in p e row h w o =
@@ -128,34 +123,34 @@ module _ (x s : List ℕ) (i : ℕ) (has : has_at x s i ≡ true) where
       }
 
 -- the tag x compared: it opens a child of p, else what is seen is said by the others
-seen : (p : Parent) (x : List ℕ) (row : ℕ) (h : Holds) (s : List ℕ) (i : ℕ) (others : Tag) → i ≤ length s → Opens p x 0 (length x - 1) row h → Seen p s i others → Seen p s i (tag_at x row h s i others)
+seen : (p : Parent) (x : List ℕ) (row : ℕ) (h : Holds) (s : List ℕ) (i : ℕ) (others : Option (ℕ × ℕ × Holds)) → i ≤ length s → Opens p x 0 (length x - 1) row h → Seen p s i others → Seen p s i (tag_at x row h s i others)
 seen p x row h s i others w o q = go (has_at x s i) refl
   where
-    go : (b : Bool) → has_at x s i ≡ b → Seen p s i (cond b (Opening (i + (length x - 1)) row h) others)
+    go : (b : Bool) → has_at x s i ≡ b → Seen p s i (cond b (Some ((i + (length x - 1)), row, h)) others)
     go true f = opens_in x s i f p (length x - 1) row h w o
     go false f = q
 
 -- BYTES BY THEMSELVES
-past_at : Walk → ℕ → Bool
-past_at (Past p) e = eqb p e
-past_at (Broken p) e = false
+past_at : Result ℕ ℕ → ℕ → Bool
+past_at (Ok p) e = eqb p e
+past_at (Err p) e = false
 
-past_at_lem : (w : Walk) (e : ℕ) → past_at w e ≡ true → w ≡ Past e
+past_at_lem : (w : Result ℕ ℕ) (e : ℕ) → past_at w e ≡ true → w ≡ Ok e
 unfolding past_at
-past_at_lem (Past p) e h = ap Past (eqb-true p e h)
-past_at_lem (Broken p) e h = let z : ◌≡◌ {A = ℕ} 0 1 = cc in absurd (omega arith)
+past_at_lem (Ok p) e h = ap Ok (eqb-true p e h)
+past_at_lem (Err p) e h = let z : ◌≡◌ {A = ℕ} 0 1 = cc in absurd (omega arith)
 
 -- the row of p's table that the tag x is of, where it is a tag
-pub alone : Parent → List ℕ → Spot
+pub alone : Parent → List ℕ → Option (ℕ × Holds)
 alone p x =
     cond (eqb (byte_at x 0) (byte "<") && (past_at (name_at x 1) (length x - 1) && (eqb (byte_at x (length x - 1)) (byte ">") && leb 1 (length x))))
-    (spot_in (table p) 0 x 1 (length x - 1)) Passed
+    (spot_in (table p) 0 x 1 (length x - 1)) None
 
-cond_at : (b : Bool) (w : Spot) {n : ℕ} {h : Holds} → cond b w Passed ≡ At n h → (b ≡ true) × (w ≡ At n h)
+cond_at : (b : Bool) (w : Option (ℕ × Holds)) {n : ℕ} {h : Holds} → cond b w None ≡ Some (n, h) → (b ≡ true) × (w ≡ Some (n, h))
 cond_at true w e = (refl, e)
 cond_at false w e = let z : ◌≡◌ {A = ℕ} 0 1 = cc in absurd (omega arith)
 
-pub alone_opens : (p : Parent) (x : List ℕ) (row : ℕ) (h : Holds) → alone p x ≡ At row h → Opens p x 0 (length x - 1) row h
+pub alone_opens : (p : Parent) (x : List ℕ) (row : ℕ) (h : Holds) → alone p x ≡ Some (row, h) → Opens p x 0 (length x - 1) row h
 unfolding alone
 alone_opens p x row h e =
     let c = cond_at (eqb (byte_at x 0) (byte "<") && (past_at (name_at x 1) (length x - 1) && (eqb (byte_at x (length x - 1)) (byte ">") && leb 1 (length x)))) (spot_in (table p) 0 x 1 (length x - 1)) e in
@@ -165,17 +160,17 @@ alone_opens p x row h e =
     record { lt = eqb-true (byte_at x 0) (byte "<") t.0; name = past_at_lem (name_at x 1) (length x - 1) u.0; gt = eqb-true (byte_at x (length x - 1)) (byte ">") v.0; within = omega (arith, leb-true 1 (length x) v.1); spot = c.1 }
 
 -- what is seen where a tag of p's is compared
-module _ (p : Parent) (x : List ℕ) (row : ℕ) (h : Holds) (s : List ℕ) (i : ℕ) (others r : Tag) where
+module _ (p : Parent) (x : List ℕ) (row : ℕ) (h : Holds) (s : List ℕ) (i : ℕ) (others r : Option (ℕ × ℕ × Holds)) where
   pub told_opens : Opens p x 0 (length x - 1) row h → i ≤ length s → Seen p s i others → r ≡ tag_at x row h s i others → Seen p s i r
   told_opens o w q e = rw e (seen p x row h s i others w o q)
 
-  pub told : alone p x ≡ At row h → i ≤ length s → Seen p s i others → r ≡ tag_at x row h s i others → Seen p s i r
+  pub told : alone p x ≡ Some (row, h) → i ≤ length s → Seen p s i others → r ≡ tag_at x row h s i others → Seen p s i r
   told a = told_opens (alone_opens p x row h a)
 
 -- THE TAGS of p's rows from n on, each by itself
 abbrev pub Spelled : Parent → ℕ → List Named → Type 0
 Spelled p n [] = Unit
-Spelled p n ((x is h) ∷ ts) = (alone p (bytes x) ≡ At n h) × Spelled p (suc n) ts
+Spelled p n ((x is h) ∷ ts) = (alone p (bytes x) ≡ Some (n, h)) × Spelled p (suc n) ts
 
 pub spelled_mandato : (r : Bool) → Spelled (Mandato r) 0 (("<tipo_operazione>" is Text TipoOperazione) ∷ ("<numero_mandato>" is Text Numero) ∷ ("<data_mandato>" is Text Data) ∷ ("<importo_mandato>" is Text Importo) ∷ ("<informazioni_beneficiario>" is Rows (InformazioniBeneficiario r)) ∷ [])
 unfolding alone past_at name_at is_letter is_digit is_name_byte run run_end name_is has_at starts_with
@@ -189,7 +184,7 @@ pub spelled_lines : (r : Bool) → Spelled (InformazioniBeneficiario r) 0 (("<pr
 unfolding alone past_at name_at is_letter is_digit is_name_byte run run_end name_is has_at starts_with
 spelled_lines r = ((refl, (refl, (refl, tt))), (refl, (refl, (refl, tt))))
 
-pub spelled_names : (alone Beneficiario (bytes "<anagrafica_beneficiario>") ≡ At 0 (Text Anagrafica)) × (alone Versante (bytes "<anagrafica_versante>") ≡ At 0 (Text Anagrafica))
+pub spelled_names : (alone Beneficiario (bytes "<anagrafica_beneficiario>") ≡ Some (0, (Text Anagrafica))) × (alone Versante (bytes "<anagrafica_versante>") ≡ Some (0, (Text Anagrafica)))
 unfolding alone past_at name_at is_letter is_digit is_name_byte run run_end name_is has_at starts_with
 spelled_names = (refl, refl)
 
@@ -202,20 +197,20 @@ pub headed : Heads DataOra FlussoOrdinativi × Heads DataOraZona TestataFlusso
 unfolding alone past_at name_at is_letter is_digit is_name_byte run run_end name_is has_at starts_with
 headed = (heads FlussoOrdinativi DataOra (refl, (refl, (refl, (refl, tt)))), heads TestataFlusso DataOraZona (refl, (refl, (refl, (refl, tt)))))
 
-pub spelled_roots : (alone FlussoOrdinativi (bytes "<esercizio>") ≡ At 4 (Text Esercizio)) × Spelled FlussoOpi 0 (("<testata_flusso>" is Rows TestataFlusso) ∷ ("<esercizio>" is Text Esercizio) ∷ [])
+pub spelled_roots : (alone FlussoOrdinativi (bytes "<esercizio>") ≡ Some (4, (Text Esercizio))) × Spelled FlussoOpi 0 (("<testata_flusso>" is Rows TestataFlusso) ∷ ("<esercizio>" is Text Esercizio) ∷ [])
 unfolding alone past_at name_at is_letter is_digit is_name_byte run run_end name_is has_at starts_with
 spelled_roots = (refl, (refl, (refl, tt)))
 
 -- orders, in their row of a root
 pub Ordered : Parent → ℕ → Type 0
-Ordered p n = (alone p (bytes "<mandato>") ≡ At n (Rows (Mandato false))) × (alone p (bytes "<reversale>") ≡ At n (Rows (Reversale false)))
+Ordered p n = (alone p (bytes "<mandato>") ≡ Some (n, (Rows (Mandato false)))) × (alone p (bytes "<reversale>") ≡ Some (n, (Rows (Reversale false))))
 
 pub ordered_roots : Ordered FlussoOrdinativi 5 × Ordered FlussoOpi 2
 unfolding Ordered alone past_at name_at is_letter is_digit is_name_byte run run_end name_is has_at starts_with
 ordered_roots = ((refl, refl), (refl, refl))
 
-pub told_order : (p : Parent) (n : ℕ) (s : List ℕ) (i : ℕ) (r : Tag) → Ordered p n → i ≤ length s → r ≡ order_at n s i → Seen p s i r
+pub told_order : (p : Parent) (n : ℕ) (s : List ℕ) (i : ℕ) (r : Option (ℕ × ℕ × Holds)) → Ordered p n → i ≤ length s → r ≡ order_at n s i → Seen p s i r
 unfolding Ordered
 told_order p n s i r a w e =
-    told p (bytes "<mandato>") n (Rows (Mandato false)) s i (tag_at (bytes "<reversale>") n (Rows (Reversale false)) s i Other) r a.0 w
-    (told p (bytes "<reversale>") n (Rows (Reversale false)) s i Other (tag_at (bytes "<reversale>") n (Rows (Reversale false)) s i Other) a.1 w tt refl) e
+    told p (bytes "<mandato>") n (Rows (Mandato false)) s i (tag_at (bytes "<reversale>") n (Rows (Reversale false)) s i None) r a.0 w
+    (told p (bytes "<reversale>") n (Rows (Reversale false)) s i None (tag_at (bytes "<reversale>") n (Rows (Reversale false)) s i None) a.1 w tt refl) e

@@ -9,13 +9,6 @@ ghost use Rattle.tags.specs.Inner.{tag_at, order_at, Heads, SeenBy};
 use fields::Form;
 use schema::{Holds, Parent};
 
-// A start tag of a parent's named child: the place of its `>`, its row and what it holds; or any other bytes, a tag or none.
-#[derive(Clone, Copy)]
-pub enum Tag {
-    Opening(usize, usize, Holds),
-    Other,
-}
-
 // Whether the bytes x stand at a position. (The last eight may overlap those before them.)
 pub fn stands(s: &[u8], at: usize, x: &[u8]) -> bool
     requires { at ≤ length s.now }
@@ -29,6 +22,7 @@ pub fn stands(s: &[u8], at: usize, x: &[u8]) -> bool
         return scan::has(s, at, x);
     }
     let last = n - 8;
+    // Kept as a loop by index: it steps by eight, and `step_by` asks for a measure and a proof of its own, so it is no plainer.
     let mut i = 0;
     while i < last {
         if words::read8(s, at + i) != words::read8(x, i) {
@@ -40,36 +34,37 @@ pub fn stands(s: &[u8], at: usize, x: &[u8]) -> bool
 }
 
 // The tag x of a row, where it stands.
-fn tag_at(s: &[u8], i: usize, x: &[u8], row: usize, h: Holds) -> Tag
+fn tag_at(s: &[u8], i: usize, x: &[u8], row: usize, h: Holds) -> Option<(usize, usize, Holds)>
     requires { (i ≤ length s.now) × (0 < length x.now) }
-    ensures { result ≡ tag_at x.now row h s.now i Tag.Other }
+    ensures { result ≡ tag_at x.now row h s.now i None }
 {
     if stands(s, i, x) {
-        Tag::Opening(i + (x.len() - 1), row, h)
+        Some((i + (x.len() - 1), row, h))
     } else {
-        Tag::Other
+        None
     }
 }
 
 // The tag of an order, in the row of its root that orders have.
-fn order_at(s: &[u8], i: usize, row: usize) -> Tag
+fn order_at(s: &[u8], i: usize, row: usize) -> Option<(usize, usize, Holds)>
     requires { i ≤ length s.now }
     ensures { result ≡ order_at row s.now i }
 {
     if stands(s, i, b"<mandato>") {
-        return Tag::Opening(i + 8, row, Holds::Rows(Parent::Mandato(false)));
+        Some((i + 8, row, Holds::Rows(Parent::Mandato(false))))
+    } else {
+        tag_at(
+            s,
+            i,
+            b"<reversale>",
+            row,
+            Holds::Rows(Parent::Reversale(false)),
+        )
     }
-    tag_at(
-        s,
-        i,
-        b"<reversale>",
-        row,
-        Holds::Rows(Parent::Reversale(false)),
-    )
 }
 
 // The fields that the headers of both editions begin with; the form of their time differs.
-fn header_at(s: &[u8], i: usize, want: usize, time: Form) -> Tag
+fn header_at(s: &[u8], i: usize, want: usize, time: Form) -> Option<(usize, usize, Holds)>
     requires { i ≤ length s.now }
     ensures { SeenBy (Heads time) s.now i result }
 {
@@ -84,24 +79,22 @@ fn header_at(s: &[u8], i: usize, want: usize, time: Form) -> Tag
         ),
         2 => tag_at(s, i, b"<data_ora_creazione_flusso>", 2, Holds::Text(time)),
         3 => tag_at(s, i, b"<codice_ente_BT>", 3, Holds::Text(Form::CodiceEnte)),
-        _ => Tag::Other,
+        _ => None,
     }
 }
 
-fn in_flusso(s: &[u8], i: usize, want: usize) -> Tag
+fn in_flusso(s: &[u8], i: usize, want: usize) -> Option<(usize, usize, Holds)>
     requires { i ≤ length s.now }
     ensures { Seen Parent.FlussoOrdinativi s.now i result }
 {
-    if 5 <= want {
-        return order_at(s, i, 5);
+    match want {
+        0..=3 => header_at(s, i, want, Form::DataOra),
+        4 => tag_at(s, i, b"<esercizio>", 4, Holds::Text(Form::Esercizio)),
+        _ => order_at(s, i, 5),
     }
-    if want == 4 {
-        return tag_at(s, i, b"<esercizio>", 4, Holds::Text(Form::Esercizio));
-    }
-    header_at(s, i, want, Form::DataOra)
 }
 
-fn in_opi(s: &[u8], i: usize, want: usize) -> Tag
+fn in_opi(s: &[u8], i: usize, want: usize) -> Option<(usize, usize, Holds)>
     requires { i ≤ length s.now }
     ensures { Seen Parent.FlussoOpi s.now i result }
 {
@@ -118,7 +111,7 @@ fn in_opi(s: &[u8], i: usize, want: usize) -> Tag
     }
 }
 
-fn in_mandato(s: &[u8], i: usize, want: usize, replaces: bool) -> Tag
+fn in_mandato(s: &[u8], i: usize, want: usize, replaces: bool) -> Option<(usize, usize, Holds)>
     requires { i ≤ length s.now }
     ensures { Seen (Parent.Mandato replaces) s.now i result }
 {
@@ -143,7 +136,7 @@ fn in_mandato(s: &[u8], i: usize, want: usize, replaces: bool) -> Tag
     }
 }
 
-fn in_reversale(s: &[u8], i: usize, want: usize, replaces: bool) -> Tag
+fn in_reversale(s: &[u8], i: usize, want: usize, replaces: bool) -> Option<(usize, usize, Holds)>
     requires { i ≤ length s.now }
     ensures { Seen (Parent.Reversale replaces) s.now i result }
 {
@@ -169,7 +162,12 @@ fn in_reversale(s: &[u8], i: usize, want: usize, replaces: bool) -> Tag
 }
 
 // The line of a replacement order names the replaced one last: that tag is left to the general reader.
-fn in_beneficiario_line(s: &[u8], i: usize, want: usize, replaces: bool) -> Tag
+fn in_beneficiario_line(
+    s: &[u8],
+    i: usize,
+    want: usize,
+    replaces: bool,
+) -> Option<(usize, usize, Holds)>
     requires { i ≤ length s.now }
     ensures { Seen (Parent.InformazioniBeneficiario replaces) s.now i result }
 {
@@ -195,11 +193,16 @@ fn in_beneficiario_line(s: &[u8], i: usize, want: usize, replaces: bool) -> Tag
             2,
             Holds::Rows(Parent::Beneficiario),
         ),
-        _ => Tag::Other,
+        _ => None,
     }
 }
 
-fn in_versante_line(s: &[u8], i: usize, want: usize, replaces: bool) -> Tag
+fn in_versante_line(
+    s: &[u8],
+    i: usize,
+    want: usize,
+    replaces: bool,
+) -> Option<(usize, usize, Holds)>
     requires { i ≤ length s.now }
     ensures { Seen (Parent.InformazioniVersante replaces) s.now i result }
 {
@@ -213,12 +216,12 @@ fn in_versante_line(s: &[u8], i: usize, want: usize, replaces: bool) -> Tag
         ),
         1 => tag_at(s, i, b"<importo_versante>", 1, Holds::Text(Form::Importo)),
         2 => tag_at(s, i, b"<versante>", 2, Holds::Rows(Parent::Versante)),
-        _ => Tag::Other,
+        _ => None,
     }
 }
 
 // The start tag at a position, where it is the one that the row `want` lets expect. (Nothing is promised of `Other`: it costs time, never an answer.)
-pub fn expected(s: &[u8], i: usize, parent: Parent, want: usize) -> Tag
+pub fn expected(s: &[u8], i: usize, parent: Parent, want: usize) -> Option<(usize, usize, Holds)>
     requires { i ≤ length s.now }
     ensures { Seen parent s.now i result }
 {
@@ -228,8 +231,6 @@ pub fn expected(s: &[u8], i: usize, parent: Parent, want: usize) -> Tag
         Parent::Reversale(r) => in_reversale(s, i, want, r),
         Parent::InformazioniBeneficiario(r) => in_beneficiario_line(s, i, want, r),
         Parent::InformazioniVersante(r) => in_versante_line(s, i, want, r),
-        Parent::SostituzioneMandato => Tag::Other,
-        Parent::SostituzioneReversale => Tag::Other,
         Parent::Beneficiario => tag_at(
             s,
             i,
@@ -244,13 +245,8 @@ pub fn expected(s: &[u8], i: usize, parent: Parent, want: usize) -> Tag
             0,
             Holds::Text(Form::Anagrafica),
         ),
-        Parent::MessaggiEsito => Tag::Other,
-        Parent::TestataMessaggio => Tag::Other,
-        Parent::EsitoReversali => Tag::Other,
-        Parent::EsitoMandati => Tag::Other,
-        Parent::ErroriReversali => Tag::Other,
-        Parent::ErroriMandati => Tag::Other,
         Parent::FlussoOpi => in_opi(s, i, want),
         Parent::TestataFlusso => header_at(s, i, want, Form::DataOraZona),
+        _ => None,
     }
 }

@@ -1,5 +1,5 @@
 -- Laws of closing days and of the first TARGET day, a way out of the code at a time.
-use mathlib.Core.Path.{◌≡◌, refl, sym, ap, ◌∙◌}
+use mathlib.Core.Path.{◌≡◌, refl, ap}
 use mathlib.Core.Bool.{Bool, true, false, cond}
 use Prim.Native.Nat.{ℕ, zero, suc, ◌+◌, ◌-◌, ◌≤◌, ◌<◌}
 use native.Mathlib.Omega.{arith}
@@ -8,11 +8,9 @@ use lib.Dec.{eqb}
 use Rattle.calendar.specs.declared.Date.{Date}
 use Rattle.calendar.specs.Calendar.{is_date}
 use Rattle.calendar.proofs.Laws.{Ranges}
-use Rattle.days.specs.Days.{day_number, weekday, date_by, next_day, served, counted}
-use Rattle.days.proofs.Laws.{placed, served_date, counted_date}
-use Rattle.target_days.specs.Easter.{easter}
-use Rattle.target_days.specs.Target.{weekend, fixed_closing, march_day, closes_on, closing, target_code, first_from, first_target_day}
-use Rattle.target_days.specs.declared.FirstDay.{FirstDay}
+use Rattle.days.specs.Days.{next_day, served}
+use Rattle.days.proofs.Laws.{placed, served_date}
+use Rattle.target_days.specs.Target.{march_day, closing, target_code, first_from}
 
 pub march_most : (m d : ℕ) → d ≤ 31 → march_day m d ≤ 62
 unfolding march_day
@@ -33,31 +31,6 @@ pub served_real : (d : Date) → served d ≡ true → Served d
 served_real d s = let r = served_date d s in record { real = r.1; from = r.0; ranges = (placed d r.1).ranges }
 
 module _ (d : Date) where
-  pub week_of : {n w : ℕ} {b : Bool} → served d ≡ true → n ≡ counted d → w ≡ weekday n → b ≡ weekend w → weekend (weekday (day_number d)) ≡ b
-  week_of s en ew eb = let e = en ∙ counted_date d (served_real d s).real in sym (eb ∙ ap weekend (ew ∙ ap weekday e))
-
-  pub shut_week : weekend (weekday (day_number d)) ≡ true → true ≡ closing d
-  unfolding closing closes_on
-  shut_week h = rw h
-
-  module _ (h : weekend (weekday (day_number d)) ≡ false) where
-    pub shut_fixed : fixed_closing d.month d.day ≡ true → true ≡ closing d
-    unfolding closing closes_on
-    shut_fixed k = rw (h, k)
-
-    module _ (k : fixed_closing d.month d.day ≡ false) {m e : ℕ} (em : m ≡ march_day d.month d.day) (ee : e ≡ easter d.year) where
-      pub shut_friday : m + 2 ≡ e → true ≡ closing d
-      unfolding closing closes_on
-      shut_friday f = rw (h, k, ← em, ← ee, eq-eqb (m + 2) e f)
-
-      pub shut_monday : (m + 2 ≡ e → ⊥) → eqb m (e + 1) ≡ closing d
-      unfolding closing closes_on
-      shut_monday f = rw (h, k, ← em, ← ee, ne_eqb (m + 2) e f)
-
-  pub code_27 : served d ≡ false → 27 ≡ target_code d
-  unfolding target_code
-  code_27 h = rw h
-
   pub code_28 : served d ≡ true → closing d ≡ true → 28 ≡ target_code d
   unfolding target_code
   code_28 h k = rw (h, k)
@@ -75,19 +48,6 @@ module _ (d : Date) where
       go true b q z = q
       go false b q z = absurd (omega arith)
 
-  pub next_in_month : is_date (date_by d.year d.month (d.day + 1)) ≡ true → date_by d.year d.month (d.day + 1) ≡ next_day d
-  unfolding next_day
-  next_in_month h = rw h
-
-  module _ (h : is_date (date_by d.year d.month (d.day + 1)) ≡ false) where
-    pub next_month : is_date (date_by d.year (d.month + 1) 1) ≡ true → date_by d.year (d.month + 1) 1 ≡ next_day d
-    unfolding next_day
-    next_month k = rw (h, k)
-
-    pub next_year : is_date (date_by d.year (d.month + 1) 1) ≡ false → date_by (d.year + 1) 1 1 ≡ next_day d
-    unfolding next_day
-    next_year k = rw (h, k)
-
   -- THE WALK
   pub first_stop : (n : ℕ) → (target_code d ≡ 28 → ⊥) → first_from n d ≡ d
   unfolding first_from
@@ -98,11 +58,3 @@ module _ (d : Date) where
   unfolding first_from
   first_step zero l h = absurd (omega arith)
   first_step (suc n) l h = let q : n ≡ suc n - 1 = omega arith in rw (eq-eqb (target_code d) 28 h) (ap (λ (k : ℕ). first_from k (next_day d)) q)
-
-  pub first_none : served d ≡ false → ◌≡◌ {A = FirstDay} (record { code = 27; date = date_by 0 0 0 }) (first_target_day d)
-  unfolding first_target_day
-  first_none h = rw h
-
-  pub first_found : {r : Date} → served d ≡ true → r ≡ first_from 4 d → ◌≡◌ {A = FirstDay} (record { code = 0; date = r }) (first_target_day d)
-  unfolding first_target_day
-  first_found h e = rw h (λ i. record { code = 0; date = e i })

@@ -1,16 +1,14 @@
 -- A caller's texts and times (document 02, Req 01): "Caller's texts have 1 to 140 bytes of document 01's text, written as given, an empty ISTAT code left out".
-use Rattle.std.specs.Prelude.{◌≡◌, List, Bool, true, false, ◌&&◌, ◌||◌, ℕ, ◌≤◌, length, eqb}
+use Rattle.std.specs.Prelude.{◌≡◌, List, Bool, true, false, ◌&&◌, ◌||◌, ℕ, ◌≤◌, length, eqb, Result, Ok, Err}
 use Rattle.scan.specs.Bytes.{between}
-use Rattle.scan.specs.declared.Walk.{Walk}
-use Rattle.scan.specs.declared.Walk.TheVariants.{Past, Broken}
 use Rattle.tokens.specs.Tokens.{text_at}
 use Rattle.dates.specs.Dates.{data_ora_zona}
 use Rattle.grammar.specs.Grammar.{Text}
 
 -- the reader of texts goes over all of t: with no < behind it, it breaks at the end and nowhere before
-abbrev pub breaks_only_at : ℕ → Walk → Bool
-breaks_only_at n (Past q) = false
-breaks_only_at n (Broken p) = eqb p n
+abbrev pub breaks_only_at : ℕ → Result ℕ ℕ → Bool
+breaks_only_at n (Ok q) = false
+breaks_only_at n (Err p) = eqb p n
 
 unfoldable pub whole_text : List ℕ → Bool
 whole_text t = breaks_only_at (length t) (text_at t 0)

@@ -4,45 +4,34 @@
 ghost use Rattle.std.specs.Prelude.{◌≡◌};
 ghost use Rattle.texts.specs.Texts.{whole_text, caller_text, istat_text, caller_time};
 
-use scan::Walk;
-
 // Whether all of a slice is text. The reader of texts stops at a `<` and else breaks: at the end where all is text, before it where something is not.
 fn is_text(t: &[u8]) -> bool
     ensures { result ≡ whole_text t.now }
 {
     match tokens::text(t, 0) {
-        Walk::Past(_) => false,
-        Walk::Broken(p) => p == t.len(),
+        Ok(_) => false,
+        Err(p) => p == t.len(),
     }
 }
 
+#[tactic(auto, unfolding(crate::specs::Texts::caller_text))]
 pub fn is_caller_text(t: &[u8]) -> bool
     ensures { result ≡ caller_text t.now }
 {
-    if t.len() < 1 {
-        return false;
-    }
-    if 140 < t.len() {
-        return false;
-    }
-    is_text(t)
+    matches!(t.len(), 1..=140) && is_text(t)
 }
 
 // The ISTAT code may be empty.
+#[tactic(auto, unfolding(crate::specs::Texts::istat_text))]
 pub fn is_istat(t: &[u8]) -> bool
     ensures { result ≡ istat_text t.now }
 {
-    if t.len() == 0 {
-        return true;
-    }
-    is_caller_text(t)
+    t.is_empty() || is_caller_text(t)
 }
 
+#[tactic(auto, unfolding(crate::specs::Texts::caller_time))]
 pub fn is_caller_time(t: &[u8]) -> bool
     ensures { result ≡ caller_time t.now }
 {
-    if !dates::data_ora_zona(t) {
-        return false;
-    }
-    is_text(t)
+    dates::data_ora_zona(t) && is_text(t)
 }

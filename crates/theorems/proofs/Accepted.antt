@@ -1,5 +1,6 @@
 -- THE OUTCOME BYTES: each order's code there is a numbered one, and `accepted` is how many of them are 0 ("accepted (how many of them got outcome code
 -- 0)"): a reader needs the outcome buffer alone to check it.
+use Rattle.std.specs.Prelude.{Result}
 use Prim.Native.Nat.{ℕ, ◌+◌}
 use mathlib.Core.Path.{◌≡◌, refl, sym, ap, ◌∙◌}
 use mathlib.Core.Bool.{true, cond, ◌&&◌}
@@ -11,7 +12,7 @@ use Rattle.slots.specs.Slots.{records_at}
 use Rattle.order.specs.Ordinativo.{Ordinativo}
 use Rattle.rules.specs.Rules.{order_code, judge_order}
 use Rattle.service.specs.Service.{order_comes, order_leaves, outcome_bytes, all_outcomes, all_accepted}
-use Rattle.desk.specs.declared.FlowAnswer.{FlowAnswer}
+use Rattle.desk.specs.declared.FlowRefusal.{FlowRefusal}
 use Rattle.desk.specs.Desk.{Reading, refused, served, flow_reads, flow_answer, FlowPromise, flow_reply, flow_code}
 use Rattle.theorems.specs.Codes.{one_of, each_code, order_codes, outcome_codes, zero_codes}
 use Rattle.theorems.proofs.Given.{Coding, read}
@@ -46,13 +47,13 @@ module _ (base n year : ℕ) where
       ap (λ (m : ℕ). cond (eqb (order_code (judge_order n year o (records_at t base n))) 0) 1 0 + m) (counted (order_leaves t base n year o) os)
 
 -- THE THEOREMS, about what keeps the promise of a flow
-module _ (t : List ℕ) (ed : ℕ) (f out : List ℕ) (a : FlowAnswer) (t' out' : List ℕ) (p : FlowPromise t ed f out a t' out') where
+module _ (t : List ℕ) (ed : ℕ) (f out : List ℕ) (a : Result (ℕ × ℕ × ℕ) FlowRefusal) (t' out' : List ℕ) (p : FlowPromise t ed f out a t' out') where
   pub orders_in_turn : (base n year : ℕ) (os : List Ordinativo) → flow_reads t ed f (length out) ≡ served base n year os
       → ((flow_reply a).orders ≡ length os) × (outcome_codes (length os) out' ≡ codes_on t base n year os)
   unfolding put
   orders_in_turn base n year os e =
       let q = rw e at p in (
-        ap (λ (x : FlowAnswer). (flow_reply x).orders) q.0,
+        ap (λ (x : Result (ℕ × ℕ × ℕ) FlowRefusal). (flow_reply x).orders) q.0,
         ap (outcome_codes (length os)) q.2 ∙ written base n year t os (drop (0 + length (all_outcomes t base n year os)) out),
       )
 
@@ -72,5 +73,5 @@ module _ (t : List ℕ) (ed : ℕ) (f out : List ℕ) (a : FlowAnswer) (t' out' 
   pub accepted_counts : flow_code a ≡ 0 → (flow_reply a).accepted ≡ zero_codes (outcome_codes (flow_reply a).orders out')
   accepted_counts z = taken z (λ base n year os e.
       let x = orders_in_turn base n year os e in
-      ap (λ (y : FlowAnswer). (flow_reply y).accepted) (rw e at p).0 ∙ counted base n year t os
+      ap (λ (y : Result (ℕ × ℕ × ℕ) FlowRefusal). (flow_reply y).accepted) (rw e at p).0 ∙ counted base n year t os
       ∙ sym (ap (λ (k : ℕ). zero_codes (outcome_codes k out')) x.0 ∙ ap zero_codes x.1))

@@ -1,5 +1,6 @@
 -- Each call either names no body, and then changes nothing and has one answer, with a code of `stray_codes`, on every good table, or is one body's, and
 -- then keeps all but what that body owns, goes by that alone, and is answered with a code of `body_codes`.
+use Rattle.std.specs.Prelude.{Ok, Err}
 use Prim.Native.Nat.{ℕ, zero, suc, ◌+◌, ◌*◌, ◌≤◌, ◌<◌}
 use native.Mathlib.Omega.{arith}
 use mathlib.Core.Logic.{inl, inr}
@@ -33,7 +34,7 @@ use Rattle.service.proofs.Moved.{notice_settled, notice_records}
 use Rattle.service.specs.Service.{notice_leaves}
 use Rattle.service.proofs.Own.{all_own, notice_same, notice_own}
 use Rattle.notices.specs.Notices.{noticed, notice_by, notice_table_by, on_day, table_on_day, body_totals, totals_of}
-use Rattle.desk.specs.declared.FlowAnswer.TheVariants.{ClosedYear, NoRoom, Taken}
+use Rattle.desk.specs.declared.FlowRefusal.TheVariants.{ClosedYear, NoRoom}
 use Rattle.desk.specs.Desk.{Reading, refused, served, flow_reads, flow_answer, flow_table, flow_outcomes, flow_code}
 use Rattle.journal.specs.Journal.{checked, journal_of}
 use Rattle.journal.proofs.Laws.{checked_one}
@@ -214,13 +215,13 @@ module _ (t₀ : List ℕ) (r : table_ok t₀ ≡ true) where
       for_own : (s t : List ℕ) → Good t₀ s → Good t₀ t → Alike t₀ b s t → (u c : Bool) → flow_reads s ed f (length out) ≡ For u c → flow_reads t ed f (length out) ≡ For u c
           → (answer (flow ed f out) s ≡ answer (flow ed f out) t)
           × Agree (after (flow ed f out) s) (base t₀ b) (after (flow ed f out) t) (base t₀ b) (slot_size * size t₀ b)
-      for_own s t g h a u true p q = (answered s (refused ClosedYear) p ∙ sym (answered t (refused ClosedYear) q), rw (p, q) a.slots)
-      for_own s t g h a false false p q = (answered s (refused NoRoom) p ∙ sym (answered t (refused NoRoom) q), rw (p, q) a.slots)
+      for_own s t g h a u true p q = (answered s (refused (Err ClosedYear)) p ∙ sym (answered t (refused (Err ClosedYear)) q), rw (p, q) a.slots)
+      for_own s t g h a false false p q = (answered s (refused (Err NoRoom)) p ∙ sym (answered t (refused (Err NoRoom)) q), rw (p, q) a.slots)
       for_own s t g h a true false p q =
           let x : Reading = served (base t₀ b) (size t₀ b) year os in
           let m = all_own (size t₀ b) year os a.slots (ready t₀ r s g b l) (ready t₀ r t h b l) w y in
           let c : of_flow (flow_answer s x) (flow_outcomes s out x) ≡ of_flow (flow_answer t x) (flow_outcomes t out x) =
-          λ i. of_flow (Taken (length os) (m.accepted i) (m.steps i)) (put out 0 (m.outcomes i)) in
+          λ i. of_flow (Ok ((length os), (m.accepted i), (m.steps i))) (put out 0 (m.outcomes i)) in
           (answered s x p ∙ c ∙ sym (answered t x q), rw (p, q) m.left)
 
     for_coded : (t : List ℕ) (at n year : ℕ) (os : List Ordinativo) (u c : Bool) → one_of (body_codes (flow ed f out)) (flow_code (flow_answer t (for_year at n year os u c))) ≡ true

@@ -1,4 +1,5 @@
 -- WHAT A CLOSE WRITES: its body's own bytes, as a valid table has them; and what it leaves of the table.
+use Rattle.std.specs.Prelude.{Result, Ok, Err}
 use Prim.Native.Nat.{ℕ, ◌+◌, ◌≤◌, ◌<◌}
 use mathlib.Core.Path.{◌≡◌, refl, ap, ◌∙◌}
 use mathlib.Core.Bool.{true}
@@ -13,8 +14,8 @@ use Rattle.entries.specs.Entry.{entry_size, entry_rest, closed_of, closed_ok}
 use Rattle.entries.proofs.Same.{zeros_agree}
 use Rattle.table.specs.Table.{bodies, table_ok, entry_of}
 use Rattle.service.proofs.Kept.{unchanged}
-use Rattle.year_end.specs.declared.CloseAnswer.{CloseAnswer}
-use Rattle.year_end.specs.declared.CloseAnswer.TheVariants.{InvalidTable, UnknownBody, NotAYear, AlreadyClosed, EarlierRemains, LineWaits, Closed}
+use Rattle.year_end.specs.declared.CloseRefusal.{CloseRefusal}
+use Rattle.year_end.specs.declared.CloseRefusal.TheVariants.{InvalidTable, UnknownBody, NotAYear, AlreadyClosed, EarlierRemains, LineWaits}
 use Rattle.year_end.specs.YearEnd.{close_of, body_closed, close_stored}
 use Rattle.year_end.specs.Inner.{Fits}
 use Rattle.year_end.proofs.Laws.{May, closed_when}
@@ -71,15 +72,15 @@ module _ (t₀ : List ℕ) (r : table_ok t₀ ≡ true) (t : List ℕ) (g : Good
     pub close_wrote : Wrote t₀ t (close_stored t (entry_of b) (base t₀ b) (size t₀ b) year (close_of (closed_of t (entry_of b)) year (records_at t (base t₀ b) (size t₀ b)))) b
     close_wrote = go (close_of (closed_of t (entry_of b)) year (records_at t (base t₀ b) (size t₀ b))) refl
       where
-        go : (a : CloseAnswer) → close_of (closed_of t (entry_of b)) year (records_at t (base t₀ b) (size t₀ b)) ≡ a
+        go : (a : Result ℕ CloseRefusal) → close_of (closed_of t (entry_of b)) year (records_at t (base t₀ b) (size t₀ b)) ≡ a
             → Wrote t₀ t (close_stored t (entry_of b) (base t₀ b) (size t₀ b) year a) b
-        go (Closed k) q = closed_wrote k (closed_when (closed_of t (entry_of b)) year (records_at t (base t₀ b) (size t₀ b)) k q)
-        go InvalidTable q = same_wrote
-        go UnknownBody q = same_wrote
-        go NotAYear q = same_wrote
-        go AlreadyClosed q = same_wrote
-        go EarlierRemains q = same_wrote
-        go LineWaits q = same_wrote
+        go (Ok k) q = closed_wrote k (closed_when (closed_of t (entry_of b)) year (records_at t (base t₀ b) (size t₀ b)) k q)
+        go (Err InvalidTable) q = same_wrote
+        go (Err UnknownBody) q = same_wrote
+        go (Err NotAYear) q = same_wrote
+        go (Err AlreadyClosed) q = same_wrote
+        go (Err EarlierRemains) q = same_wrote
+        go (Err LineWaits) q = same_wrote
 
     -- the year that it leaves closed is not an earlier one, and where it closes a year it is that
     pub closed_is : (k : ℕ) → May (closed_of t (entry_of b)) year (records_at t (base t₀ b) (size t₀ b)) k
@@ -90,14 +91,14 @@ module _ (t₀ : List ℕ) (r : table_ok t₀ ≡ true) (t : List ℕ) (g : Good
         ≤ closed_of (close_stored t (entry_of b) (base t₀ b) (size t₀ b) year (close_of (closed_of t (entry_of b)) year (records_at t (base t₀ b) (size t₀ b)))) (entry_of b)
     close_rises = go (close_of (closed_of t (entry_of b)) year (records_at t (base t₀ b) (size t₀ b))) refl
       where
-        go : (a : CloseAnswer) → close_of (closed_of t (entry_of b)) year (records_at t (base t₀ b) (size t₀ b)) ≡ a
+        go : (a : Result ℕ CloseRefusal) → close_of (closed_of t (entry_of b)) year (records_at t (base t₀ b) (size t₀ b)) ≡ a
             → closed_of t (entry_of b) ≤ closed_of (close_stored t (entry_of b) (base t₀ b) (size t₀ b) year a) (entry_of b)
-        go (Closed k) q =
+        go (Ok k) q =
             let m = closed_when (closed_of t (entry_of b)) year (records_at t (base t₀ b) (size t₀ b)) k q in
             omega (arith, m.newer, closed_is k m)
-        go InvalidTable q = omega arith
-        go UnknownBody q = omega arith
-        go NotAYear q = omega arith
-        go AlreadyClosed q = omega arith
-        go EarlierRemains q = omega arith
-        go LineWaits q = omega arith
+        go (Err InvalidTable) q = omega arith
+        go (Err UnknownBody) q = omega arith
+        go (Err NotAYear) q = omega arith
+        go (Err AlreadyClosed) q = omega arith
+        go (Err EarlierRemains) q = omega arith
+        go (Err LineWaits) q = omega arith

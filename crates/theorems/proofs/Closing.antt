@@ -1,17 +1,16 @@
 -- Closing a year: a close that is answered 0 is its body's own, and stays.
+use Rattle.std.specs.Prelude.{Option, Result, Some, None, Ok, Err}
 use Prim.Native.Nat.{ℕ, ◌<◌}
 use mathlib.Core.Path.{◌≡◌, refl, sym, ap, ◌∙◌, subst}
 use mathlib.Core.Bool.{Bool, true, false}
 use mathlib.Core.List.{List}
 use native.Mathlib.Omega.{arith}
-use Rattle.ranges.specs.declared.Found.{Found}
-use Rattle.ranges.specs.declared.Found.TheVariants.{At, Nothing}
 use Rattle.entries.specs.Entry.{closed_of}
 use Rattle.table.specs.Table.{bodies, table_ok, body_of, entry_of}
 use Rattle.table.proofs.Bodies.{found_body}
 use Rattle.address.specs.Address.{addressed}
-use Rattle.year_end.specs.declared.CloseAnswer.{CloseAnswer}
-use Rattle.year_end.specs.declared.CloseAnswer.TheVariants.{InvalidTable, UnknownBody, NotAYear, AlreadyClosed, EarlierRemains, LineWaits, Closed}
+use Rattle.year_end.specs.declared.CloseRefusal.{CloseRefusal}
+use Rattle.year_end.specs.declared.CloseRefusal.TheVariants.{InvalidTable, UnknownBody, NotAYear, AlreadyClosed, EarlierRemains, LineWaits}
 use Rattle.year_end.specs.YearEnd.{close_of, body_closed, close_stored, close_by, close_table_by, close_code, CloseReplies}
 use Rattle.year_end.proofs.Laws.{May, closed_when}
 use Rattle.isolation.proofs.History.{rises}
@@ -58,29 +57,29 @@ module _ (t : List ℕ) (r : table_ok t ≡ true) (b : ℕ) (l : b < bodies t) (
 
 -- A CLOSE ANSWERED 0
 module _ (t code : List ℕ) (year k : ℕ) (t' : List ℕ) (p : CloseReplies t code year 0 k t') where
-  not_zero : {A : Type 0} {a : CloseAnswer} → close_by t year (addressed t code) ≡ a → (close_code a ≡ 0 → ⊥) → A
+  not_zero : {A : Type 0} {a : Result ℕ CloseRefusal} → close_by t year (addressed t code) ≡ a → (close_code a ≡ 0 → ⊥) → A
   not_zero q f = absurd (f (sym (ap close_code (p.1.0 ∙ q)) ∙ sym p.2))
 
-  for_body_lem : (r : table_ok t ≡ true) (b : ℕ) → body_of t code ≡ At b → (x : CloseAnswer) → close_of (closed_of t (entry_of b)) year (body_records b t) ≡ x → OwnClose t t' b year
+  for_body_lem : (r : table_ok t ≡ true) (b : ℕ) → body_of t code ≡ Some b → (x : Result ℕ CloseRefusal) → close_of (closed_of t (entry_of b)) year (body_records b t) ≡ x → OwnClose t t' b year
   unfolding close_by close_table_by
-  for_body_lem r b e (Closed j) q =
+  for_body_lem r b e (Ok j) q =
       let w = is_body t r code b e in
       let m = closed_when (closed_of t (entry_of b)) year (body_records b t) j q in
       let u : t' ≡ body_closed t (entry_of b) (base t b) (size t b) year =
       p.1.1 ∙ ap (close_table_by t year) w ∙ ap (close_stored t (entry_of b) (base t b) (size t b) year) q in
       subst (λ (s : List ℕ). OwnClose t s b year) (sym u) (built t r b (found_body t r code b e) year j m)
-  for_body_lem r b e InvalidTable q = not_zero (ap (close_by t year) (is_body t r code b e) ∙ q) (λ z. omega arith)
-  for_body_lem r b e UnknownBody q = not_zero (ap (close_by t year) (is_body t r code b e) ∙ q) (λ z. omega arith)
-  for_body_lem r b e NotAYear q = not_zero (ap (close_by t year) (is_body t r code b e) ∙ q) (λ z. omega arith)
-  for_body_lem r b e AlreadyClosed q = not_zero (ap (close_by t year) (is_body t r code b e) ∙ q) (λ z. omega arith)
-  for_body_lem r b e EarlierRemains q = not_zero (ap (close_by t year) (is_body t r code b e) ∙ q) (λ z. omega arith)
-  for_body_lem r b e LineWaits q = not_zero (ap (close_by t year) (is_body t r code b e) ∙ q) (λ z. omega arith)
+  for_body_lem r b e (Err InvalidTable) q = not_zero (ap (close_by t year) (is_body t r code b e) ∙ q) (λ z. omega arith)
+  for_body_lem r b e (Err UnknownBody) q = not_zero (ap (close_by t year) (is_body t r code b e) ∙ q) (λ z. omega arith)
+  for_body_lem r b e (Err NotAYear) q = not_zero (ap (close_by t year) (is_body t r code b e) ∙ q) (λ z. omega arith)
+  for_body_lem r b e (Err AlreadyClosed) q = not_zero (ap (close_by t year) (is_body t r code b e) ∙ q) (λ z. omega arith)
+  for_body_lem r b e (Err EarlierRemains) q = not_zero (ap (close_by t year) (is_body t r code b e) ∙ q) (λ z. omega arith)
+  for_body_lem r b e (Err LineWaits) q = not_zero (ap (close_by t year) (is_body t r code b e) ∙ q) (λ z. omega arith)
 
-  answered_0 : (ok : Bool) → table_ok t ≡ ok → (x : Found) → body_of t code ≡ x → (b : ℕ) × (body_of t code ≡ At b) × OwnClose t t' b year
+  answered_0 : (ok : Bool) → table_ok t ≡ ok → (x : Option ℕ) → body_of t code ≡ x → (b : ℕ) × (body_of t code ≡ Some b) × OwnClose t t' b year
   unfolding close_by
   answered_0 false o x q = not_zero (ap (close_by t year) (no_table t code o)) (λ z. omega arith)
-  answered_0 true o Nothing q = not_zero (ap (close_by t year) (no_body t code o q)) (λ z. omega arith)
-  answered_0 true o (At b) q = (b, q, for_body_lem o b q (close_of (closed_of t (entry_of b)) year (body_records b t)) refl)
+  answered_0 true o None q = not_zero (ap (close_by t year) (no_body t code o q)) (λ z. omega arith)
+  answered_0 true o (Some b) q = (b, q, for_body_lem o b q (close_of (closed_of t (entry_of b)) year (body_records b t)) refl)
 
 pub year_closing : YearClosing
 year_closing t code year k t' p = answered_0 t code year k t' p (table_ok t) refl (body_of t code) refl

@@ -1,4 +1,5 @@
 -- EVERY CODE IS A NUMBERED ANSWER: opening's, a call's, and an order's, which is never 0 where the rules refuse it.
+use Rattle.std.specs.Prelude.{Option, Result, Some, None, Ok, Err}
 use Prim.Native.Nat.{ℕ, zero, suc, ◌-◌}
 use mathlib.Core.Path.{◌≡◌, refl, sym, ap, ◌∙◌}
 use mathlib.Core.Bool.{Bool, true, false, cond, ◌&&◌, ◌||◌}
@@ -7,8 +8,6 @@ use mathlib.Core.Logic.{◌⊎◌, inl, inr}
 use native.Mathlib.Omega.{arith}
 use lib.Dec.{eqb, leb, ltb}
 use lib.ListN.{length, get_or}
-use Rattle.ranges.specs.declared.Found.{Found}
-use Rattle.ranges.specs.declared.Found.TheVariants.{At, Nothing}
 use Rattle.fields.specs.declared.Cause.TheVariants.{Empty, Long, Misformed, OutOfRange}
 use Rattle.order.specs.declared.Line.{Line}
 use Rattle.order.specs.Ordinativo.{Ordinativo}
@@ -25,30 +24,26 @@ use Rattle.rules.specs.declared.Situation.{Situation}
 use Rattle.rules.specs.declared.Situation.TheVariants.{Absent, Annulled, Waiting, Executed}
 use Rattle.rules.specs.declared.Change.{Change}
 use Rattle.rules.specs.declared.Change.TheVariants.{Insert, Vary, Annul, Replace}
-use Rattle.rules.specs.declared.Ruling.{Ruling}
-use Rattle.rules.specs.declared.Ruling.TheVariants.{Accepted, Refused}
-use Rattle.rules.specs.declared.Noticed.{Noticed}
-use Rattle.rules.specs.declared.Noticed.TheVariants.{Moved, Unmoved}
 use Rattle.rules.specs.Rules.{change_of, was_executed, situation_of, step_code, same_order, placed, unless, stepped, judge_change, key_for, judge_order, order_code, line_moves, notice_in, notice_at, judge_notice, notice_code}
 use Rattle.entries.specs.Entry.{closed_of}
 use Rattle.service.specs.Service.{notice_comes}
-use Rattle.address.specs.declared.Addressed.{Addressed}
-use Rattle.address.specs.declared.Addressed.TheVariants.{Invalid, Unknown, Body}
-use Rattle.notices.specs.declared.NoticeAnswer.{NoticeAnswer}
-use Rattle.notices.specs.declared.NoticeAnswer.TheVariants.{WrongDay, InvalidTable as NoTable}
+use Rattle.address.specs.declared.NoBody.{NoBody}
+use Rattle.address.specs.declared.NoBody.TheVariants.{Invalid, Unknown}
+use Rattle.notices.specs.declared.NoticeRefusal.{NoticeRefusal}
+use Rattle.notices.specs.declared.NoticeRefusal.TheVariants.{WrongDay, InvalidTable as NoTable}
 use Rattle.notices.specs.declared.TotalsAnswer.{TotalsAnswer}
 use Rattle.table.specs.Table.{table_ok}
 use Rattle.address.specs.Address.{addressed}
 use Rattle.notices.specs.Notices.{noticed, notice_by, on_day, notice_code_of, body_totals, totals_by, totals_of}
-use Rattle.opening.specs.declared.Opened.{Opened}
-use Rattle.opening.specs.declared.Opened.TheVariants.{Open, WrongRequest, WrongLength}
+use Rattle.opening.specs.declared.OpenRefusal.{OpenRefusal}
+use Rattle.opening.specs.declared.OpenRefusal.TheVariants.{WrongRequest, WrongLength}
 use Rattle.opening.specs.Opening.{open_code}
-use Rattle.desk.specs.declared.FlowAnswer.{FlowAnswer}
-use Rattle.desk.specs.declared.FlowAnswer.TheVariants.{InvalidTable, UnknownEdition, TooLong, BrokenMarkup, BrokenStructure, BrokenField, OtherBank, UnknownBody, ClosedYear, NoRoom, Taken}
+use Rattle.desk.specs.declared.FlowRefusal.{FlowRefusal}
+use Rattle.desk.specs.declared.FlowRefusal.TheVariants.{InvalidTable, UnknownEdition, TooLong, BrokenMarkup, BrokenStructure, BrokenField, OtherBank, UnknownBody, ClosedYear, NoRoom}
 use Rattle.desk.specs.Desk.{flow_reply, flow_code}
 use Rattle.journal.specs.Journal.{journal_by, journal_of}
 use Rattle.journal.proofs.Laws.{checked_one}
-use Rattle.year_end.specs.declared.CloseAnswer.{CloseAnswer}
+use Rattle.year_end.specs.declared.CloseRefusal.{CloseRefusal}
 use Rattle.year_end.specs.YearEnd.{close_by, close_code}
 use Rattle.year_end.proofs.Laws.{close_one}
 use Rattle.theorems.specs.Engine.{Call, flow, execute, reverse, totals, journal, close, Answer, answer_code, Step}
@@ -59,15 +54,15 @@ abbrev pub Or : List ℕ → ℕ → Type 0
 Or xs c = (c ≡ 0) ⊎ (one_of xs c ≡ true)
 
 -- AN ORDER: accepted, or refused with one of the codes
-abbrev pub Coded : Ruling → Type 0
-Coded (Accepted c i) = Unit
-Coded (Refused code) = one_of order_refusals code ≡ true
+abbrev pub Coded : Result (Change × ℕ) ℕ → Type 0
+Coded (Ok (c, i)) = Unit
+Coded (Err code) = one_of order_refusals code ≡ true
 
 later : (c : ℕ) → Or order_refusals (suc c) → one_of order_refusals (suc c) ≡ true
 later c (inl e) = absurd (omega arith)
 later c (inr e) = e
 
-unless_coded : (c : ℕ) (j : Ruling) → Or order_refusals c → Coded j → Coded (unless Refused c j)
+unless_coded : (c : ℕ) (j : Result (Change × ℕ) ℕ) → Or order_refusals c → Coded j → Coded (unless Err c j)
 unless_coded zero j h k = k
 unless_coded (suc c) j h k = later c h
 
@@ -109,9 +104,9 @@ named_coded rs m = at (find_in rs 0 m.key)
     in_record true true false = inr refl
     in_record true true true = inl refl
 
-    at : (f : Found) → Or order_refusals (named_at rs m f)
-    at Nothing = inr refl
-    at (At i) = in_record (leb 1 m.line && leb m.line (nth rs i).lines) (eqb (get_or (nth rs i).states (m.line - 1) 0) 2) (eqb (get_or (nth rs i).amounts (m.line - 1) 0) m.amount)
+    at : (f : Option ℕ) → Or order_refusals (named_at rs m f)
+    at None = inr refl
+    at (Some i) = in_record (leb 1 m.line && leb m.line (nth rs i).lines) (eqb (get_or (nth rs i).states (m.line - 1) 0) 2) (eqb (get_or (nth rs i).amounts (m.line - 1) 0) m.amount)
 
 first_coded : (c n : ℕ) → Or order_refusals c → Or order_refusals n → Or order_refusals (first_code c n)
 first_coded zero n h k = k
@@ -122,19 +117,19 @@ unfolding replace_code
 names_coded rs [] = inl refl
 names_coded rs (m ∷ ms) = first_coded (named_code rs m) _ (named_coded rs m) (names_coded (with_replaced rs m) ms)
 
-or_else_lem : (b : Bool) (c : Change) (i code : ℕ) → one_of order_refusals code ≡ true → Coded (cond b (Accepted c i) (Refused code))
+or_else_lem : (b : Bool) (c : Change) (i code : ℕ) → one_of order_refusals code ≡ true → Coded (cond b (Ok (c, i)) (Err code))
 or_else_lem true c i code e = tt
 or_else_lem false c i code e = e
 
-placed_coded : (slots : ℕ) (o : Ordinativo) (rs : List Record) (c : Change) (f : Found) → Coded (placed slots o rs c f)
+placed_coded : (slots : ℕ) (o : Ordinativo) (rs : List Record) (c : Change) (f : Option ℕ) → Coded (placed slots o rs c f)
 unfolding placed
 placed_coded slots o rs Insert f = or_else_lem (ltb (length rs) slots) Insert (length rs) 15 refl
 placed_coded slots o rs Replace f =
     unless_coded (replace_code rs (namings o)) _ (names_coded rs (namings o)) (or_else_lem (ltb (length rs) slots) Replace (length rs) 15 refl)
-placed_coded slots o rs Vary (At i) = tt
-placed_coded slots o rs Vary Nothing = refl
-placed_coded slots o rs Annul (At i) = or_else_lem (same_order o (nth rs i)) Annul i 19 refl
-placed_coded slots o rs Annul Nothing = refl
+placed_coded slots o rs Vary (Some i) = tt
+placed_coded slots o rs Vary None = refl
+placed_coded slots o rs Annul (Some i) = or_else_lem (same_order o (nth rs i)) Annul i 19 refl
+placed_coded slots o rs Annul None = refl
 
 change_coded : (slots year : ℕ) (o : Ordinativo) (rs : List Record) (c : Change) → Coded (judge_change slots year o rs c)
 unfolding stepped
@@ -148,9 +143,9 @@ unfolding judge_order
 order_coded slots year o rs = change_coded slots year o rs (change_of o.operation)
 
 -- so an outcome's code is 0 where the order is accepted, and there alone
-pub never_zero : (j : Ruling) → Coded j → (order_code j ≡ 0 → (c : Change) × (i : ℕ) × (j ≡ Accepted c i))
-never_zero (Accepted c i) h e = (c, i, refl)
-never_zero (Refused c) h e = absurd (let z : ◌≡◌ {A = Bool} false true = sym (ap (one_of order_refusals) e) ∙ h in no z)
+pub never_zero : (j : Result (Change × ℕ) ℕ) → Coded j → (order_code j ≡ 0 → (c : Change) × (i : ℕ) × (j ≡ Ok (c, i)))
+never_zero (Ok (c, i)) h e = (c, i, refl)
+never_zero (Err c) h e = absurd (let z : ◌≡◌ {A = Bool} false true = sym (ap (one_of order_refusals) e) ∙ h in no z)
   where
     no : ◌≡◌ {A = Bool} false true → ⊥
     no z = let y : ◌≡◌ {A = ℕ} 0 1 = cc in omega arith
@@ -159,27 +154,27 @@ pub or_true : (b : Bool) {c : Bool} → c ≡ true → b || c ≡ true
 or_true true e = refl
 or_true false e = e
 
-pub judged_codes : (j : Ruling) → Coded j → one_of order_codes (order_code j) ≡ true
-judged_codes (Accepted c i) h = refl
-judged_codes (Refused c) h = or_true (eqb c 0) h
+pub judged_codes : (j : Result (Change × ℕ) ℕ) → Coded j → one_of order_codes (order_code j) ≡ true
+judged_codes (Ok (c, i)) h = refl
+judged_codes (Err c) h = or_true (eqb c 0) h
 
 -- OPENING
-pub open_codes_lem : (a : Opened) → one_of open_codes (open_code a) ≡ true
-open_codes_lem Open = refl
-open_codes_lem WrongRequest = refl
-open_codes_lem WrongLength = refl
+pub open_codes_lem : (a : Result Unit OpenRefusal) → one_of open_codes (open_code a) ≡ true
+open_codes_lem (Ok tt) = refl
+open_codes_lem (Err WrongRequest) = refl
+open_codes_lem (Err WrongLength) = refl
 
 -- A NOTICE for a body
-moves_coded : (executing : Bool) (s i cents : ℕ) → one_of (notice_codes executing) (notice_code (unless Unmoved (line_moves executing s) (Moved i cents))) ≡ true
+moves_coded : (executing : Bool) (s i cents : ℕ) → one_of (notice_codes executing) (notice_code (unless Err (line_moves executing s) (Ok (i, cents)))) ≡ true
 unfolding line_moves
 moves_coded true s i cents = go (was_executed s)
   where
-    go : (u : Bool) → one_of (notice_codes true) (notice_code (unless Unmoved (cond u 21 0) (Moved i cents))) ≡ true
+    go : (u : Bool) → one_of (notice_codes true) (notice_code (unless Err (cond u 21 0) (Ok (i, cents)))) ≡ true
     go true = refl
     go false = refl
 moves_coded false s i cents = go (eqb s 2)
   where
-    go : (u : Bool) → one_of (notice_codes false) (notice_code (unless Unmoved (cond u 0 22) (Moved i cents))) ≡ true
+    go : (u : Bool) → one_of (notice_codes false) (notice_code (unless Err (cond u 0 22) (Ok (i, cents)))) ≡ true
     go true = refl
     go false = refl
 
@@ -193,19 +188,19 @@ unfolding notice_in
 in_coded executing line i x = go (eqb x.state 2) (leb 1 line && leb line x.lines)
   where
     go : (u v : Bool)
-        → one_of (notice_codes executing) (notice_code (cond u (Unmoved 17) (cond v (unless Unmoved (line_moves executing (get_or x.states (line - 1) 0)) (Moved i (get_or x.amounts (line - 1) 0))) (Unmoved 20)))) ≡ true
+        → one_of (notice_codes executing) (notice_code (cond u (Err 17) (cond v (unless Err (line_moves executing (get_or x.states (line - 1) 0)) (Ok (i, (get_or x.amounts (line - 1) 0)))) (Err 20)))) ≡ true
     go true v = (both_have executing).1
     go false false = (both_have executing).2
     go false true = moves_coded executing (get_or x.states (line - 1) 0) i (get_or x.amounts (line - 1) 0)
 
-at_coded : (executing : Bool) (line : ℕ) (rs : List Record) (f : Found) → one_of (notice_codes executing) (notice_code (notice_at executing line rs f)) ≡ true
+at_coded : (executing : Bool) (line : ℕ) (rs : List Record) (f : Option ℕ) → one_of (notice_codes executing) (notice_code (notice_at executing line rs f)) ≡ true
 unfolding notice_at
-at_coded executing line rs Nothing = (both_have executing).0
-at_coded executing line rs (At i) = in_coded executing line i (nth rs i)
+at_coded executing line rs None = (both_have executing).0
+at_coded executing line rs (Some i) = in_coded executing line i (nth rs i)
 
-pub noticed_code : (m : Noticed) → notice_code_of (noticed m) ≡ notice_code m
-noticed_code (Moved i cents) = refl
-noticed_code (Unmoved c) = refl
+pub noticed_code : (m : Result (ℕ × ℕ) ℕ) → notice_code_of (noticed m) ≡ notice_code m
+noticed_code (Ok (i, cents)) = refl
+noticed_code (Err c) = refl
 
 pub body_notice_codes : (t : List ℕ) (base n : ℕ) (executing : Bool) (k : Key) (line : ℕ)
     → one_of (notice_codes executing) (notice_code_of (noticed (notice_comes t base n executing k line))) ≡ true
@@ -215,12 +210,12 @@ body_notice_codes t base n executing k line =
     ap (one_of (notice_codes executing)) (noticed_code (notice_at executing line rs (find_in rs 0 k))) ∙ at_coded executing line rs (find_in rs 0 k)
 
 -- ANY CALL
-notice_codes_lem : (t : List ℕ) (executing : Bool) (k : Key) (line : ℕ) (b : Addressed)
+notice_codes_lem : (t : List ℕ) (executing : Bool) (k : Key) (line : ℕ) (b : Result (ℕ × ℕ × ℕ) NoBody)
     → one_of (1 ∷ 7 ∷ notice_codes executing) (notice_code_of (notice_by t executing k line b)) ≡ true
 unfolding notice_by
-notice_codes_lem t executing k line Invalid = refl
-notice_codes_lem t executing k line Unknown = refl
-notice_codes_lem t executing k line (Body e base n) =
+notice_codes_lem t executing k line (Err Invalid) = refl
+notice_codes_lem t executing k line (Err Unknown) = refl
+notice_codes_lem t executing k line (Ok (e, base, n)) =
     let c = notice_code_of (noticed (notice_comes t base n executing k line)) in
     or_true (eqb c 1) (or_true (eqb c 7) (body_notice_codes t base n executing k line))
 
@@ -244,7 +239,7 @@ strays_more executing c = go (eqb c 1) (eqb c 7) (eqb c 27) (eqb c 28) (one_of (
     go false false false true z e = refl
     go false false false false z e = e
 
-dated_codes : (t : List ℕ) (executing : Bool) (k : Key) (line : ℕ) (b : Addressed) (c : ℕ) → Or (7 ∷ 27 ∷ 28 ∷ []) c
+dated_codes : (t : List ℕ) (executing : Bool) (k : Key) (line : ℕ) (b : Result (ℕ × ℕ × ℕ) NoBody) (c : ℕ) → Or (7 ∷ 27 ∷ 28 ∷ []) c
     → one_of (1 ∷ 7 ∷ 27 ∷ 28 ∷ notice_codes executing) (notice_code_of (on_day c t (notice_by t executing k line b))) ≡ true
 dated_codes t executing k line b zero h = strays_more executing (notice_code_of (notice_by t executing k line b)) (notice_codes_lem t executing k line b)
 dated_codes t executing k line b (suc c) (inl e) = absurd (omega arith)
@@ -260,55 +255,55 @@ dated_codes t executing k line b (suc c) (inr e) = go (table_ok t)
         no : ◌≡◌ {A = Bool} false true → ⊥
         no z = let y : ◌≡◌ {A = ℕ} 0 1 = cc in omega arith
 
-    go : (v : Bool) → one_of (1 ∷ 7 ∷ 27 ∷ 28 ∷ notice_codes executing) (notice_code_of (cond v (WrongDay (suc c)) NoTable)) ≡ true
+    go : (v : Bool) → one_of (1 ∷ 7 ∷ 27 ∷ 28 ∷ notice_codes executing) (notice_code_of (cond v (Err (WrongDay (suc c))) (Err NoTable))) ≡ true
     go true = more (eqb (suc c) 7) (eqb (suc c) 27) (eqb (suc c) 28) (eqb (suc c) 1) e
     go false = refl
 
-flow_codes : (ed : ℕ) (f out : List ℕ) (a : FlowAnswer) → one_of (call_codes (flow ed f out)) (flow_reply a).code ≡ true
-flow_codes ed f out InvalidTable = refl
-flow_codes ed f out UnknownEdition = refl
-flow_codes ed f out TooLong = refl
-flow_codes ed f out BrokenMarkup = refl
-flow_codes ed f out BrokenStructure = refl
-flow_codes ed f out (BrokenField p c) = refl
-flow_codes ed f out OtherBank = refl
-flow_codes ed f out UnknownBody = refl
-flow_codes ed f out ClosedYear = refl
-flow_codes ed f out NoRoom = refl
-flow_codes ed f out (Taken n m k) = refl
+flow_codes : (ed : ℕ) (f out : List ℕ) (a : Result (ℕ × ℕ × ℕ) FlowRefusal) → one_of (call_codes (flow ed f out)) (flow_reply a).code ≡ true
+flow_codes ed f out (Err InvalidTable) = refl
+flow_codes ed f out (Err UnknownEdition) = refl
+flow_codes ed f out (Err TooLong) = refl
+flow_codes ed f out (Err BrokenMarkup) = refl
+flow_codes ed f out (Err BrokenStructure) = refl
+flow_codes ed f out (Err (BrokenField p c)) = refl
+flow_codes ed f out (Err OtherBank) = refl
+flow_codes ed f out (Err UnknownBody) = refl
+flow_codes ed f out (Err ClosedYear) = refl
+flow_codes ed f out (Err NoRoom) = refl
+flow_codes ed f out (Ok (n, m, k)) = refl
 
-pub flow_causes : (a : FlowAnswer) → one_of (causes_with (flow_code a)) (flow_reply a).cause ≡ true
-flow_causes InvalidTable = refl
-flow_causes UnknownEdition = refl
-flow_causes TooLong = refl
-flow_causes BrokenMarkup = refl
-flow_causes BrokenStructure = refl
-flow_causes (BrokenField p Empty) = refl
-flow_causes (BrokenField p Long) = refl
-flow_causes (BrokenField p Misformed) = refl
-flow_causes (BrokenField p OutOfRange) = refl
-flow_causes OtherBank = refl
-flow_causes UnknownBody = refl
-flow_causes ClosedYear = refl
-flow_causes NoRoom = refl
-flow_causes (Taken n m k) = refl
+pub flow_causes : (a : Result (ℕ × ℕ × ℕ) FlowRefusal) → one_of (causes_with (flow_code a)) (flow_reply a).cause ≡ true
+flow_causes (Err InvalidTable) = refl
+flow_causes (Err UnknownEdition) = refl
+flow_causes (Err TooLong) = refl
+flow_causes (Err BrokenMarkup) = refl
+flow_causes (Err BrokenStructure) = refl
+flow_causes (Err (BrokenField p Empty)) = refl
+flow_causes (Err (BrokenField p Long)) = refl
+flow_causes (Err (BrokenField p Misformed)) = refl
+flow_causes (Err (BrokenField p OutOfRange)) = refl
+flow_causes (Err OtherBank) = refl
+flow_causes (Err UnknownBody) = refl
+flow_causes (Err ClosedYear) = refl
+flow_causes (Err NoRoom) = refl
+flow_causes (Ok (n, m, k)) = refl
 
-totals_codes : (t code : List ℕ) (b : Addressed) → one_of (call_codes (totals code)) (totals_by t b).code ≡ true
+totals_codes : (t code : List ℕ) (b : Result (ℕ × ℕ × ℕ) NoBody) → one_of (call_codes (totals code)) (totals_by t b).code ≡ true
 unfolding body_totals
-totals_codes t code Invalid = refl
-totals_codes t code Unknown = refl
-totals_codes t code (Body e base n) = refl
+totals_codes t code (Err Invalid) = refl
+totals_codes t code (Err Unknown) = refl
+totals_codes t code (Ok (e, base, n)) = refl
 
-journal_codes : (t code s : List ℕ) (b : Addressed) → one_of (call_codes (journal code s)) (journal_by t s b) ≡ true
-journal_codes t code s Invalid = refl
-journal_codes t code s Unknown = refl
-journal_codes t code s (Body e base n) = checked_one (λ c. one_of (call_codes (journal code s)) c ≡ true) refl refl refl refl refl refl (records_at t base n) s
+journal_codes : (t code s : List ℕ) (b : Result (ℕ × ℕ × ℕ) NoBody) → one_of (call_codes (journal code s)) (journal_by t s b) ≡ true
+journal_codes t code s (Err Invalid) = refl
+journal_codes t code s (Err Unknown) = refl
+journal_codes t code s (Ok (e, base, n)) = checked_one (λ c. one_of (call_codes (journal code s)) c ≡ true) refl refl refl refl refl refl (records_at t base n) s
 
-close_codes : (t code : List ℕ) (year : ℕ) (b : Addressed) → one_of (call_codes (close code year)) (close_code (close_by t year b)) ≡ true
+close_codes : (t code : List ℕ) (year : ℕ) (b : Result (ℕ × ℕ × ℕ) NoBody) → one_of (call_codes (close code year)) (close_code (close_by t year b)) ≡ true
 unfolding close_by
-close_codes t code year Invalid = refl
-close_codes t code year Unknown = refl
-close_codes t code year (Body e base n) =
+close_codes t code year (Err Invalid) = refl
+close_codes t code year (Err Unknown) = refl
+close_codes t code year (Ok (e, base, n)) =
     close_one (λ a. one_of (call_codes (close code year)) (close_code a) ≡ true) (closed_of t e) year (records_at t base n) refl refl refl refl refl
 
 pub call_codes_lem : (c : Call) (t : List ℕ) (a : Answer) (t' : List ℕ) → Step c t a t' → one_of (call_codes c) (answer_code a) ≡ true
@@ -316,11 +311,11 @@ unfolding totals_of journal_of
 call_codes_lem (flow ed f out) t a t' s = ap (λ (x : Answer). one_of (call_codes (flow ed f out)) (answer_code x)) s.3 ∙ flow_codes ed f out s.0
 call_codes_lem (execute code k line d) t a t' s =
     ap (λ (x : Answer). one_of (call_codes (execute code k line d)) (answer_code x)) s.2
-    ∙ ap (λ (x : NoticeAnswer). one_of (call_codes (execute code k line d)) (notice_code_of x)) s.1.0
+    ∙ ap (λ (x : Result ℕ NoticeRefusal). one_of (call_codes (execute code k line d)) (notice_code_of x)) s.1.0
     ∙ dated_codes t true k line (addressed t code) (target_code d) (date_codes d)
 call_codes_lem (reverse code k line d) t a t' s =
     ap (λ (x : Answer). one_of (call_codes (reverse code k line d)) (answer_code x)) s.2
-    ∙ ap (λ (x : NoticeAnswer). one_of (call_codes (reverse code k line d)) (notice_code_of x)) s.1.0
+    ∙ ap (λ (x : Result ℕ NoticeRefusal). one_of (call_codes (reverse code k line d)) (notice_code_of x)) s.1.0
     ∙ dated_codes t false k line (addressed t code) (target_code d) (date_codes d)
 call_codes_lem (totals code) t a t' s =
     ap (λ (x : Answer). one_of (call_codes (totals code)) (answer_code x)) s.2
@@ -332,5 +327,5 @@ call_codes_lem (journal code m) t a t' s =
     ∙ journal_codes t code m (addressed t code)
 call_codes_lem (close code year) t a t' s =
     ap (λ (x : Answer). one_of (call_codes (close code year)) (answer_code x)) s.2
-    ∙ ap (λ (x : CloseAnswer). one_of (call_codes (close code year)) (close_code x)) s.1.0
+    ∙ ap (λ (x : Result ℕ CloseRefusal). one_of (call_codes (close code year)) (close_code x)) s.1.0
     ∙ close_codes t code year (addressed t code)

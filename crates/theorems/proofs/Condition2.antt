@@ -1,4 +1,5 @@
 -- CONDITION 2, proved.
+use Rattle.std.specs.Prelude.{Result, Some, None, Ok, Err}
 use Prim.Native.Nat.{ℕ, suc, zero}
 use lib.IntN.{pos, ◌-ℤ◌}
 use mathlib.Core.Path.{◌≡◌, refl, sym, ap, ◌∙◌}
@@ -6,7 +7,6 @@ use mathlib.Core.Bool.{Bool, true, false, cond}
 use mathlib.Core.List.{List}
 use lib.ListN.{length}
 use lib.Dec.{eqb}
-use Rattle.ranges.specs.declared.Found.TheVariants.{At, Nothing}
 use Rattle.calendar.specs.declared.Date.{Date}
 use Rattle.target_days.specs.Target.{target_code}
 use Rattle.record.specs.declared.Key.{Key}
@@ -19,17 +19,17 @@ use Rattle.rules.specs.Rules.{judge_notice}
 use Rattle.rules.specs.Effects.{records_moved}
 use Rattle.service.specs.Service.{notice_comes}
 use Rattle.service.proofs.Moved.{notice_records}
-use Rattle.notices.specs.declared.NoticeAnswer.{NoticeAnswer}
-use Rattle.notices.specs.declared.NoticeAnswer.TheVariants.{InvalidTable, WrongDay, UnknownBody}
-use Rattle.address.specs.declared.Addressed.TheVariants.{Invalid, Unknown, Body}
+use Rattle.notices.specs.declared.NoticeRefusal.{NoticeRefusal}
+use Rattle.notices.specs.declared.NoticeRefusal.TheVariants.{InvalidTable, WrongDay, UnknownBody}
+use Rattle.address.specs.declared.NoBody.TheVariants.{Invalid, Unknown}
 use Rattle.notices.specs.declared.TotalsAnswer.{TotalsAnswer}
 use Rattle.address.specs.Address.{addressed}
 use Rattle.notices.specs.Notices.{noticed, notice_by, notice_table_by, on_day, NoticePromise, zero_totals, body_totals, totals_of, TotalsPromise}
 use Rattle.notices.proofs.Laws.{only_target, slots_served}
 use Rattle.address.proofs.Laws.{slots}
 use Rattle.request.specs.Request.{needed, request_ok}
-use Rattle.opening.specs.declared.Opened.{Opened}
-use Rattle.opening.specs.declared.Opened.TheVariants.{Open, WrongRequest, WrongLength}
+use Rattle.opening.specs.declared.OpenRefusal.{OpenRefusal}
+use Rattle.opening.specs.declared.OpenRefusal.TheVariants.{WrongRequest, WrongLength}
 use Rattle.opening.specs.Opening.{open_of, open_code, OpenPromise}
 use Rattle.tree.proofs.Theorem.{answered}
 use Rattle.theorems.specs.Engine.{body_records}
@@ -40,23 +40,23 @@ use Rattle.theorems.proofs.Accepted.{accepted_counts}
 use Rattle.theorems.proofs.Taken.{flow_taken}
 
 -- A BODY of a valid table
-module _ (t : List ℕ) (ok : table_ok t ≡ true) (code : List ℕ) (b : ℕ) (e : body_of t code ≡ At b) where
+module _ (t : List ℕ) (ok : table_ok t ≡ true) (code : List ℕ) (b : ℕ) (e : body_of t code ≡ Some b) where
   abbrev base : ℕ
   base = place_of t (entry_of b)
 
   abbrev size : ℕ
   size = slots_of t (entry_of b)
 
-  pub is_body : addressed t code ≡ Body (entry_of b) base size
+  pub is_body : addressed t code ≡ Ok ((entry_of b), base, size)
   unfolding addressed
   is_body = rw (ok, e)
 
-  noticed_is : (executing : Bool) (k : Key) (line : ℕ) (d : Date) → target_code d ≡ 0 → (a : NoticeAnswer) (t' : List ℕ) → NoticePromise t executing code k line d a t'
+  noticed_is : (executing : Bool) (k : Key) (line : ℕ) (d : Date) → target_code d ≡ 0 → (a : Result ℕ NoticeRefusal) (t' : List ℕ) → NoticePromise t executing code k line d a t'
       → a ≡ noticed (judge_notice executing k line (body_records b t))
   unfolding notice_by notice_comes
   noticed_is executing k line d o a t' p = (only_target t code executing k line d o p).0 ∙ ap (notice_by t executing k line) is_body
 
-  moved_is : (executing : Bool) (k : Key) (line : ℕ) (d : Date) → target_code d ≡ 0 → (a : NoticeAnswer) (t' : List ℕ) → NoticePromise t executing code k line d a t'
+  moved_is : (executing : Bool) (k : Key) (line : ℕ) (d : Date) → target_code d ≡ 0 → (a : Result ℕ NoticeRefusal) (t' : List ℕ) → NoticePromise t executing code k line d a t'
       → records_at t' base size ≡ records_moved executing line (body_records b t) (judge_notice executing k line (body_records b t))
   unfolding notice_table_by
   moved_is executing k line d o a t' p =
@@ -69,18 +69,18 @@ module _ (t : List ℕ) (ok : table_ok t ≡ true) (code : List ℕ) (b : ℕ) (
 
 -- NO BODY
 module _ (t : List ℕ) (code : List ℕ) where
-  pub no_table : table_ok t ≡ false → addressed t code ≡ Invalid
+  pub no_table : table_ok t ≡ false → addressed t code ≡ Err Invalid
   unfolding addressed
   no_table e = rw e
 
-  pub no_body : table_ok t ≡ true → body_of t code ≡ Nothing → addressed t code ≡ Unknown
+  pub no_body : table_ok t ≡ true → body_of t code ≡ None → addressed t code ≡ Err Unknown
   unfolding addressed
   no_body ok e = rw (ok, e)
 
-  notice_refused : (executing : Bool) (k : Key) (line : ℕ) (d : Date) (a : NoticeAnswer) (t' : List ℕ) → NoticePromise t executing code k line d a t'
-      → (table_ok t ≡ false → a ≡ InvalidTable)
-      × (table_ok t ≡ true → target_code d ≡ 0 → body_of t code ≡ Nothing → a ≡ UnknownBody)
-      × (table_ok t ≡ true → (target_code d ≡ 0 → ⊥) → a ≡ WrongDay (target_code d))
+  notice_refused : (executing : Bool) (k : Key) (line : ℕ) (d : Date) (a : Result ℕ NoticeRefusal) (t' : List ℕ) → NoticePromise t executing code k line d a t'
+      → (table_ok t ≡ false → a ≡ Err InvalidTable)
+      × (table_ok t ≡ true → target_code d ≡ 0 → body_of t code ≡ None → a ≡ Err UnknownBody)
+      × (table_ok t ≡ true → (target_code d ≡ 0 → ⊥) → a ≡ Err (WrongDay (target_code d)))
   unfolding notice_by
   notice_refused executing k line d a t' p = (
     λ e. p.0 ∙ invalid (target_code d) e,
@@ -88,23 +88,23 @@ module _ (t : List ℕ) (code : List ℕ) where
     λ ok h. p.0 ∙ wrong (target_code d) ok h,
   )
     where
-      invalid : (c : ℕ) → table_ok t ≡ false → on_day c t (notice_by t executing k line (addressed t code)) ≡ InvalidTable
+      invalid : (c : ℕ) → table_ok t ≡ false → on_day c t (notice_by t executing k line (addressed t code)) ≡ Err InvalidTable
       invalid zero e = ap (notice_by t executing k line) (no_table e)
       invalid (suc c) e = rw e refl
 
-      wrong : (c : ℕ) → table_ok t ≡ true → (c ≡ 0 → ⊥) → on_day c t (notice_by t executing k line (addressed t code)) ≡ WrongDay c
+      wrong : (c : ℕ) → table_ok t ≡ true → (c ≡ 0 → ⊥) → on_day c t (notice_by t executing k line (addressed t code)) ≡ Err (WrongDay c)
       wrong zero ok h = absurd (h refl)
       wrong (suc c) ok h = rw ok refl
 
-  totals_refused : (a : TotalsAnswer) → TotalsPromise t code a → (table_ok t ≡ false → a ≡ zero_totals 1) × (table_ok t ≡ true → body_of t code ≡ Nothing → a ≡ zero_totals 7)
+  totals_refused : (a : TotalsAnswer) → TotalsPromise t code a → (table_ok t ≡ false → a ≡ zero_totals 1) × (table_ok t ≡ true → body_of t code ≡ None → a ≡ zero_totals 7)
   unfolding totals_of
   totals_refused a p = (λ e. p ∙ rw (no_table e), λ ok e. p ∙ rw (no_body ok e))
 
-opening_is : (q t : List ℕ) (a : Opened) (t' : List ℕ) → OpenPromise q t a t' → open_code a ≡ cond (request_ok q) (cond (eqb (length t) (needed q)) 0 10) 9
+opening_is : (q t : List ℕ) (a : Result Unit OpenRefusal) (t' : List ℕ) → OpenPromise q t a t' → open_code a ≡ cond (request_ok q) (cond (eqb (length t) (needed q)) 0 10) 9
 unfolding open_of
 opening_is q t a t' p = ap open_code p.0 ∙ go (request_ok q) (eqb (length t) (needed q))
   where
-    go : (x y : Bool) → open_code (cond x (cond y Open WrongLength) WrongRequest) ≡ cond x (cond y 0 10) 9
+    go : (x y : Bool) → open_code (cond x (cond y (Ok tt) (Err WrongLength)) (Err WrongRequest)) ≡ cond x (cond y 0 10) 9
     go true true = refl
     go true false = refl
     go false y = refl

@@ -1,4 +1,5 @@
 -- CONDITION 3, proved: the laws of isolation hold of every engine that keeps the promises, since each call is one body's or none's (Calls).
+use Rattle.std.specs.Prelude.{Option as Maybe, Result, Some, None, Ok, Err}
 use Prim.Native.Nat.{ℕ}
 use mathlib.Core.Path.{◌≡◌, refl, sym, ap, ◌∙◌, subst}
 use mathlib.Core.Bool.{Bool, true, false, cond, false≢true}
@@ -9,21 +10,17 @@ use lib.ListN.{length}
 use lib.Dec.{eqb, leb}
 use Rattle.bounds.specs.Bounds.{max_flow}
 use Rattle.scan.specs.Bytes.{text_is}
-use Rattle.ranges.specs.declared.Found.{Found}
-use Rattle.ranges.specs.declared.Found.TheVariants.{At, Nothing}
 use Rattle.table.specs.Table.{bodies, table_ok, body_of}
 use Rattle.table.proofs.Bodies.{own_body, body_code as code-of-body}
 use Rattle.request.specs.Request.{request_ok, needed}
-use Rattle.opening.specs.declared.Opened.{Opened}
-use Rattle.opening.specs.declared.Opened.TheVariants.{Open, WrongRequest, WrongLength}
+use Rattle.opening.specs.declared.OpenRefusal.{OpenRefusal}
+use Rattle.opening.specs.declared.OpenRefusal.TheVariants.{WrongRequest, WrongLength}
 use Rattle.opening.specs.Opening.{opened, open_of, open_code, open_table, OpenReplies}
 use Rattle.opening.proofs.Valid.{opened_valid}
 use Rattle.editions.specs.declared.Edition.{Edition}
-use Rattle.editions.specs.declared.Edited.{Edited}
-use Rattle.editions.specs.declared.Edited.TheVariants.{By, NoEdition}
 use Rattle.editions.specs.Editions.{edition_of}
-use Rattle.flow.specs.declared.Verdict.{Verdict}
-use Rattle.flow.specs.declared.Verdict.TheVariants.{MarkupBreaks, StructureBreaks, FieldBreaks, Stands}
+use Rattle.flow.specs.declared.Breakage.{Breakage}
+use Rattle.flow.specs.declared.Breakage.TheVariants.{MarkupBreaks, StructureBreaks, FieldBreaks}
 use Rattle.flow.specs.Flow.{verdict_of, header_of}
 use Rattle.isolation.specs.Machine.{Laws}
 use Rattle.isolation.proofs.OrderLaws.{mine_by_body, strays_by_body}
@@ -100,15 +97,15 @@ module _ (E : Engine) (t₀ : List ℕ) (r : table_ok t₀ ≡ true) where
         go (some b) e = false≢true (sym (no_one c).1 ∙ sym (ap (one_of (body_codes c)) z) ∙ body_code c b e)
 
     -- who is named: the same read from this table
-    by_verdict : (e : Edition) (f : List ℕ) (v : Verdict) → names_in e now f v ≡ names_in e t₀ f v
-    by_verdict e f (MarkupBreaks p) = refl
-    by_verdict e f StructureBreaks = refl
-    by_verdict e f (FieldBreaks p c) = refl
-    by_verdict e f (Stands at) = ap (λ (a : List ℕ). cond (text_is a (header_of e f at).abi) (some (header_of e f at).ente) none) (abi_is t₀ r now good)
+    by_verdict : (e : Edition) (f : List ℕ) (v : Result ℕ Breakage) → names_in e now f v ≡ names_in e t₀ f v
+    by_verdict e f (Err (MarkupBreaks p)) = refl
+    by_verdict e f (Err StructureBreaks) = refl
+    by_verdict e f (Err (FieldBreaks p c)) = refl
+    by_verdict e f (Ok at) = ap (λ (a : List ℕ). cond (text_is a (header_of e f at).abi) (some (header_of e f at).ente) none) (abi_is t₀ r now good)
 
-    by_edition_lem : (f : List ℕ) (x : Edited) → names_by now f x ≡ names_by t₀ f x
-    by_edition_lem f (By e) = ap (λ (x : Option (List ℕ)). cond (leb (length f) max_flow) x none) (by_verdict e f (verdict_of e f))
-    by_edition_lem f NoEdition = refl
+    by_edition_lem : (f : List ℕ) (x : Maybe Edition) → names_by now f x ≡ names_by t₀ f x
+    by_edition_lem f (Some e) = ap (λ (x : Option (List ℕ)). cond (leb (length f) max_flow) x none) (by_verdict e f (verdict_of e f))
+    by_edition_lem f None = refl
 
     named : (c : Call) → names now c ≡ names t₀ c
     named (flow ed f out) = by_edition_lem f (edition_of ed)
@@ -123,9 +120,9 @@ module _ (E : Engine) (t₀ : List ℕ) (r : table_ok t₀ ≡ true) where
     placed (some code) = ap which_body (find_is t₀ r now good code)
 
 -- a body by its code
-pub found_at : (x : Found) (b : ℕ) → which_body x ≡ some b → x ≡ At b
-found_at (At a) b e = cc
-found_at Nothing b e = absurd (let z : ◌≡◌ {A = ℕ} 0 1 = cc in omega arith)
+pub found_at : (x : Maybe ℕ) (b : ℕ) → which_body x ≡ some b → x ≡ Some b
+found_at (Some a) b e = cc
+found_at None b e = absurd (let z : ◌≡◌ {A = ℕ} 0 1 = cc in omega arith)
 
 -- THE THEOREM
 pub condition3 : FromValid
@@ -143,11 +140,11 @@ condition3 E t₀ r = record {
 }
 
 -- FROM OPENING ON: a buffer that opening answered 0 for is the opened table of a right request
-right_request : (q : List ℕ) (n : ℕ) → open_of q n ≡ Open → request_ok q ≡ true
+right_request : (q : List ℕ) (n : ℕ) → open_of q n ≡ Ok tt → request_ok q ≡ true
 unfolding open_of
 right_request q n = go (request_ok q) (eqb n (needed q)) refl
   where
-    go : (u v : Bool) → request_ok q ≡ u → cond u (cond v Open WrongLength) WrongRequest ≡ Open → request_ok q ≡ true
+    go : (u v : Bool) → request_ok q ≡ u → cond {A = Result Unit OpenRefusal} u (cond v (Ok tt) (Err WrongLength)) (Err WrongRequest) ≡ Ok tt → request_ok q ≡ true
     go true v e z = e
     go false v e z = absurd (let y : ◌≡◌ {A = ℕ} 0 1 = cc in omega arith)
 
@@ -158,10 +155,10 @@ pub record OpenedBy (q t₀ : List ℕ) : Type 0 where
 pub answered_0 : (q t t₀ : List ℕ) → OpenReplies q t 0 t₀ → OpenedBy q t₀
 answered_0 q t t₀ p = go p.0 p.1.0 p.1.1 p.2
   where
-    go : (a : Opened) → a ≡ open_of q (length t) → t₀ ≡ open_table a q t → 0 ≡ open_code a → OpenedBy q t₀
-    go Open e d z = record { right = right_request q (length t) (sym e); filled = d }
-    go WrongRequest e d z = absurd (omega arith)
-    go WrongLength e d z = absurd (omega arith)
+    go : (a : Result Unit OpenRefusal) → a ≡ open_of q (length t) → t₀ ≡ open_table a q t → 0 ≡ open_code a → OpenedBy q t₀
+    go (Ok tt) e d z = record { right = right_request q (length t) (sym e); filled = d }
+    go (Err WrongRequest) e d z = absurd (omega arith)
+    go (Err WrongLength) e d z = absurd (omega arith)
 
 pub open_valid : (q t₀ : List ℕ) → OpenedBy q t₀ → table_ok t₀ ≡ true
 open_valid q t₀ f = ap table_ok f.filled ∙ opened_valid q f.right

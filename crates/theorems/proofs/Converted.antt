@@ -1,4 +1,5 @@
 -- A converted table, proved: the only table 2 with its table 1's bank, codes, slots and records; what is answered on it is what the rules say of the old records.
+use Rattle.std.specs.Prelude.{Result, Some, Ok, Err}
 use Prim.Native.Nat.{ℕ, zero, suc, ◌+◌, ◌*◌, ◌<◌}
 use lib.IntN.{pos, ◌-ℤ◌}
 use mathlib.Core.Path.{◌≡◌, refl, sym, ap, ◌∙◌, subst}
@@ -8,7 +9,6 @@ use native.Mathlib.Omega.{arith}
 use lib.ListN.{length, replicate}
 use lib.Dec.{eqb}
 use Rattle.scan.specs.Bytes.{part, all, text_is}
-use Rattle.ranges.specs.declared.Found.TheVariants.{At}
 use Rattle.words.specs.Numbers.{bytes2, bytes4, bytes8}
 use Rattle.record.specs.declared.Record.{Record}
 use Rattle.record.specs.Slot.{slot_size}
@@ -22,10 +22,10 @@ use Rattle.flow.specs.Flow.{header_of, flow_orders}
 use Rattle.rules.specs.Rules.{judge_notice}
 use Rattle.rules.specs.Effects.{all_records}
 use Rattle.notices.specs.Notices.{noticed}
-use Rattle.desk.specs.declared.FlowAnswer.{FlowAnswer}
+use Rattle.desk.specs.declared.FlowRefusal.{FlowRefusal}
 use Rattle.desk.specs.Desk.{FlowPromise, flow_code}
-use Rattle.convert.specs.declared.Converted.{Converted}
-use Rattle.convert.specs.declared.Converted.TheVariants.{Converts, InvalidTable, WrongLength}
+use Rattle.convert.specs.declared.ConvertRefusal.{ConvertRefusal}
+use Rattle.convert.specs.declared.ConvertRefusal.TheVariants.{InvalidTable, WrongLength}
 use Rattle.convert.specs.Convert.{grown_length, cents_at, converted, convert_of, convert_code, convert_table}
 use Rattle.convert.specs.Same.{Same}
 use Rattle.convert.proofs.Valid.{converts}
@@ -46,15 +46,15 @@ record Filled (o t₀ : List ℕ) : Type 0 where
   right : valid_as table1 o ≡ true
   filled : t₀ ≡ converted o
 
-answered_0 : (o t t₀ : List ℕ) (a : Converted) → a ≡ convert_of o (length t) → t₀ ≡ convert_table a o t → convert_code a ≡ 0 → Filled o t₀
+answered_0 : (o t t₀ : List ℕ) (a : Result Unit ConvertRefusal) → a ≡ convert_of o (length t) → t₀ ≡ convert_table a o t → convert_code a ≡ 0 → Filled o t₀
 unfolding convert_of
-answered_0 o t t₀ Converts e f z = record { right = go (valid_as table1 o) (eqb (length t) (grown_length o)) refl e; filled = f }
+answered_0 o t t₀ (Ok tt) e f z = record { right = go (valid_as table1 o) (eqb (length t) (grown_length o)) refl e; filled = f }
   where
-    go : (x y : Bool) → valid_as table1 o ≡ x → Converts ≡ cond x (cond y Converts WrongLength) InvalidTable → valid_as table1 o ≡ true
+    go : (x y : Bool) → valid_as table1 o ≡ x → Ok tt ≡ cond x (cond y (Ok tt) (Err WrongLength)) (Err InvalidTable) → valid_as table1 o ≡ true
     go true y q h = q
     go false y q h = let u : ◌≡◌ {A = ℕ} 0 1 = cc in absurd (omega arith)
-answered_0 o t t₀ InvalidTable e f z = absurd (omega arith)
-answered_0 o t t₀ WrongLength e f z = absurd (omega arith)
+answered_0 o t t₀ (Err InvalidTable) e f z = absurd (omega arith)
+answered_0 o t t₀ (Err WrongLength) e f z = absurd (omega arith)
 
 -- A CONVERTED TABLE OF BYTES
 module _ (o : List ℕ) (b : are_bytes o ≡ true) where
@@ -129,16 +129,16 @@ conversion E o t t₀ p = record {
     S : Same o t₀
     S = subst (Same o) (sym F.filled) (converts o F.right)
 
-    found : (code : List ℕ) (b : ℕ) → old_body o code ≡ At b → body_of t₀ code ≡ At b
+    found : (code : List ℕ) (b : ℕ) → old_body o code ≡ Some b → body_of t₀ code ≡ Some b
     found code b e = (λ i. find_code (S.codes i) 0 code) ∙ e
 
-    low : (code : List ℕ) (b : ℕ) → body_of t₀ code ≡ At b → b < bodies o
+    low : (code : List ℕ) (b : ℕ) → body_of t₀ code ≡ Some b → b < bodies o
     low code b e = omega (arith, found_body t₀ S.valid code b e, S.number)
 
     only : are_bytes o ≡ true → (u : List ℕ) → are_bytes u ≡ true → Same o u → u ≡ t₀
     only bo u bu U = one_table u t₀ bu (ap are_bytes F.filled ∙ converted_bytes o bo) U.valid S.valid (matching o u t₀ U S)
 
-    flows : (ed : ℕ) (f out : List ℕ) (a : FlowAnswer) (t' out' : List ℕ) → FlowPromise t₀ ed f out a t' out' → flow_code a ≡ 0 → TakenOld o t₀ ed f t' out'
+    flows : (ed : ℕ) (f out : List ℕ) (a : Result (ℕ × ℕ × ℕ) FlowRefusal) (t' out' : List ℕ) → FlowPromise t₀ ed f out a t' out' → flow_code a ≡ 0 → TakenOld o t₀ ed f t' out'
     flows ed f out a t' out' q z =
         let T = condition2.taken t₀ ed f out a t' out' q z in
         let h = header_of T.edition f T.at in

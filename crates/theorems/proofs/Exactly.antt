@@ -4,14 +4,13 @@
 --   notice-exactly   a notice's code is 0 exactly when no listed refusal applies to it
 --   notice-answer    it is another number exactly when the refusal of that number applies and none that applies has an earlier turn
 --   no-such-key      "a kind other than 1 and 2, or a number 0, gets 16"
+use Rattle.std.specs.Prelude.{Option, Result, Some, None as Nothing, Ok, Err}
 use Prim.Native.Nat.{ℕ}
 use mathlib.Core.Path.{◌≡◌, refl, sym, ap, ◌∙◌, subst}
 use mathlib.Core.Bool.{Bool, true}
 use mathlib.Core.List.{List}
 use native.Mathlib.Omega.{arith}
 use Rattle.journal.specs.Told.{Exactly}
-use Rattle.ranges.specs.declared.Found.{Found}
-use Rattle.ranges.specs.declared.Found.TheVariants.{At, Nothing}
 use Rattle.record.specs.declared.Key.{Key}
 use Rattle.record.specs.declared.Record.{Record}
 use Rattle.slots.specs.Slots.{records_at, find_in, distinct, nth, no_record}
@@ -20,18 +19,15 @@ use Rattle.body.specs.Body.{body_ok}
 use Rattle.body.proofs.Slots.{parts, valid_at}
 use Rattle.valid.proofs.Valid.{Valid, ok_bounds}
 use Rattle.order.specs.Ordinativo.{Ordinativo}
-use Rattle.rules.specs.declared.Noticed.{Noticed}
-use Rattle.rules.specs.declared.Noticed.TheVariants.{Moved, Unmoved}
 use Rattle.rules.specs.Rules.{judge_order, order_code, notice_at, judge_notice, notice_code}
 use Rattle.rules.specs.Listed.{Applies, NoticeApplies, unknown, closed, zeroth, past, already, not_yet, notice_turn}
 use Rattle.rules.proofs.Listed.{Decided, taken, stopped, decide, one_in_turn, unmoved_applies, notice_by_lem, moved_none, one_notice_in_turn}
 use Rattle.slots.proofs.Held.{search_held}
 use Rattle.service.specs.Service.{order_comes, notice_comes, notice_stored}
-use Rattle.address.specs.declared.Addressed.TheVariants.{Body}
 use Rattle.address.specs.Address.{addressed}
 use Rattle.address.proofs.Laws.{slots}
-use Rattle.notices.specs.declared.NoticeAnswer.{NoticeAnswer}
-use Rattle.notices.specs.declared.NoticeAnswer.TheVariants.{Declined}
+use Rattle.notices.specs.declared.NoticeRefusal.{NoticeRefusal}
+use Rattle.notices.specs.declared.NoticeRefusal.TheVariants.{Declined}
 use Rattle.calendar.specs.declared.Date.{Date}
 use Rattle.target_days.specs.Target.{target_code}
 use Rattle.notices.specs.Notices.{noticed, notice_by, notice_table_by, NoticePromise, notice_code_of}
@@ -40,7 +36,7 @@ use Rattle.theorems.proofs.Codes.{order_coded, never_zero, noticed_code}
 use Rattle.theorems.specs.Condition2.{None, NoneListed, FirstListed, InTurn, Strange, kind, number}
 
 -- a record that a search found is valid
-pub found_valid : (t : List ℕ) (at n : ℕ) → body_ok t at n ≡ true → (k : Key) (i : ℕ) → find_in (records_at t at n) 0 k ≡ At i → Valid (nth (records_at t at n) i)
+pub found_valid : (t : List ℕ) (at n : ℕ) → body_ok t at n ≡ true → (k : Key) (i : ℕ) → find_in (records_at t at n) 0 k ≡ Some i → Valid (nth (records_at t at n) i)
 found_valid t at n ok k i f =
     let x = search_held t at n k refl f in
     subst Valid (sym x.same) (valid_at t at n i ok x.used)
@@ -97,26 +93,26 @@ module _ (t : List ℕ) (base n : ℕ) (ok : body_ok t base n ≡ true) where
     unfolding notice_comes
     comes_exactly = (λ z c a. taken (judge_notice executing k line records) refl z a, λ h. go h (judge_notice executing k line records) refl)
       where
-        taken : (m : Noticed) → judge_notice executing k line records ≡ m → notice_code m ≡ 0 → {c : ℕ} → NoticeApplies executing k line records c → ⊥
-        taken (Moved i cents) e z a = moved_none executing k line records apart e a
-        taken (Unmoved c) e z a = never (unmoved_applies executing k line records c e) z
+        taken : (m : Result (ℕ × ℕ) ℕ) → judge_notice executing k line records ≡ m → notice_code m ≡ 0 → {c : ℕ} → NoticeApplies executing k line records c → ⊥
+        taken (Ok (i, cents)) e z a = moved_none executing k line records apart e a
+        taken (Err c) e z a = never (unmoved_applies executing k line records c e) z
 
-        go : None (NoticeApplies executing k line records) → (m : Noticed) → judge_notice executing k line records ≡ m → notice_code m ≡ 0
-        go h (Moved i cents) e = refl
-        go h (Unmoved c) e = absurd (h c (unmoved_applies executing k line records c e))
+        go : None (NoticeApplies executing k line records) → (m : Result (ℕ × ℕ) ℕ) → judge_notice executing k line records ≡ m → notice_code m ≡ 0
+        go h (Ok (i, cents)) e = refl
+        go h (Err c) e = absurd (h c (unmoved_applies executing k line records c e))
 
-    comes_refused : (m : Noticed) → notice_comes t base n executing k line ≡ m → (notice_code m ≡ 0 → ⊥) → InTurn notice_turn (NoticeApplies executing k line records) (notice_code m)
+    comes_refused : (m : Result (ℕ × ℕ) ℕ) → notice_comes t base n executing k line ≡ m → (notice_code m ≡ 0 → ⊥) → InTurn notice_turn (NoticeApplies executing k line records) (notice_code m)
     unfolding notice_comes
-    comes_refused (Moved i cents) e h = absurd (h refl)
-    comes_refused (Unmoved code) e h = (
+    comes_refused (Ok (i, cents)) e h = absurd (h refl)
+    comes_refused (Err code) e h = (
       unmoved_applies executing k line records code e,
       λ c a. let b = notice_by_lem executing k line records apart a in let q : b.code ≡ code = cc b.is in omega (arith, b.soon, ap notice_turn q),
     )
 
 -- A NOTICE'S CALL that keeps its promise, for a code that names a body
-module _ (t : List ℕ) (executing : Bool) (code : List ℕ) (k : Key) (line : ℕ) (d : Date) (o : target_code d ≡ 0) (a : NoticeAnswer) (t' : List ℕ)
+module _ (t : List ℕ) (executing : Bool) (code : List ℕ) (k : Key) (line : ℕ) (d : Date) (o : target_code d ≡ 0) (a : Result ℕ NoticeRefusal) (t' : List ℕ)
     (p : NoticePromise t executing code k line d a t')
-    (at base n : ℕ) (e : addressed t code ≡ Body at base n) where
+    (at base n : ℕ) (e : addressed t code ≡ Ok (at, base, n)) where
   comes : a ≡ noticed (notice_comes t base n executing k line)
   unfolding notice_by
   comes = (only_target t code executing k line d o p).0 ∙ ap (notice_by t executing k line) e
@@ -140,11 +136,11 @@ module _ (t : List ℕ) (executing : Bool) (code : List ℕ) (k : Key) (line : �
           let y = notice_refused (λ z. notice_exactly.0 z c x.0) in
           one_notice_in_turn executing k line (records_at t base n) y.0 x.0 (omega (arith, y.1 c x.0, x.1 (notice_code_of a) y.0))
 
-  pub no_such_key : Strange k → (a ≡ Declined 16) × (t' ≡ t)
+  pub no_such_key : Strange k → (a ≡ Err (Declined 16)) × (t' ≡ t)
   unfolding notice_table_by notice_comes judge_notice notice_at notice_stored
   no_such_key s = go (find_in (records_at t base n) 0 k) refl
     where
-      never_found : (i : ℕ) → find_in (records_at t base n) 0 k ≡ At i → Strange k → ⊥
+      never_found : (i : ℕ) → find_in (records_at t base n) 0 k ≡ Some i → Strange k → ⊥
       never_found i f (kind x y) =
           let b = (ok_bounds (nth (records_at t base n) i) (found_valid t base n (slots t code e).valid k i f).ok).kind in
           let q = ap (λ (z : Key). z.kind) (found_key (records_at t base n) k i no_record f) in
@@ -154,9 +150,9 @@ module _ (t : List ℕ) (executing : Bool) (code : List ℕ) (k : Key) (line : �
           let q = ap (λ (z : Key). z.number) (found_key (records_at t base n) k i no_record f) in
           omega arith
 
-      go : (f : Found) → find_in (records_at t base n) 0 k ≡ f → (a ≡ Declined 16) × (t' ≡ t)
+      go : (f : Option ℕ) → find_in (records_at t base n) 0 k ≡ f → (a ≡ Err (Declined 16)) × (t' ≡ t)
       go Nothing f = (
-        comes ∙ ap (λ (x : Found). noticed (notice_at executing line (records_at t base n) x)) f,
-        (only_target t code executing k line d o p).1 ∙ ap (notice_table_by t executing k line) e ∙ ap (λ (x : Found). notice_stored t at base n executing line (notice_at executing line (records_at t base n) x)) f,
+        comes ∙ ap (λ (x : Option ℕ). noticed (notice_at executing line (records_at t base n) x)) f,
+        (only_target t code executing k line d o p).1 ∙ ap (notice_table_by t executing k line) e ∙ ap (λ (x : Option ℕ). notice_stored t at base n executing line (notice_at executing line (records_at t base n) x)) f,
       )
-      go (At i) f = absurd (never_found i f s)
+      go (Some i) f = absurd (never_found i f s)

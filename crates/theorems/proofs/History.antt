@@ -1,4 +1,5 @@
 -- CASH BY HISTORY (request 11), proved. `balances` is the argument itself, for any number that a body's records tell.
+use Rattle.std.specs.Prelude.{Result, Ok, Err}
 use Prim.Native.Nat.{ℕ, zero, suc, ◌+◌, ◌-◌, ◌*◌, ◌≤◌, ◌<◌}
 use mathlib.Core.Path.{◌≡◌, refl, sym, ap, ◌∙◌, subst}
 use mathlib.Core.Bool.{Bool, true, false, ◌&&◌, cond}
@@ -23,10 +24,6 @@ use Rattle.body.proofs.Slots.{parts, empty_records}
 use Rattle.entries.specs.Entry.{slots_of, place_of, closed_of}
 use Rattle.table.specs.Table.{bodies, table_ok, body_of, entry_of}
 use Rattle.order.specs.Ordinativo.{Ordinativo}
-use Rattle.rules.specs.declared.Ruling.{Ruling}
-use Rattle.rules.specs.declared.Ruling.TheVariants.{Accepted, Refused}
-use Rattle.rules.specs.declared.Noticed.{Noticed}
-use Rattle.rules.specs.declared.Noticed.TheVariants.{Moved, Unmoved}
 use Rattle.rules.specs.Rules.{judge_order, judge_notice}
 use Rattle.rules.proofs.Judging.{moved}
 use Rattle.rules.proofs.Kept.{Writable}
@@ -45,8 +42,8 @@ use Rattle.opening.specs.Opening.{opened}
 use Rattle.opening.proofs.Valid.{opened_valid, opened_bodies, past}
 use Rattle.isolation.proofs.Runs.{good_run}
 use Rattle.isolation.proofs.History.{EachLine, balance, shown}
-use Rattle.year_end.specs.declared.CloseAnswer.{CloseAnswer}
-use Rattle.year_end.specs.declared.CloseAnswer.TheVariants.{InvalidTable, UnknownBody, NotAYear, AlreadyClosed, EarlierRemains, LineWaits, Closed}
+use Rattle.year_end.specs.declared.CloseRefusal.{CloseRefusal}
+use Rattle.year_end.specs.declared.CloseRefusal.TheVariants.{InvalidTable, UnknownBody, NotAYear, AlreadyClosed, EarlierRemains, LineWaits}
 use Rattle.year_end.specs.YearEnd.{close_of, close_stored, close_by, close_table_by, close_code}
 use Rattle.year_end.proofs.Laws.{closed_when}
 use Rattle.year_end.proofs.Closed.{closed_records}
@@ -67,6 +64,7 @@ use Rattle.theorems.proofs.Split.{held_parts}
 use Rattle.theorems.proofs.Condition2.{condition2}
 use Rattle.theorems.proofs.Exactly.{found_valid}
 use Rattle.theorems.proofs.Condition3.{laws, found_at, OpenedBy, answered_0, open_valid}
+use Rattle.rules.specs.declared.Change.{Change}
 
 -- THE TABLE AFTER THE CALLS
 module _ (E : Engine) (t₀ : List ℕ) (r : table_ok t₀ ≡ true) (cs : List Call) where
@@ -154,19 +152,19 @@ module _ (t₀ : List ℕ) (r : table_ok t₀ ≡ true) (p : Which) (w : Weight)
     close_moves code year (body a l n) = λ fair.
         rw (n t g) (go (close_of (closed_of t (entry_of a)) year (records_at t (base t₀ a) (size t₀ a))) refl (rw (n t g) at fair))
       where
-        go : (x : CloseAnswer) → close_of (closed_of t (entry_of a)) year (records_at t (base t₀ a) (size t₀ a)) ≡ x
+        go : (x : Result ℕ CloseRefusal) → close_of (closed_of t (entry_of a)) year (records_at t (base t₀ a) (size t₀ a)) ≡ x
             → (close_code (close_of (closed_of t (entry_of a)) year (records_at t (base t₀ a) (size t₀ a))) ≡ 0 → Beyond p year)
             → held a (close_stored t (entry_of a) (base t₀ a) (size t₀ a) year (close_of (closed_of t (entry_of a)) year (records_at t (base t₀ a) (size t₀ a)))) + (0 + 0) ≡ held a t + (0 + 0)
-        go (Closed k) q b =
+        go (Ok k) q b =
             let x = ap h (closed_records t (entry_of a) (base t₀ a) (size t₀ a) year (fits t₀ r t g a l)) in
             let y = W.removes year (b (ap close_code q)) (records_at t (base t₀ a) (size t₀ a)) in
             rw q (omega arith)
-        go InvalidTable q b = rw q refl
-        go UnknownBody q b = rw q refl
-        go NotAYear q b = rw q refl
-        go AlreadyClosed q b = rw q refl
-        go EarlierRemains q b = rw q refl
-        go LineWaits q b = rw q refl
+        go (Err InvalidTable) q b = rw q refl
+        go (Err UnknownBody) q b = rw q refl
+        go (Err NotAYear) q b = rw q refl
+        go (Err AlreadyClosed) q b = rw q refl
+        go (Err EarlierRemains) q b = rw q refl
+        go (Err LineWaits) q b = rw q refl
 
     -- a call with a date that has the code n: on no TARGET day it is no body's
     on_date : (c : Call) (code : List ℕ) (d : Date) (n : ℕ) → target_code d ≡ n → (target_code d ≡ 0 → Moves c t (position t₀ (some code)))
@@ -214,19 +212,19 @@ module _ (E : Engine) (t₀ : List ℕ) (r : table_ok t₀ ≡ true) (b : ℕ) (
       let e : a ≡ b = cc in
       rw (n t g, e) (go (close_of (closed_of t (entry_of b)) year (records_at t (base t₀ b) (size t₀ b))) refl)
     where
-      go : (x : CloseAnswer) → close_of (closed_of t (entry_of b)) year (records_at t (base t₀ b) (size t₀ b)) ≡ x
+      go : (x : Result ℕ CloseRefusal) → close_of (closed_of t (entry_of b)) year (records_at t (base t₀ b) (size t₀ b)) ≡ x
           → close_code (close_of (closed_of t (entry_of b)) year (records_at t (base t₀ b) (size t₀ b))) ≡ 0
           → year ≤ closed_of (close_stored t (entry_of b) (base t₀ b) (size t₀ b) year (close_of (closed_of t (entry_of b)) year (records_at t (base t₀ b) (size t₀ b)))) (entry_of b)
-      go (Closed k) q z =
+      go (Ok k) q z =
           let m = closed_when (closed_of t (entry_of b)) year (records_at t (base t₀ b) (size t₀ b)) k q in
           let y = closed_is t₀ r t g b l year k m in
           rw q (omega arith)
-      go InvalidTable q z = absurd (let y = sym (ap close_code q) ∙ z in omega arith)
-      go UnknownBody q z = absurd (let y = sym (ap close_code q) ∙ z in omega arith)
-      go NotAYear q z = absurd (let y = sym (ap close_code q) ∙ z in omega arith)
-      go AlreadyClosed q z = absurd (let y = sym (ap close_code q) ∙ z in omega arith)
-      go EarlierRemains q z = absurd (let y = sym (ap close_code q) ∙ z in omega arith)
-      go LineWaits q z = absurd (let y = sym (ap close_code q) ∙ z in omega arith)
+      go (Err InvalidTable) q z = absurd (let y = sym (ap close_code q) ∙ z in omega arith)
+      go (Err UnknownBody) q z = absurd (let y = sym (ap close_code q) ∙ z in omega arith)
+      go (Err NotAYear) q z = absurd (let y = sym (ap close_code q) ∙ z in omega arith)
+      go (Err AlreadyClosed) q z = absurd (let y = sym (ap close_code q) ∙ z in omega arith)
+      go (Err EarlierRemains) q z = absurd (let y = sym (ap close_code q) ∙ z in omega arith)
+      go (Err LineWaits) q z = absurd (let y = sym (ap close_code q) ∙ z in omega arith)
 
   its_shuts : (c : Call) (t : List ℕ) → Good t₀ t → who t₀ c ≡ some b → Shuts (closed_of (after c t) (entry_of b)) c (answer c t)
   its_shuts (close code year) t g e = close_shuts code year t g (names t₀ r code) e
@@ -253,22 +251,22 @@ module _ (c : States) (C : Counts c) (p : Which) (v : Value) where
   lines_weigh : Weighs p (weight p v) (brought_by p v) loses (worth_of c p v)
   lines_weigh = record { removes = λ year o. worth_staying p year o c v; order = order; executes = executes; reverses = reverses }
     where
-      order : (t : List ℕ) (at n year : ℕ) (o : Ordinativo) → Writable o → (j : Ruling) → judge_order n year o (records_at t at n) ≡ j
+      order : (t : List ℕ) (at n year : ℕ) (o : Ordinativo) → Writable o → (j : Result (Change × ℕ) ℕ) → judge_order n year o (records_at t at n) ≡ j
           → worth_of c p v (records_by year o (records_at t at n) j) + weighs j (loses year o) ≡ worth_of c p v (records_at t at n) + weighs j (brought_by p v year o)
-      order t at n year o wr (Accepted d i) e = order_worth c C p v n year o (records_at t at n) (full_at t at n) wr.count.1 (Accepted d i) e
-      order t at n year o wr (Refused code) e = refl
+      order t at n year o wr (Ok (d, i)) e = order_worth c C p v n year o (records_at t at n) (full_at t at n) wr.count.1 (Ok (d, i)) e
+      order t at n year o wr (Err code) e = refl
 
-      executes : (t : List ℕ) (at n : ℕ) → body_ok t at n ≡ true → (k : Key) (line : ℕ) (m : Noticed) → judge_notice true k line (records_at t at n) ≡ m
+      executes : (t : List ℕ) (at n : ℕ) → body_ok t at n ≡ true → (k : Key) (line : ℕ) (m : Result (ℕ × ℕ) ℕ) → judge_notice true k line (records_at t at n) ≡ m
           → worth_of c p v (records_moved true line (records_at t at n) m) ≡ worth_of c p v (records_at t at n) + weight p v k line (noticed m)
-      executes t at n ok k line (Moved i cents) e =
+      executes t at n ok k line (Ok (i, cents)) e =
           execute_worth c C p v k line (records_at t at n) i cents e (found_valid t at n ok k i (moved true k line (records_at t at n) i cents e).0)
-      executes t at n ok k line (Unmoved d) e = omega arith
+      executes t at n ok k line (Err d) e = omega arith
 
-      reverses : (t : List ℕ) (at n : ℕ) → body_ok t at n ≡ true → (k : Key) (line : ℕ) (m : Noticed) → judge_notice false k line (records_at t at n) ≡ m
+      reverses : (t : List ℕ) (at n : ℕ) → body_ok t at n ≡ true → (k : Key) (line : ℕ) (m : Result (ℕ × ℕ) ℕ) → judge_notice false k line (records_at t at n) ≡ m
           → worth_of c p v (records_moved false line (records_at t at n) m) + weight p v k line (noticed m) ≡ worth_of c p v (records_at t at n)
-      reverses t at n ok k line (Moved i cents) e =
+      reverses t at n ok k line (Ok (i, cents)) e =
           reverse_worth c C p v k line (records_at t at n) i cents e (found_valid t at n ok k i (moved false k line (records_at t at n) i cents e).0)
-      reverses t at n ok k line (Unmoved d) e = omega arith
+      reverses t at n ok k line (Err d) e = omega arith
 
 -- the executed lines; the held ones; and how many records have a key
 pub worth_weighs : (p : Which) (v : Value) → Weighs p (weight p v) (brought_by p v) (given_by p v) (worth p v)
@@ -285,9 +283,9 @@ there_weighs key = record {
   reverses = λ t at n ok k line m e. omega (arith, notice_there key false line (records_at t at n) m);
 }
   where
-    none_weighs : (j : Ruling) → weighs j 0 ≡ 0
-    none_weighs (Accepted c i) = refl
-    none_weighs (Refused code) = refl
+    none_weighs : (j : Result (Change × ℕ) ℕ) → weighs j 0 ≡ 0
+    none_weighs (Ok (c, i)) = refl
+    none_weighs (Err code) = refl
 
 pub history : HistoryValid
 history E t₀ r b l cs = record {

@@ -1,11 +1,10 @@
 -- A journal's answer.
+use Rattle.std.specs.Prelude.{Option, Some, None}
 use Prim.Native.Nat.{ℕ, zero, suc, ◌≤◌, ◌<◌}
 use mathlib.Core.Path.{◌≡◌, refl, sym, ◌∙◌, subst}
 use mathlib.Core.Bool.{Bool, true, false, cond}
 use mathlib.Core.List.{List, [], ◌∷◌, ◌++◌}
 use native.Mathlib.Omega.{arith}
-use Rattle.ranges.specs.declared.Found.{Found}
-use Rattle.ranges.specs.declared.Found.TheVariants.{At, Nothing}
 use Rattle.entries.specs.Entry.{slots_of, place_of}
 use Rattle.table.specs.Table.{table_ok, body_of, entry_of}
 use Rattle.address.proofs.Laws.{slots}
@@ -53,11 +52,11 @@ module _ (t code s : List ℕ) (c : ℕ) (p : JournalPromise t code s c) where
   unfolding journal_of
   to_1 e = p ∙ rw (no_table t code e)
 
-  to_7 : table_ok t ≡ true → body_of t code ≡ Nothing → c ≡ 7
+  to_7 : table_ok t ≡ true → body_of t code ≡ None → c ≡ 7
   unfolding journal_of
   to_7 ok e = p ∙ rw (no_body t code ok e)
 
-  module _ (b : ℕ) (ok : table_ok t ≡ true) (e : body_of t code ≡ At b) where
+  module _ (b : ℕ) (ok : table_ok t ≡ true) (e : body_of t code ≡ Some b) where
     to_body : c ≡ checked (body_records b t) s
     unfolding journal_of
     to_body = p ∙ rw (is_body t ok code b e)
@@ -78,20 +77,20 @@ module _ (t code s : List ℕ) (c : ℕ) (p : JournalPromise t code s c) where
   -- what a code says, by cases over table, body and bytes
   data Case : Type 0 where
     no_table_case : table_ok t ≡ false → c ≡ 1 → Case
-    no_body_case : table_ok t ≡ true → body_of t code ≡ Nothing → c ≡ 7 → Case
+    no_body_case : table_ok t ≡ true → body_of t code ≡ None → c ≡ 7 → Case
     broken_case : Broken t code s → c ≡ 29 → Case
     own_case : Own c → Case
 
   the_case : Case
   the_case = valid (table_ok t) refl
     where
-      whole : (b : ℕ) → table_ok t ≡ true → body_of t code ≡ At b → (x : Bool) → whole_movements s ≡ x → Case
+      whole : (b : ℕ) → table_ok t ≡ true → body_of t code ≡ Some b → (x : Bool) → whole_movements s ≡ x → Case
       whole b ok e true w = own_case (subst Own (sym (to_code b ok e w)) (own (executed_lines (body_records b t)) [] (movements_in s)))
       whole b ok e false w = broken_case (record { valid = ok; body = b; named = e; broken = w }) (to_29 b ok e w)
 
-      found : table_ok t ≡ true → (f : Found) → body_of t code ≡ f → Case
-      found ok (At b) e = whole b ok e (whole_movements s) refl
-      found ok Nothing e = no_body_case ok e (to_7 ok e)
+      found : table_ok t ≡ true → (f : Option ℕ) → body_of t code ≡ f → Case
+      found ok (Some b) e = whole b ok e (whole_movements s) refl
+      found ok None e = no_body_case ok e (to_7 ok e)
 
       valid : (x : Bool) → table_ok t ≡ x → Case
       valid true ok = found ok (body_of t code) refl
@@ -103,7 +102,7 @@ module _ (t code s : List ℕ) (c : ℕ) (p : JournalPromise t code s c) where
   from_1 (broken_case w z) h = absurd (omega arith)
   from_1 (own_case o) h = absurd (low 0 o h (omega arith))
 
-  from_7 : Case → c ≡ 7 → (table_ok t ≡ true) × (body_of t code ≡ Nothing)
+  from_7 : Case → c ≡ 7 → (table_ok t ≡ true) × (body_of t code ≡ None)
   from_7 (no_table_case e z) h = absurd (omega arith)
   from_7 (no_body_case ok e z) h = (ok, e)
   from_7 (broken_case w z) h = absurd (omega arith)
@@ -118,13 +117,13 @@ module _ (t code s : List ℕ) (c : ℕ) (p : JournalPromise t code s c) where
   accepts : c ≡ 0 → Accepts t code s
   accepts z = valid (table_ok t) refl
     where
-      whole : (b : ℕ) → table_ok t ≡ true → body_of t code ≡ At b → (x : Bool) → whole_movements s ≡ x → Accepts t code s
+      whole : (b : ℕ) → table_ok t ≡ true → body_of t code ≡ Some b → (x : Bool) → whole_movements s ≡ x → Accepts t code s
       whole b ok e true w = record { valid = ok; body = b; named = e; whole = w; same = (to_told b ok e).accepted.0 (sym (to_code b ok e w) ∙ z) }
       whole b ok e false w = absurd (omega (arith, to_29 b ok e w))
 
-      found : table_ok t ≡ true → (f : Found) → body_of t code ≡ f → Accepts t code s
-      found ok (At b) e = whole b ok e (whole_movements s) refl
-      found ok Nothing e = absurd (omega (arith, to_7 ok e))
+      found : table_ok t ≡ true → (f : Option ℕ) → body_of t code ≡ f → Accepts t code s
+      found ok (Some b) e = whole b ok e (whole_movements s) refl
+      found ok None e = absurd (omega (arith, to_7 ok e))
 
       valid : (x : Bool) → table_ok t ≡ x → Accepts t code s
       valid true ok = found ok (body_of t code) refl

@@ -1,16 +1,17 @@
 -- No second answer, proved: each promise is equations for the answer and for every byte.
+use Rattle.std.specs.Prelude.{Result}
 use Prim.Native.Nat.{ℕ}
 use mathlib.Core.Path.{◌≡◌, sym, ap, ◌∙◌}
 use mathlib.Core.List.{List}
-use Rattle.opening.specs.declared.Opened.{Opened}
+use Rattle.opening.specs.declared.OpenRefusal.{OpenRefusal}
 use Rattle.opening.specs.Opening.{open_code, open_table, OpenPromise}
-use Rattle.convert.specs.declared.Converted.{Converted}
+use Rattle.convert.specs.declared.ConvertRefusal.{ConvertRefusal}
 use Rattle.convert.specs.Convert.{convert_code, convert_table, ConvertPromise}
-use Rattle.salvage.specs.declared.Salvaged.{Salvaged}
+use Rattle.salvage.specs.declared.SalvageRefusal.{SalvageRefusal}
 use Rattle.salvage.specs.Salvage.{salvage_table, salvage_report, salvage_reply, SalvagePromise}
-use Rattle.notices.specs.declared.NoticeAnswer.{NoticeAnswer}
+use Rattle.notices.specs.declared.NoticeRefusal.{NoticeRefusal}
 use Rattle.notices.specs.Notices.{notice_reply, notice_code_of}
-use Rattle.year_end.specs.declared.CloseAnswer.{CloseAnswer}
+use Rattle.year_end.specs.declared.CloseRefusal.{CloseRefusal}
 use Rattle.year_end.specs.YearEnd.{close_reply, close_code}
 use Rattle.desk.specs.declared.FlowReply.{FlowReply}
 use Rattle.desk.specs.Desk.{flow_reply}
@@ -24,13 +25,13 @@ one e d = e ∙ sym d
 same : {A : Type 0} (f : A → ℕ) {x y : A} {m n : ℕ} → x ≡ y → m ≡ f x → n ≡ f y → m ≡ n
 same f e p q = p ∙ ap f e ∙ sym q
 
-one_open : (q t : List ℕ) (a b : Opened) (u v : List ℕ) → OpenPromise q t a u → OpenPromise q t b v → (a ≡ b) × (u ≡ v)
+one_open : (q t : List ℕ) (a b : Result Unit OpenRefusal) (u v : List ℕ) → OpenPromise q t a u → OpenPromise q t b v → (a ≡ b) × (u ≡ v)
 one_open q t a b u v m n = (one m.0 n.0, one (m.1 ∙ (λ i. open_table (m.0 i) q t)) (n.1 ∙ (λ i. open_table (n.0 i) q t)))
 
-one_convert : (o t : List ℕ) (a b : Converted) (u v : List ℕ) → ConvertPromise o t a u → ConvertPromise o t b v → (a ≡ b) × (u ≡ v)
+one_convert : (o t : List ℕ) (a b : Result Unit ConvertRefusal) (u v : List ℕ) → ConvertPromise o t a u → ConvertPromise o t b v → (a ≡ b) × (u ≡ v)
 one_convert o t a b u v m n = (one m.0 n.0, one (m.1 ∙ (λ i. convert_table (m.0 i) o t)) (n.1 ∙ (λ i. convert_table (n.0 i) o t)))
 
-one_salvage : (t r : List ℕ) (a b : Salvaged) (u v x y : List ℕ) → SalvagePromise t r a u x → SalvagePromise t r b v y → (a ≡ b) × (u ≡ v) × (x ≡ y)
+one_salvage : (t r : List ℕ) (a b : Result ℕ SalvageRefusal) (u v x y : List ℕ) → SalvagePromise t r a u x → SalvagePromise t r b v y → (a ≡ b) × (u ≡ v) × (x ≡ y)
 one_salvage t r a b u v x y m n = (
   one m.0 n.0,
   one (m.1 ∙ (λ i. salvage_table (m.0 i) t)) (n.1 ∙ (λ i. salvage_table (n.0 i) t)),
@@ -65,11 +66,11 @@ no_second = record {
       (λ i. record { code = code i; place = place i; orders = orders i; accepted = accepted i; cause = cause i; steps = steps i }, one p.1.1 q.1.1, one p.1.2 q.1.2);
   notice_replies = λ t executing code k line d m n cents dents u v x y.
       let e = one x.1.0 y.1.0 in
-      (same notice_code_of e x.2 y.2, same (λ (a : NoticeAnswer). (notice_reply a).cents) e x.3 y.3, one x.1.1 y.1.1);
+      (same notice_code_of e x.2 y.2, same (λ (a : Result ℕ NoticeRefusal). (notice_reply a).cents) e x.3 y.3, one x.1.1 y.1.1);
   salvage_replies = λ t r m n k l u v x y p q.
       let e = one_salvage t r p.0 q.0 u v x y p.1 q.1 in
-      (same (λ (a : Salvaged). (salvage_reply a).code) e.0 p.2 q.2, same (λ (a : Salvaged). (salvage_reply a).blanked) e.0 p.3 q.3, e.1, e.2);
+      (same (λ (a : Result ℕ SalvageRefusal). (salvage_reply a).code) e.0 p.2 q.2, same (λ (a : Result ℕ SalvageRefusal). (salvage_reply a).blanked) e.0 p.3 q.3, e.1, e.2);
   close_replies = λ t code year m n k l u v x y.
       let e = one x.1.0 y.1.0 in
-      (same close_code e x.2 y.2, same (λ (a : CloseAnswer). (close_reply a).removed) e x.3 y.3, one x.1.1 y.1.1);
+      (same close_code e x.2 y.2, same (λ (a : Result ℕ CloseRefusal). (close_reply a).removed) e x.3 y.3, one x.1.1 y.1.1);
 }

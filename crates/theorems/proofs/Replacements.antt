@@ -1,4 +1,5 @@
 -- REPLACEMENT ORDERS, proved: an accepted one passed every test, so that it stands in the first empty slot and its named lines are all replaced.
+use Rattle.std.specs.Prelude.{Result, Some, Ok, Err}
 use Prim.Native.Nat.{ℕ, zero, suc, ◌+◌, ◌-◌, ◌<◌}
 use mathlib.Core.Path.{◌≡◌, refl, sym, ap, ◌∙◌, subst}
 use mathlib.Core.Bool.{Bool, true, false, cond}
@@ -8,7 +9,6 @@ use mathlib.Core.List.{List, [], ◌∷◌, ◌++◌, Memᴰ}
 use native.Mathlib.Omega.{arith}
 use lib.Dec.{ltb}
 use lib.ListN.{length, get_or, set}
-use Rattle.ranges.specs.declared.Found.TheVariants.{At}
 use Rattle.codes.specs.declared.Operation.{Operation}
 use Rattle.codes.specs.declared.Operation.TheVariants.{Sostituzione}
 use Rattle.order.specs.declared.Line.{Line}
@@ -24,19 +24,18 @@ use Rattle.replacing.specs.Replacing.{naming_of, namings_of, namings, line_named
 use Rattle.replacing.proofs.Marks.{marked_find, marked_is, takes, inside_list, or_zero, replaced_length}
 use Rattle.replacing.proofs.Twice.{never_twice}
 use Rattle.rules.specs.declared.Change.TheVariants.{Replace}
-use Rattle.rules.specs.declared.Ruling.{Ruling}
-use Rattle.rules.specs.declared.Ruling.TheVariants.{Accepted, Refused}
 use Rattle.rules.specs.Rules.{change_of, situation_of, step_code, key_for, placed, unless, stepped, judge_change, judge_order, order_code, written, record_of}
 use Rattle.rules.specs.Listed.{IsReplaced}
 use Rattle.rules.specs.Effects.{stored_at, records_by}
 use Rattle.service.proofs.Worth.{stored_end}
 use Rattle.theorems.specs.Replacements.{Replaced, Replacements}
+use Rattle.rules.specs.declared.Change.{Change}
 
 -- the tests of a replacement: its lines, the step, the lines that it names, an empty slot at k
-abbrev tests : ℕ → ℕ → ℕ → Bool → ℕ → Ruling
-tests lines step named room k = unless Refused lines (unless Refused step (unless Refused named (cond room (Accepted Replace k) (Refused 15))))
+abbrev tests : ℕ → ℕ → ℕ → Bool → ℕ → Result (Change × ℕ) ℕ
+tests lines step named room k = unless Err lines (unless Err step (unless Err named (cond room (Ok (Replace, k)) (Err 15))))
 
-passed : (lines step named : ℕ) (room : Bool) (k : ℕ) → order_code (tests lines step named room k) ≡ 0 → (tests lines step named room k ≡ Accepted Replace k) × (named ≡ 0)
+passed : (lines step named : ℕ) (room : Bool) (k : ℕ) → order_code (tests lines step named room k) ≡ 0 → (tests lines step named room k ≡ Ok (Replace, k)) × (named ≡ 0)
 passed zero zero zero true k e = (refl, refl)
 passed zero zero zero false k e = absurd (omega arith)
 passed zero zero (suc n) room k e = absurd (omega arith)
@@ -49,7 +48,7 @@ module _ (slots year : ℕ) (o : Ordinativo) (rs : List Record) (p : o.operation
   unfolding judge_order stepped placed
   judged = ap (λ (x : Operation). judge_change slots year o rs (change_of x)) p
 
-  through : (judge_order slots year o rs ≡ Accepted Replace (length rs)) × (replace_code rs (namings o) ≡ 0)
+  through : (judge_order slots year o rs ≡ Ok (Replace, (length rs))) × (replace_code rs (namings o) ≡ 0)
   through =
       let w = passed (line_code o.lines o.total) (step_code Replace (situation_of rs (find_in rs 0 (key_for year o)))) (replace_code rs (namings o)) (ltb (length rs) slots) (length rs) (sym (ap order_code judged) ∙ z) in
       (judged ∙ w.0, w.1)
@@ -122,13 +121,13 @@ module _ (kind : ℕ) where
       go (inr w) next = next w
 
 -- BEFORE A NEW LAST RECORD all are found and stand as they did
-find_before : (rs : List Record) (r : Record) (j : ℕ) (k : Key) (i : ℕ) → find_in rs j k ≡ At i → find_in (rs ++ r ∷ []) j k ≡ At i
+find_before : (rs : List Record) (r : Record) (j : ℕ) (k : Key) (i : ℕ) → find_in rs j k ≡ Some i → find_in (rs ++ r ∷ []) j k ≡ Some i
 unfolding find_in
 find_before [] r j k i e = let z : ◌≡◌ {A = ℕ} 0 1 = cc in absurd (omega arith)
 find_before (x ∷ rs) r j k i e = go (key_is x k) (find_before rs r (j + 1) k i) e
   where
-    go : (b : Bool) → (find_in rs (j + 1) k ≡ At i → find_in (rs ++ r ∷ []) (j + 1) k ≡ At i) → cond b (At j) (find_in rs (j + 1) k) ≡ At i
-        → cond b (At j) (find_in (rs ++ r ∷ []) (j + 1) k) ≡ At i
+    go : (b : Bool) → (find_in rs (j + 1) k ≡ Some i → find_in (rs ++ r ∷ []) (j + 1) k ≡ Some i) → cond b (Some j) (find_in rs (j + 1) k) ≡ Some i
+        → cond b (Some j) (find_in (rs ++ r ∷ []) (j + 1) k) ≡ Some i
     go true f e = e
     go false f e = f e
 

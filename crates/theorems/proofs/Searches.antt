@@ -1,4 +1,5 @@
 -- STEPS OF A SEARCH, proved: an order's code tells whether it was looked for.
+use Rattle.std.specs.Prelude.{Option, Result, Some, None, Ok, Err}
 use Prim.Native.Nat.{ℕ, zero, suc, ◌-◌, ◌≤◌}
 use mathlib.Core.Path.{◌≡◌, refl, ap, ◌∙◌}
 use mathlib.Core.Bool.{Bool, true, false, cond, ◌&&◌}
@@ -7,8 +8,6 @@ use mathlib.Core.Logic.{◌⊎◌, inl, inr}
 use native.Mathlib.Omega.{arith}
 use lib.Dec.{eqb, leb, ltb}
 use lib.ListN.{length, get_or}
-use Rattle.ranges.specs.declared.Found.{Found}
-use Rattle.ranges.specs.declared.Found.TheVariants.{At, Nothing}
 use Rattle.order.specs.declared.Line.{Line}
 use Rattle.order.specs.Ordinativo.{Ordinativo}
 use Rattle.record.specs.declared.Record.{Record}
@@ -20,8 +19,6 @@ use Rattle.rules.specs.declared.Situation.{Situation}
 use Rattle.rules.specs.declared.Situation.TheVariants.{Absent, Annulled, Waiting, Executed}
 use Rattle.rules.specs.declared.Change.{Change}
 use Rattle.rules.specs.declared.Change.TheVariants.{Insert, Vary, Annul, Replace}
-use Rattle.rules.specs.declared.Ruling.{Ruling}
-use Rattle.rules.specs.declared.Ruling.TheVariants.{Accepted, Refused}
 use Rattle.rules.specs.Rules.{change_of, situation_of, step_code, same_order, placed, unless, stepped, key_for, judge_order, order_code}
 use Rattle.rules.specs.Searches.{looked_at, steps_of}
 use Rattle.desk.proofs.Refusals.{code_zeros}
@@ -31,7 +28,7 @@ use Rattle.theorems.specs.Searches.{Searches}
 abbrev Past : ℕ → Type 0
 Past c = (c ≡ 0) ⊎ (14 ≤ c)
 
-unless_past : (c : ℕ) (j : Ruling) → Past c → Past (order_code j) → Past (order_code (unless Refused c j))
+unless_past : (c : ℕ) (j : Result (Change × ℕ) ℕ) → Past c → Past (order_code j) → Past (order_code (unless Err c j))
 unless_past zero j h k = k
 unless_past (suc c) j h k = h
 
@@ -64,9 +61,9 @@ named_past rs m = at (find_in rs 0 m.key)
     in_record true true false = inr (omega arith)
     in_record true true true = inl refl
 
-    at : (f : Found) → Past (named_at rs m f)
-    at Nothing = inr (omega arith)
-    at (At i) = in_record (leb 1 m.line && leb m.line (nth rs i).lines) (eqb (get_or (nth rs i).states (m.line - 1) 0) 2) (eqb (get_or (nth rs i).amounts (m.line - 1) 0) m.amount)
+    at : (f : Option ℕ) → Past (named_at rs m f)
+    at None = inr (omega arith)
+    at (Some i) = in_record (leb 1 m.line && leb m.line (nth rs i).lines) (eqb (get_or (nth rs i).states (m.line - 1) 0) 2) (eqb (get_or (nth rs i).amounts (m.line - 1) 0) m.amount)
 
 first_past : (c n : ℕ) → Past c → Past n → Past (first_code c n)
 first_past zero n h k = k
@@ -77,21 +74,21 @@ unfolding replace_code
 names_past rs [] = inl refl
 names_past rs (m ∷ ms) = first_past (named_code rs m) _ (named_past rs m) (names_past (with_replaced rs m) ms)
 
-either_past : (b : Bool) (c : Change) (i code : ℕ) → 14 ≤ code → Past (order_code (cond b (Accepted c i) (Refused code)))
+either_past : (b : Bool) (c : Change) (i code : ℕ) → 14 ≤ code → Past (order_code (cond b (Ok (c, i)) (Err code)))
 either_past true c i code h = inl refl
 either_past false c i code h = inr h
 
-placed_past : (slots : ℕ) (o : Ordinativo) (rs : List Record) (c : Change) (f : Found) → Past (order_code (placed slots o rs c f))
+placed_past : (slots : ℕ) (o : Ordinativo) (rs : List Record) (c : Change) (f : Option ℕ) → Past (order_code (placed slots o rs c f))
 unfolding placed
 placed_past slots o rs Insert f = either_past (ltb (length rs) slots) Insert (length rs) 15 (omega arith)
 placed_past slots o rs Replace f =
     unless_past (replace_code rs (namings o)) _ (names_past rs (namings o)) (either_past (ltb (length rs) slots) Replace (length rs) 15 (omega arith))
-placed_past slots o rs Vary (At i) = inl refl
-placed_past slots o rs Vary Nothing = inr (omega arith)
-placed_past slots o rs Annul (At i) = either_past (same_order o (nth rs i)) Annul i 19 (omega arith)
-placed_past slots o rs Annul Nothing = inr (omega arith)
+placed_past slots o rs Vary (Some i) = inl refl
+placed_past slots o rs Vary None = inr (omega arith)
+placed_past slots o rs Annul (Some i) = either_past (same_order o (nth rs i)) Annul i 19 (omega arith)
+placed_past slots o rs Annul None = inr (omega arith)
 
-stepped_past : (slots : ℕ) (o : Ordinativo) (rs : List Record) (c : Change) (f : Found) → Past (order_code (stepped slots o rs c f))
+stepped_past : (slots : ℕ) (o : Ordinativo) (rs : List Record) (c : Change) (f : Option ℕ) → Past (order_code (stepped slots o rs c f))
 unfolding stepped
 stepped_past slots o rs c f = unless_past (step_code c (situation_of rs f)) _ (step_past c (situation_of rs f)) (placed_past slots o rs c f)
 
@@ -113,8 +110,8 @@ pub data Told (looked : ℕ) : ℕ → ℕ → Type 0 where
   before : {c : ℕ} → (c ≡ 12) ⊎ (c ≡ 13) → Told looked c 0
   past : {c : ℕ} → Past c → Told looked c looked
 
-lines_told : (code looked : ℕ) (j : Ruling) → Lined code → Past (order_code j)
-    → Told looked (order_code (unless Refused code j)) (unless (λ c. 0) code looked)
+lines_told : (code looked : ℕ) (j : Result (Change × ℕ) ℕ) → Lined code → Past (order_code j)
+    → Told looked (order_code (unless Err code j)) (unless (λ c. 0) code looked)
 lines_told zero looked j h k = past k
 lines_told (suc code) looked j (inl e) k = absurd (omega arith)
 lines_told (suc code) looked j (inr e) k = before e

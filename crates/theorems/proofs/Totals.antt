@@ -1,4 +1,5 @@
 -- Totals kept in the contents, proved: kept after any calls, read from the contents alone, and moved by notices only.
+use Rattle.std.specs.Prelude.{Result, Some, Ok}
 use Prim.Native.Nat.{ℕ, zero, suc, ◌+◌, ◌-◌, ◌*◌, ◌≤◌, ◌<◌}
 use lib.IntN.{pos, ◌-ℤ◌}
 use mathlib.Core.Path.{◌≡◌, refl, sym, ap, ◌∙◌}
@@ -9,7 +10,6 @@ use lib.ListN.{length, get_or, drop, length-drop}
 use lib.Seq.{length-take-le, get_or-take, get_or-drop}
 use Rattle.calendar.specs.declared.Date.{Date}
 use Rattle.target_days.specs.Target.{target_code}
-use Rattle.ranges.specs.declared.Found.TheVariants.{At}
 use Rattle.words.proofs.Laws.{Agree, same2, same8}
 use Rattle.record.specs.declared.Key.{Key}
 use Rattle.record.specs.declared.Record.{Record}
@@ -27,8 +27,7 @@ use Rattle.rules.specs.Worth.{worth, of_kind, its_cents}
 use Rattle.service.specs.Service.{order_comes}
 use Rattle.service.proofs.Totals.{agrees_is}
 use Rattle.service.proofs.Worth.{full_at, order_cash, cents_worth}
-use Rattle.notices.specs.declared.NoticeAnswer.{NoticeAnswer}
-use Rattle.notices.specs.declared.NoticeAnswer.TheVariants.{Done}
+use Rattle.notices.specs.declared.NoticeRefusal.{NoticeRefusal}
 use Rattle.notices.specs.Notices.{noticed, NoticePromise}
 use Rattle.theorems.specs.Engine.{body_records, table_after}
 use Rattle.theorems.specs.History.{weight}
@@ -101,8 +100,8 @@ on_screen t ok code a p = (
 )
 
 -- WHAT MOVES CASH: an accepted notice, as its records weigh it
-module _ (t : List ℕ) (ok : table_ok t ≡ true) (code : List ℕ) (b : ℕ) (e : body_of t code ≡ At b) (x : Bool) (k : Key) (line : ℕ) (d : Date) (z : target_code d ≡ 0)
-    (a : NoticeAnswer) (t' : List ℕ) (p : NoticePromise t x code k line d a t') where
+module _ (t : List ℕ) (ok : table_ok t ≡ true) (code : List ℕ) (b : ℕ) (e : body_of t code ≡ Some b) (x : Bool) (k : Key) (line : ℕ) (d : Date) (z : target_code d ≡ 0)
+    (a : Result ℕ NoticeRefusal) (t' : List ℕ) (p : NoticePromise t x code k line d a t') where
   abbrev rs : List Record
   rs = body_records b t
 
@@ -115,8 +114,8 @@ module _ (t : List ℕ) (ok : table_ok t ≡ true) (code : List ℕ) (b : ℕ) (
       ap (cents_of kind) (condition2.moved t ok code b e x k line d z a t' p ∙ (λ i. records_moved (q i) line rs (judge_notice (q i) k line rs)))
       ∙ cents_worth kind (records_moved y line rs (judge_notice y k line rs))
 
-  weighed : (y : Bool) → x ≡ y → (cents : ℕ) → a ≡ Done cents → (kind : ℕ)
-      → weight (of_kind kind) its_cents k line (noticed (judge_notice y k line rs)) ≡ weight (of_kind kind) its_cents k line (Done cents)
+  weighed : (y : Bool) → x ≡ y → (cents : ℕ) → a ≡ Ok cents → (kind : ℕ)
+      → weight (of_kind kind) its_cents k line (noticed (judge_notice y k line rs)) ≡ weight (of_kind kind) its_cents k line (Ok cents)
   weighed y q cents f kind =
       ap (weight (of_kind kind) its_cents k line)
       ((λ i. noticed (judge_notice (sym q i) k line rs)) ∙ sym (condition2.notices t ok code b e x k line d z a t' p) ∙ f)

@@ -1,4 +1,5 @@
 -- WHAT A LOG WEIGHS: weights add up, and a flow that is served weighs what the rules' codes let its orders weigh. For cash by history (History).
+use Rattle.std.specs.Prelude.{Option, Result, Some, None, Ok, Err}
 use Prim.Native.Nat.{ℕ, ◌+◌, ◌*◌, ◌≤◌, ◌<◌}
 use mathlib.Core.Path.{◌≡◌, refl, ◌∙◌, subst}
 use mathlib.Core.Bool.{Bool, true, false, cond}
@@ -17,16 +18,11 @@ use Rattle.body.specs.Body.{body_ok}
 use Rattle.entries.specs.Entry.{closed_of}
 use Rattle.table.specs.Table.{table_ok, abi_of}
 use Rattle.editions.specs.declared.Edition.{Edition}
-use Rattle.editions.specs.declared.Edited.{Edited}
-use Rattle.editions.specs.declared.Edited.TheVariants.{By, NoEdition}
 use Rattle.editions.specs.Editions.{edition_of}
-use Rattle.flow.specs.declared.Verdict.{Verdict}
-use Rattle.flow.specs.declared.Verdict.TheVariants.{MarkupBreaks, StructureBreaks, FieldBreaks, Stands}
+use Rattle.flow.specs.declared.Breakage.{Breakage}
+use Rattle.flow.specs.declared.Breakage.TheVariants.{MarkupBreaks, StructureBreaks, FieldBreaks}
 use Rattle.flow.specs.Flow.{verdict_of, header_of, flow_orders}
 use Rattle.order.specs.Ordinativo.{Ordinativo}
-use Rattle.rules.specs.declared.Ruling.{Ruling}
-use Rattle.rules.specs.declared.Ruling.TheVariants.{Accepted, Refused}
-use Rattle.rules.specs.declared.Noticed.{Noticed}
 use Rattle.rules.specs.Rules.{order_code, judge_order, judge_notice}
 use Rattle.rules.specs.Worth.{Which}
 use Rattle.rules.specs.Effects.{records_by, all_records, records_moved}
@@ -36,11 +32,11 @@ use Rattle.service.specs.Service.{order_leaves}
 use Rattle.service.proofs.Kept.{order_kept, order_records}
 use Rattle.service.proofs.Worth.{weighs}
 use Rattle.notices.specs.Notices.{noticed}
-use Rattle.address.specs.declared.Addressed.{Addressed}
-use Rattle.address.specs.declared.Addressed.TheVariants.{Invalid, Unknown, Body}
+use Rattle.address.specs.declared.NoBody.{NoBody}
+use Rattle.address.specs.declared.NoBody.TheVariants.{Invalid, Unknown}
 use Rattle.address.specs.Address.{body_named}
-use Rattle.desk.specs.declared.FlowAnswer.{FlowAnswer}
-use Rattle.desk.specs.declared.FlowAnswer.TheVariants.{InvalidTable, TooLong, OtherBank, ClosedYear, NoRoom}
+use Rattle.desk.specs.declared.FlowRefusal.{FlowRefusal}
+use Rattle.desk.specs.declared.FlowRefusal.TheVariants.{InvalidTable, TooLong, OtherBank, ClosedYear, NoRoom}
 use Rattle.desk.specs.Desk.{refused, served, for_body, for_flow, by_edition, flow_reads, flow_code}
 use Rattle.isolation.specs.Tally.{tally}
 use Rattle.theorems.specs.Engine.{Call, flow, execute, reverse, totals, journal, close, Answer, of_flow, of_notice, of_totals, of_journal, of_close}
@@ -48,6 +44,7 @@ use Rattle.theorems.specs.Codes.{outcome_codes}
 use Rattle.theorems.specs.Condition2.{codes_in_turn}
 use Rattle.theorems.specs.History.{Weight, weighed, of_reversal, reversals, OrderWeight, of_orders, of_verdict, of_edited, of_flowed, accepted}
 use Rattle.theorems.proofs.Codes.{Coded, order_coded, never_zero}
+use Rattle.rules.specs.declared.Change.{Change}
 
 -- WEIGHTS ADD UP, of orders, flows and logs
 abbrev plus : OrderWeight → OrderWeight → OrderWeight
@@ -66,17 +63,17 @@ orders_add u w year (o ∷ os) (c ∷ codes) = go (eqb c 0) (orders_add u w year
     go false e = omega arith
 
 module _ (u w : OrderWeight) (f out : List ℕ) where
-  verdict_adds : (e : Edition) (v : Verdict) → of_verdict (plus u w) e f out v ≡ of_verdict u e f out v + of_verdict w e f out v
-  verdict_adds e (Stands at) = orders_add u w (header_of e f at).esercizio (flow_orders e f at) (outcome_codes (length (flow_orders e f at)) out)
-  verdict_adds e (MarkupBreaks p) = refl
-  verdict_adds e StructureBreaks = refl
-  verdict_adds e (FieldBreaks p c) = refl
+  verdict_adds : (e : Edition) (v : Result ℕ Breakage) → of_verdict (plus u w) e f out v ≡ of_verdict u e f out v + of_verdict w e f out v
+  verdict_adds e (Ok at) = orders_add u w (header_of e f at).esercizio (flow_orders e f at) (outcome_codes (length (flow_orders e f at)) out)
+  verdict_adds e (Err (MarkupBreaks p)) = refl
+  verdict_adds e (Err StructureBreaks) = refl
+  verdict_adds e (Err (FieldBreaks p c)) = refl
 
-  edited_adds : (x : Edited) → of_edited (plus u w) f out x ≡ of_edited u f out x + of_edited w f out x
-  edited_adds (By e) = verdict_adds e (verdict_of e f)
-  edited_adds NoEdition = refl
+  edited_adds : (x : Option Edition) → of_edited (plus u w) f out x ≡ of_edited u f out x + of_edited w f out x
+  edited_adds (Some e) = verdict_adds e (verdict_of e f)
+  edited_adds None = refl
 
-  cond_adds : (x : Bool) (y : Edited) → cond x (of_edited (plus u w) f out y) 0 ≡ cond x (of_edited u f out y) 0 + cond x (of_edited w f out y) 0
+  cond_adds : (x : Bool) (y : Option Edition) → cond x (of_edited (plus u w) f out y) 0 ≡ cond x (of_edited u f out y) 0 + cond x (of_edited w f out y) 0
   cond_adds true y = edited_adds y
   cond_adds false y = refl
 
@@ -136,22 +133,22 @@ Beyond p year = (k : Key) → p k ≡ true → year < k.esercizio
 -- tells of later years alone, by nothing
 pub record Weighs (p : Which) (w : Weight) (gain loss : OrderWeight) (h : List Record → ℕ) : Type 0 where
   pub removes : (year : ℕ) → Beyond p year → (rs : List Record) → h (staying year rs) ≡ h rs
-  pub order : (t : List ℕ) (at n year : ℕ) (o : Ordinativo) → Writable o → (j : Ruling) → judge_order n year o (records_at t at n) ≡ j
+  pub order : (t : List ℕ) (at n year : ℕ) (o : Ordinativo) → Writable o → (j : Result (Change × ℕ) ℕ) → judge_order n year o (records_at t at n) ≡ j
       → h (records_by year o (records_at t at n) j) + weighs j (loss year o) ≡ h (records_at t at n) + weighs j (gain year o)
-  pub executes : (t : List ℕ) (at n : ℕ) → body_ok t at n ≡ true → (k : Key) (line : ℕ) (m : Noticed) → judge_notice true k line (records_at t at n) ≡ m
+  pub executes : (t : List ℕ) (at n : ℕ) → body_ok t at n ≡ true → (k : Key) (line : ℕ) (m : Result (ℕ × ℕ) ℕ) → judge_notice true k line (records_at t at n) ≡ m
       → h (records_moved true line (records_at t at n) m) ≡ h (records_at t at n) + w k line (noticed m)
-  pub reverses : (t : List ℕ) (at n : ℕ) → body_ok t at n ≡ true → (k : Key) (line : ℕ) (m : Noticed) → judge_notice false k line (records_at t at n) ≡ m
+  pub reverses : (t : List ℕ) (at n : ℕ) → body_ok t at n ≡ true → (k : Key) (line : ℕ) (m : Result (ℕ × ℕ) ℕ) → judge_notice false k line (records_at t at n) ≡ m
       → h (records_moved false line (records_at t at n) m) + w k line (noticed m) ≡ h (records_at t at n)
 
 -- A FLOW'S ORDERS, by the codes in their outcomes
-code_weighs : (j : Ruling) → Coded j → (n : ℕ) → cond (eqb (order_code j) 0) n 0 ≡ weighs j n
-code_weighs (Accepted c i) h n = refl
-code_weighs (Refused c) h n = go (eqb c 0) refl
+code_weighs : (j : Result (Change × ℕ) ℕ) → Coded j → (n : ℕ) → cond (eqb (order_code j) 0) n 0 ≡ weighs j n
+code_weighs (Ok (c, i)) h n = refl
+code_weighs (Err c) h n = go (eqb c 0) refl
   where
     go : (u : Bool) → eqb c 0 ≡ u → cond u n 0 ≡ 0
     go true q =
-        let x = never_zero (Refused c) h (eqb-true c 0 q) in
-        let y : Refused c ≡ Accepted x.0 x.1 = x.2 in
+        let x = never_zero (Err c) h (eqb-true c 0 q) in
+        let y : ◌≡◌ {A = Result (Change × ℕ) ℕ} (Err c) (Ok (x.0, x.1)) = x.2 in
         let z : ◌≡◌ {A = ℕ} 0 1 = cc in
         absurd (omega arith)
     go false q = refl
@@ -176,10 +173,10 @@ module _ (w : OrderWeight) (t f out' : List ℕ) (base n year room : ℕ) (os : 
   abbrev Its : ℕ → Type 0
   Its x = x ≡ of_orders w year os (outcome_codes (length os) out')
 
-  no_clash : {A : Type 0} {a : FlowAnswer} → refused a ≡ served base n year os → A
+  no_clash : {A : Type 0} {a : Result (ℕ × ℕ × ℕ) FlowRefusal} → refused a ≡ served base n year os → A
   no_clash e = let z : ◌≡◌ {A = ℕ} 0 1 = cc in absurd (omega arith)
 
-  by_room : (b m year' : ℕ) (os' : List Ordinativo) (u : Bool) → cond u (served b m year' os') (refused NoRoom) ≡ served base n year os
+  by_room : (b m year' : ℕ) (os' : List Ordinativo) (u : Bool) → cond u (served b m year' os') (refused (Err NoRoom)) ≡ served base n year os
       → Its (of_orders w year' os' (outcome_codes (length os') out'))
   by_room b m year' os' true e =
       let p : year' ≡ year = cc in
@@ -187,37 +184,37 @@ module _ (w : OrderWeight) (t f out' : List ℕ) (base n year room : ℕ) (os : 
       λ i. of_orders w (p i) (q i) (outcome_codes (length (q i)) out')
   by_room b m year' os' false e = no_clash e
 
-  by_year : (b m year' : ℕ) (os' : List Ordinativo) (c u : Bool) → cond c (refused ClosedYear) (cond u (served b m year' os') (refused NoRoom)) ≡ served base n year os
+  by_year : (b m year' : ℕ) (os' : List Ordinativo) (c u : Bool) → cond c (refused (Err ClosedYear)) (cond u (served b m year' os') (refused (Err NoRoom))) ≡ served base n year os
       → Its (of_orders w year' os' (outcome_codes (length os') out'))
   by_year b m year' os' true u e = no_clash e
   by_year b m year' os' false u e = by_room b m year' os' u e
 
-  by_body : (year' : ℕ) (os' : List Ordinativo) (a : Addressed) → for_body t room year' os' a ≡ served base n year os → Its (of_orders w year' os' (outcome_codes (length os') out'))
-  by_body year' os' (Body e b m) q = by_year b m year' os' (leb year' (closed_of t e)) (leb (16 * length os') room) q
-  by_body year' os' Unknown q = no_clash q
-  by_body year' os' Invalid q = no_clash q
+  by_body : (year' : ℕ) (os' : List Ordinativo) (a : Result (ℕ × ℕ × ℕ) NoBody) → for_body t room year' os' a ≡ served base n year os → Its (of_orders w year' os' (outcome_codes (length os') out'))
+  by_body year' os' (Ok (e, b, m)) q = by_year b m year' os' (leb year' (closed_of t e)) (leb (16 * length os') room) q
+  by_body year' os' (Err Unknown) q = no_clash q
+  by_body year' os' (Err Invalid) q = no_clash q
 
-  by_bank : (year' : ℕ) (os' : List Ordinativo) (a : Addressed) (u : Bool) → cond u (for_body t room year' os' a) (refused OtherBank) ≡ served base n year os
+  by_bank : (year' : ℕ) (os' : List Ordinativo) (a : Result (ℕ × ℕ × ℕ) NoBody) (u : Bool) → cond u (for_body t room year' os' a) (refused (Err OtherBank)) ≡ served base n year os
       → Its (of_orders w year' os' (outcome_codes (length os') out'))
   by_bank year' os' a true q = by_body year' os' a q
   by_bank year' os' a false q = no_clash q
 
-  by_verdict : (e : Edition) (v : Verdict) → for_flow e t f room v ≡ served base n year os → Its (of_verdict w e f out' v)
-  by_verdict e (MarkupBreaks p) q = no_clash q
-  by_verdict e StructureBreaks q = no_clash q
-  by_verdict e (FieldBreaks p c) q = no_clash q
-  by_verdict e (Stands at) q =
+  by_verdict : (e : Edition) (v : Result ℕ Breakage) → for_flow e t f room v ≡ served base n year os → Its (of_verdict w e f out' v)
+  by_verdict e (Err (MarkupBreaks p)) q = no_clash q
+  by_verdict e (Err StructureBreaks) q = no_clash q
+  by_verdict e (Err (FieldBreaks p c)) q = no_clash q
+  by_verdict e (Ok at) q =
       by_bank (header_of e f at).esercizio (flow_orders e f at) (body_named t (header_of e f at).ente) (text_is (abi_of t) (header_of e f at).abi) q
 
-  by_length : (e : Edition) (u : Bool) → cond u (for_flow e t f room (verdict_of e f)) (refused TooLong) ≡ served base n year os → Its (of_verdict w e f out' (verdict_of e f))
+  by_length : (e : Edition) (u : Bool) → cond u (for_flow e t f room (verdict_of e f)) (refused (Err TooLong)) ≡ served base n year os → Its (of_verdict w e f out' (verdict_of e f))
   by_length e true q = by_verdict e (verdict_of e f) q
   by_length e false q = no_clash q
 
-  by_edition_lem : (x : Edited) → by_edition t f room x ≡ served base n year os → Its (of_edited w f out' x)
-  by_edition_lem (By e) q = by_length e (leb (length f) max_flow) q
-  by_edition_lem NoEdition q = no_clash q
+  by_edition_lem : (x : Option Edition) → by_edition t f room x ≡ served base n year os → Its (of_edited w f out' x)
+  by_edition_lem (Some e) q = by_length e (leb (length f) max_flow) q
+  by_edition_lem None q = no_clash q
 
-  by_table : (x : Edited) (u : Bool) → cond u (by_edition t f room x) (refused InvalidTable) ≡ served base n year os → Its (of_edited w f out' x)
+  by_table : (x : Option Edition) (u : Bool) → cond u (by_edition t f room x) (refused (Err InvalidTable)) ≡ served base n year os → Its (of_edited w f out' x)
   by_table x true q = by_edition_lem x q
   by_table x false q = no_clash q
 

@@ -1,7 +1,6 @@
 -- CLOSING A YEAR (document 02, Req 14), of whatever keeps its call's promise: "A close is its body's own call". When each code is given and what a close leaves of
 -- its own body is said in closed_years/specs. Proved: `year-closing : YearClosing`.
-use Rattle.std.specs.Prelude.{ℕ, ◌≤◌, ◌<◌, ◌≡◌, List}
-use Rattle.ranges.specs.declared.Found.TheVariants.{At}
+use Rattle.std.specs.Prelude.{ℕ, ◌≤◌, ◌<◌, ◌≡◌, List, Some}
 use Rattle.entries.specs.Entry.{closed_of}
 use Rattle.table.specs.Table.{bodies, body_of, entry_of}
 use Rattle.year_end.specs.YearEnd.{CloseReplies}
@@ -17,4 +16,4 @@ pub record OwnClose (t t' : List ℕ) (b year : ℕ) : Type 0 where
 
 -- of every close answered 0
 abbrev pub YearClosing : Type 0
-YearClosing = (t code : List ℕ) (year k : ℕ) (t' : List ℕ) → CloseReplies t code year 0 k t' → (b : ℕ) × (body_of t code ≡ At b) × OwnClose t t' b year
+YearClosing = (t code : List ℕ) (year k : ℕ) (t' : List ℕ) → CloseReplies t code year 0 k t' → (b : ℕ) × (body_of t code ≡ Some b) × OwnClose t t' b year

@@ -1,11 +1,9 @@
 -- THE DESK'S CALLS AS A MACHINE: its states are a table's bytes, its calls flows, notices, totals, journals and closes, and its answers any engine's that keeps the calls'
 -- promises. Which body a call names and which bytes a body owns are read from t₀, the table that the calls start from.
-use Rattle.std.specs.Prelude.{ℕ, zero, suc, ◌+◌, ◌*◌, ◌≡◌, true, false, cond, List, [], ◌∷◌, ◌++◌, length, leb}
+use Rattle.std.specs.Prelude.{ℕ, zero, suc, ◌+◌, ◌*◌, ◌≡◌, true, false, cond, List, [], ◌∷◌, ◌++◌, length, leb, Option as Maybe, Result, Some, None, Ok, Err}
 use Rattle.std.proofs.Math.Option.{Option, none, some}
 use Rattle.bounds.specs.Bounds.{max_flow}
 use Rattle.scan.specs.Bytes.{part, text_is}
-use Rattle.ranges.specs.declared.Found.{Found}
-use Rattle.ranges.specs.declared.Found.TheVariants.{At, Nothing}
 use Rattle.calendar.specs.declared.Date.{Date}
 use Rattle.target_days.specs.Target.{target_code}
 use Rattle.record.specs.Slot.{slot_size}
@@ -15,19 +13,17 @@ use Rattle.slots.specs.Slots.{records_at}
 use Rattle.entries.specs.Entry.{entry_size, entry_fixed, slots_of, place_of}
 use Rattle.table.specs.Table.{head_size, bodies, abi_of, body_of, entry_of}
 use Rattle.editions.specs.declared.Edition.{Edition}
-use Rattle.editions.specs.declared.Edited.{Edited}
-use Rattle.editions.specs.declared.Edited.TheVariants.{By, NoEdition}
 use Rattle.editions.specs.Editions.{edition_of}
-use Rattle.flow.specs.declared.Verdict.{Verdict}
-use Rattle.flow.specs.declared.Verdict.TheVariants.{MarkupBreaks, StructureBreaks, FieldBreaks, Stands}
+use Rattle.flow.specs.declared.Breakage.{Breakage}
+use Rattle.flow.specs.declared.Breakage.TheVariants.{MarkupBreaks, StructureBreaks, FieldBreaks}
 use Rattle.flow.specs.Flow.{verdict_of, header_of}
-use Rattle.notices.specs.declared.NoticeAnswer.{NoticeAnswer}
+use Rattle.notices.specs.declared.NoticeRefusal.{NoticeRefusal}
 use Rattle.notices.specs.declared.TotalsAnswer.{TotalsAnswer}
 use Rattle.notices.specs.Notices.{NoticePromise, notice_code_of, TotalsPromise}
 use Rattle.journal.specs.Journal.{JournalPromise}
-use Rattle.year_end.specs.declared.CloseAnswer.{CloseAnswer}
+use Rattle.year_end.specs.declared.CloseRefusal.{CloseRefusal}
 use Rattle.year_end.specs.YearEnd.{ClosePromise, close_code}
-use Rattle.desk.specs.declared.FlowAnswer.{FlowAnswer}
+use Rattle.desk.specs.declared.FlowRefusal.{FlowRefusal}
 use Rattle.desk.specs.Desk.{FlowPromise, flow_code}
 use Rattle.isolation.specs.Machine.{Machine, state_after}
 
@@ -47,20 +43,20 @@ pub data Call : Type 0 where
 
 pub data Answer : Type 0 where
   -- with the outcome buffer's bytes afterwards
-  of_flow : FlowAnswer → List ℕ → Answer
-  of_notice : NoticeAnswer → Answer
+  of_flow : Result (ℕ × ℕ × ℕ) FlowRefusal → List ℕ → Answer
+  of_notice : Result ℕ NoticeRefusal → Answer
   of_totals : TotalsAnswer → Answer
   of_journal : ℕ → Answer
-  of_close : CloseAnswer → Answer
+  of_close : Result ℕ CloseRefusal → Answer
 
 -- what each call promises: on the table t, the answer a and the table t' afterwards
 abbrev pub Step : Call → List ℕ → Answer → List ℕ → Type 0
-Step (flow ed f out) t a t' = (r : FlowAnswer) × (out' : List ℕ) × FlowPromise t ed f out r t' out' × (a ≡ of_flow r out')
-Step (execute code k line d) t a t' = (r : NoticeAnswer) × NoticePromise t true code k line d r t' × (a ≡ of_notice r)
-Step (reverse code k line d) t a t' = (r : NoticeAnswer) × NoticePromise t false code k line d r t' × (a ≡ of_notice r)
+Step (flow ed f out) t a t' = (r : Result (ℕ × ℕ × ℕ) FlowRefusal) × (out' : List ℕ) × FlowPromise t ed f out r t' out' × (a ≡ of_flow r out')
+Step (execute code k line d) t a t' = (r : Result ℕ NoticeRefusal) × NoticePromise t true code k line d r t' × (a ≡ of_notice r)
+Step (reverse code k line d) t a t' = (r : Result ℕ NoticeRefusal) × NoticePromise t false code k line d r t' × (a ≡ of_notice r)
 Step (totals code) t a t' = (r : TotalsAnswer) × TotalsPromise t code r × (a ≡ of_totals r) × (t' ≡ t)
 Step (journal code s) t a t' = (r : ℕ) × JournalPromise t code s r × (a ≡ of_journal r) × (t' ≡ t)
-Step (close code year) t a t' = (r : CloseAnswer) × ClosePromise t code year r t' × (a ≡ of_close r)
+Step (close code year) t a t' = (r : Result ℕ CloseRefusal) × ClosePromise t code year r t' × (a ≡ of_close r)
 
 -- an engine that keeps the promises on every table
 pub record Engine : Type 0 where
@@ -84,16 +80,16 @@ answer_code (of_close a) = close_code a
 -- WHICH BODY A CALL NAMES, read from the call and from t₀, the table that the calls start from: its ABI digits and its bodies' codes.
 
 -- a flow of an edition names a body when it stands and its codice_ABI_BT is the table's: by its codice_ente_BT
-abbrev pub names_in : Edition → List ℕ → List ℕ → Verdict → Option (List ℕ)
-names_in e t₀ f (MarkupBreaks p) = none
-names_in e t₀ f StructureBreaks = none
-names_in e t₀ f (FieldBreaks p c) = none
-names_in e t₀ f (Stands at) = cond (text_is (abi_of t₀) (header_of e f at).abi) (some (header_of e f at).ente) none
+abbrev pub names_in : Edition → List ℕ → List ℕ → Result ℕ Breakage → Option (List ℕ)
+names_in e t₀ f (Err (MarkupBreaks p)) = none
+names_in e t₀ f (Err StructureBreaks) = none
+names_in e t₀ f (Err (FieldBreaks p c)) = none
+names_in e t₀ f (Ok at) = cond (text_is (abi_of t₀) (header_of e f at).abi) (some (header_of e f at).ente) none
 
 -- and none where its number names no edition
-abbrev pub names_by : List ℕ → List ℕ → Edited → Option (List ℕ)
-names_by t₀ f (By e) = cond (leb (length f) max_flow) (names_in e t₀ f (verdict_of e f)) none
-names_by t₀ f NoEdition = none
+abbrev pub names_by : List ℕ → List ℕ → Maybe Edition → Option (List ℕ)
+names_by t₀ f (Some e) = cond (leb (length f) max_flow) (names_in e t₀ f (verdict_of e f)) none
+names_by t₀ f None = none
 
 -- a notice names a body when its date is a TARGET day: by its code
 abbrev pub names_on : ℕ → List ℕ → Option (List ℕ)
@@ -108,9 +104,9 @@ names t₀ (totals code) = some code
 names t₀ (journal code s) = some code
 names t₀ (close code year) = some code
 
-abbrev pub which_body : Found → Option ℕ
-which_body (At b) = some b
-which_body Nothing = none
+abbrev pub which_body : Maybe ℕ → Option ℕ
+which_body (Some b) = some b
+which_body None = none
 
 -- the place of a code among those of t₀, compared byte by byte
 abbrev pub position : List ℕ → Option (List ℕ) → Option ℕ

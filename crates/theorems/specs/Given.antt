@@ -1,79 +1,75 @@
 -- WHEN A FLOW IS REFUSED: document 01's table of codes, "given exactly when", line by line.
-use Rattle.std.specs.Prelude.{ℕ, ◌*◌, Bool, true, false, not, cond, List, [], ◌∷◌, length, leb}
+use Rattle.std.specs.Prelude.{ℕ, ◌*◌, Bool, true, false, not, cond, List, [], ◌∷◌, length, leb, Option, Result, Some, None, Ok, Err}
 use Rattle.bounds.specs.Bounds.{max_flow}
 use Rattle.scan.specs.Bytes.{text_is}
 use Rattle.ranges.specs.Ranges.{is_nothing}
-use Rattle.ranges.specs.declared.Found.{Found}
-use Rattle.ranges.specs.declared.Found.TheVariants.{At, Nothing}
 use Rattle.fields.specs.Causes.{cause_number}
 use Rattle.entries.specs.Entry.{closed_of}
 use Rattle.table.specs.Table.{table_ok, abi_of, body_of, entry_of}
 use Rattle.editions.specs.declared.Edition.{Edition}
 use Rattle.editions.specs.declared.Edition.TheVariants.{Oil}
-use Rattle.editions.specs.declared.Edited.{Edited}
-use Rattle.editions.specs.declared.Edited.TheVariants.{By, NoEdition}
-use Rattle.flow.specs.declared.Verdict.{Verdict}
-use Rattle.flow.specs.declared.Verdict.TheVariants.{MarkupBreaks, StructureBreaks, FieldBreaks, Stands}
+use Rattle.flow.specs.declared.Breakage.{Breakage}
+use Rattle.flow.specs.declared.Breakage.TheVariants.{MarkupBreaks, StructureBreaks, FieldBreaks}
 use Rattle.flow.specs.Flow.{verdict_of, header_of, flow_orders}
 use Rattle.service.specs.Service.{outcome_size}
 
 -- what of the flow breaks
-abbrev pub is_markup : Verdict → Bool
-is_markup (MarkupBreaks p) = true
-is_markup StructureBreaks = false
-is_markup (FieldBreaks p c) = false
-is_markup (Stands at) = false
+abbrev pub is_markup : Result ℕ Breakage → Bool
+is_markup (Err (MarkupBreaks p)) = true
+is_markup (Err StructureBreaks) = false
+is_markup (Err (FieldBreaks p c)) = false
+is_markup (Ok at) = false
 
-abbrev pub is_structure : Verdict → Bool
-is_structure (MarkupBreaks p) = false
-is_structure StructureBreaks = true
-is_structure (FieldBreaks p c) = false
-is_structure (Stands at) = false
+abbrev pub is_structure : Result ℕ Breakage → Bool
+is_structure (Err (MarkupBreaks p)) = false
+is_structure (Err StructureBreaks) = true
+is_structure (Err (FieldBreaks p c)) = false
+is_structure (Ok at) = false
 
-abbrev pub is_field : Verdict → Bool
-is_field (MarkupBreaks p) = false
-is_field StructureBreaks = false
-is_field (FieldBreaks p c) = true
-is_field (Stands at) = false
+abbrev pub is_field : Result ℕ Breakage → Bool
+is_field (Err (MarkupBreaks p)) = false
+is_field (Err StructureBreaks) = false
+is_field (Err (FieldBreaks p c)) = true
+is_field (Ok at) = false
 
 -- where a field breaks and why, and where the content of a flow that stands begins
-abbrev pub broken_place : Verdict → ℕ
-broken_place (MarkupBreaks p) = 0
-broken_place StructureBreaks = 0
-broken_place (FieldBreaks p c) = p
-broken_place (Stands at) = 0
+abbrev pub broken_place : Result ℕ Breakage → ℕ
+broken_place (Err (MarkupBreaks p)) = 0
+broken_place (Err StructureBreaks) = 0
+broken_place (Err (FieldBreaks p c)) = p
+broken_place (Ok at) = 0
 
-abbrev pub breaks_by : Verdict → ℕ
-breaks_by (MarkupBreaks p) = 0
-breaks_by StructureBreaks = 0
-breaks_by (FieldBreaks p c) = cause_number c
-breaks_by (Stands at) = 0
+abbrev pub breaks_by : Result ℕ Breakage → ℕ
+breaks_by (Err (MarkupBreaks p)) = 0
+breaks_by (Err StructureBreaks) = 0
+breaks_by (Err (FieldBreaks p c)) = cause_number c
+breaks_by (Ok at) = 0
 
-abbrev pub stands_at : Verdict → ℕ
-stands_at (MarkupBreaks p) = 0
-stands_at StructureBreaks = 0
-stands_at (FieldBreaks p c) = 0
-stands_at (Stands at) = at
+abbrev pub stands_at : Result ℕ Breakage → ℕ
+stands_at (Err (MarkupBreaks p)) = 0
+stands_at (Err StructureBreaks) = 0
+stands_at (Err (FieldBreaks p c)) = 0
+stands_at (Ok at) = at
 
 -- the edition that a flow is read by. (Where its number names none it isn't read)
-abbrev pub edition_read : Edited → Edition
-edition_read (By e) = e
-edition_read NoEdition = Oil
+abbrev pub edition_read : Option Edition → Edition
+edition_read (Some e) = e
+edition_read None = Oil
 
-abbrev pub is_unknown : Edited → Bool
-is_unknown (By e) = false
-is_unknown NoEdition = true
+abbrev pub is_unknown : Option Edition → Bool
+is_unknown (Some e) = false
+is_unknown None = true
 
-abbrev pub verdict_as : Edited → List ℕ → Verdict
+abbrev pub verdict_as : Option Edition → List ℕ → Result ℕ Breakage
 verdict_as x f = verdict_of (edition_read x) f
 
 -- the last year that a body closed; 0 before the first close, and where there is no body
-abbrev pub closed_by : List ℕ → Found → ℕ
-closed_by t (At b) = closed_of t (entry_of b)
-closed_by t Nothing = 0
+abbrev pub closed_by : List ℕ → Option ℕ → ℕ
+closed_by t (Some b) = closed_of t (entry_of b)
+closed_by t None = 0
 
 -- of the flow f, whose number names the edition x or none and whose verdict is v, on the table t with an outcome buffer of so many bytes
-abbrev pub flow_refusals : List ℕ → Edited → List ℕ → ℕ → Verdict → List (ℕ × Bool)
+abbrev pub flow_refusals : List ℕ → Option Edition → List ℕ → ℕ → Result ℕ Breakage → List (ℕ × Bool)
 flow_refusals t x f room v =
     -- "the table isn't valid"
     (1, not (table_ok t))

@@ -1,6 +1,6 @@
 -- CASH BY HISTORY (document 02, Req 11): "Treasurers ask where a balance came from." What the lines of a body's log, its calls with the answers it was given,
 -- tell of its records. Since Req 14 a close removes a year's records: what is said of them is said of the years that no close in the log has closed.
-use Rattle.std.specs.Prelude.{ℕ, ◌+◌, ◌≤◌, ◌<◌, ◌≡◌, true, not, cond, ◌⊎◌, List, [], ◌∷◌, ◌++◌, length, eqb, ltb}
+use Rattle.std.specs.Prelude.{ℕ, ◌+◌, ◌≤◌, ◌<◌, ◌≡◌, true, not, cond, ◌⊎◌, List, [], ◌∷◌, ◌++◌, length, eqb, ltb, Option, Result, Some, None, Ok, Err}
 use Rattle.std.proofs.Math.Option.{some}
 use Rattle.scan.specs.Bytes.{all}
 use Rattle.record.specs.declared.Key.{Key}
@@ -9,15 +9,13 @@ use Rattle.record.specs.Slot.{mandato_kind, reversale_kind, replaced_line}
 use Rattle.body.specs.Body.{cents_of}
 use Rattle.table.specs.Table.{bodies, table_ok}
 use Rattle.editions.specs.declared.Edition.{Edition}
-use Rattle.editions.specs.declared.Edited.{Edited}
-use Rattle.editions.specs.declared.Edited.TheVariants.{By, NoEdition}
 use Rattle.editions.specs.Editions.{edition_of}
-use Rattle.flow.specs.declared.Verdict.{Verdict}
-use Rattle.flow.specs.declared.Verdict.TheVariants.{MarkupBreaks, StructureBreaks, FieldBreaks, Stands}
+use Rattle.flow.specs.declared.Breakage.{Breakage}
+use Rattle.flow.specs.declared.Breakage.TheVariants.{MarkupBreaks, StructureBreaks, FieldBreaks}
 use Rattle.flow.specs.Flow.{verdict_of, header_of, flow_orders}
 use Rattle.order.specs.Ordinativo.{Ordinativo}
-use Rattle.notices.specs.declared.NoticeAnswer.{NoticeAnswer}
-use Rattle.notices.specs.declared.NoticeAnswer.TheVariants.{InvalidTable, WrongDay, UnknownBody, Done, Declined}
+use Rattle.notices.specs.declared.NoticeRefusal.{NoticeRefusal}
+use Rattle.notices.specs.declared.NoticeRefusal.TheVariants.{InvalidTable, WrongDay, UnknownBody, Declined}
 use Rattle.notices.specs.declared.TotalsAnswer.{TotalsAnswer}
 use Rattle.notices.specs.Notices.{TotalsPromise}
 use Rattle.opening.specs.Opening.{OpenReplies}
@@ -32,7 +30,7 @@ use Rattle.theorems.specs.Codes.{outcome_codes}
 -- NOTICES
 -- what an answer to a notice for line n of the order with this key weighs
 abbrev pub Weight : Type 0
-Weight = Key → ℕ → NoticeAnswer → ℕ
+Weight = Key → ℕ → Result ℕ NoticeRefusal → ℕ
 
 abbrev pub weighed : Weight → Key → ℕ → Answer → ℕ
 weighed w k n (of_notice a) = w k n a
@@ -67,11 +65,11 @@ reversals w ls = tally (of_reversal w) ls
 
 -- an accepted notice for such an order weighs what the line is worth, by the cents in its answer; a refused one weighs nothing
 abbrev pub weight : Which → Value → Weight
-weight p v k n (Done cents) = cond (p k) (v n cents) 0
-weight p v k n (Declined c) = 0
-weight p v k n InvalidTable = 0
-weight p v k n (WrongDay c) = 0
-weight p v k n UnknownBody = 0
+weight p v k n (Ok cents) = cond (p k) (v n cents) 0
+weight p v k n (Err (Declined c)) = 0
+weight p v k n (Err InvalidTable) = 0
+weight p v k n (Err (WrongDay c)) = 0
+weight p v k n (Err UnknownBody) = 0
 
 -- cash: the orders of a kind, a line worth its cents; and of a kind in some years
 abbrev pub cash : ℕ → Weight
@@ -96,15 +94,15 @@ of_orders w year (o ∷ os) [] = 0
 of_orders w year (o ∷ os) (c ∷ codes) = cond (eqb c 0) (w year o) 0 + of_orders w year os codes
 
 -- the orders and the esercizio are those that the flow's bytes say in its edition; the codes are those in the outcome bytes of its answer
-abbrev pub of_verdict : OrderWeight → Edition → List ℕ → List ℕ → Verdict → ℕ
-of_verdict w e f out (Stands at) = of_orders w (header_of e f at).esercizio (flow_orders e f at) (outcome_codes (length (flow_orders e f at)) out)
-of_verdict w e f out (MarkupBreaks p) = 0
-of_verdict w e f out StructureBreaks = 0
-of_verdict w e f out (FieldBreaks p c) = 0
+abbrev pub of_verdict : OrderWeight → Edition → List ℕ → List ℕ → Result ℕ Breakage → ℕ
+of_verdict w e f out (Ok at) = of_orders w (header_of e f at).esercizio (flow_orders e f at) (outcome_codes (length (flow_orders e f at)) out)
+of_verdict w e f out (Err (MarkupBreaks p)) = 0
+of_verdict w e f out (Err StructureBreaks) = 0
+of_verdict w e f out (Err (FieldBreaks p c)) = 0
 
-abbrev pub of_edited : OrderWeight → List ℕ → List ℕ → Edited → ℕ
-of_edited w f out (By e) = of_verdict w e f out (verdict_of e f)
-of_edited w f out NoEdition = 0
+abbrev pub of_edited : OrderWeight → List ℕ → List ℕ → Option Edition → ℕ
+of_edited w f out (Some e) = of_verdict w e f out (verdict_of e f)
+of_edited w f out None = 0
 
 -- a flow answered 0; a refused one weighs nothing
 abbrev pub of_taken : OrderWeight → ℕ → List ℕ → Answer → ℕ

@@ -1,6 +1,5 @@
 -- A JOURNAL'S ANSWER (document 02, Req 10), of whatever keeps its call's promise. Proved: `journal-answers : JournalAnswers`.
-use Rattle.std.specs.Prelude.{ℕ, ◌≡◌, true, false, List, []}
-use Rattle.ranges.specs.declared.Found.TheVariants.{At, Nothing}
+use Rattle.std.specs.Prelude.{ℕ, ◌≡◌, true, false, List, [], Some, None}
 use Rattle.table.specs.Table.{table_ok, body_of}
 use Rattle.journal.specs.Journal.{movements_in, whole_movements, executed_lines, journal_code, JournalPromise}
 use Rattle.journal.specs.Told.{Permutation, Told, Exactly}
@@ -11,7 +10,7 @@ use Rattle.theorems.specs.Engine.{body_records}
 pub record Accepts (t code s : List ℕ) : Type 0 where
   pub valid : table_ok t ≡ true
   pub body : ℕ
-  pub named : body_of t code ≡ At body
+  pub named : body_of t code ≡ Some body
   pub whole : whole_movements s ≡ true
   pub same : Permutation (movements_in s) (executed_lines (body_records body t))
 
@@ -19,7 +18,7 @@ pub record Accepts (t code s : List ℕ) : Type 0 where
 pub record Broken (t code s : List ℕ) : Type 0 where
   pub valid : table_ok t ≡ true
   pub body : ℕ
-  pub named : body_of t code ≡ At body
+  pub named : body_of t code ≡ Some body
   pub broken : whole_movements s ≡ false
 
 pub record JournalAnswers : Type 0 where
@@ -27,9 +26,9 @@ pub record JournalAnswers : Type 0 where
   -- "Refusals after 1 and 7: 29 over 4,096 or not whole movements": each exactly when
   pub refused : (t code s : List ℕ) (c : ℕ) → JournalPromise t code s c
       → Exactly (c ≡ 1) (table_ok t ≡ false)
-      × Exactly (c ≡ 7) ((table_ok t ≡ true) × (body_of t code ≡ Nothing))
+      × Exactly (c ≡ 7) ((table_ok t ≡ true) × (body_of t code ≡ None))
       × Exactly (c ≡ 29) (Broken t code s)
   -- "then one by one 30 no such executed line, 31 other cents, 32 listed before; then 33 an executed line is missing": each exactly when (`Told`,
   -- crates/journal/specs/Told)
-  pub told : (t code s : List ℕ) (c : ℕ) → JournalPromise t code s c → (b : ℕ) → table_ok t ≡ true → body_of t code ≡ At b → whole_movements s ≡ true
+  pub told : (t code s : List ℕ) (c : ℕ) → JournalPromise t code s c → (b : ℕ) → table_ok t ≡ true → body_of t code ≡ Some b → whole_movements s ≡ true
       → (c ≡ journal_code (executed_lines (body_records b t)) [] (movements_in s)) × Told (body_records b t) (movements_in s)

@@ -1,8 +1,7 @@
 -- REPLACEMENT ORDERS (document 02, Req 07), of any body's records. Proved: `replacements : Replacements`. When one is accepted: `exactly` and `answer` of
 -- condition 2. That it moves no cash: `order-cash` of CashMoved.
-use Rattle.std.specs.Prelude.{ℕ, ◌-◌, ◌≡◌, length}
+use Rattle.std.specs.Prelude.{ℕ, ◌-◌, ◌≡◌, length, Some}
 use mathlib.Core.List.{List, Memᴰ}
-use Rattle.ranges.specs.declared.Found.TheVariants.{At}
 use Rattle.codes.specs.declared.Operation.TheVariants.{Sostituzione}
 use Rattle.order.specs.declared.Line.{Line}
 use Rattle.order.specs.Ordinativo.{Ordinativo}
@@ -22,7 +21,7 @@ OfReplacements P = (slots year : ℕ) (o : Ordinativo) (rs : List Record) → o.
 -- the record with the named key is there, at this index, and its line of that number is "replaced (line state 3)"
 pub record Replaced (rs : List Record) (m : Naming) : Type 0 where
   pub at : ℕ
-  pub found : find_in rs 0 m.key ≡ At at
+  pub found : find_in rs 0 m.key ≡ Some at
   pub state : IsReplaced (nth rs at) (m.line - 1)
 
 pub record Replacements : Type 0 where

@@ -1,13 +1,12 @@
 -- STEPS OF A SEARCH (document 02, Req 09), about the flow's own promise: whatever keeps it does this. Proved: `searches : Searches`.
-use Rattle.std.specs.Prelude.{ℕ, suc, ◌≡◌, ◌⊎◌, List, length}
-use Rattle.ranges.specs.declared.Found.TheVariants.{At, Nothing}
+use Rattle.std.specs.Prelude.{ℕ, suc, ◌≡◌, ◌⊎◌, List, length, Result, Some, None}
 use Rattle.order.specs.Ordinativo.{Ordinativo}
 use Rattle.record.specs.declared.Record.{Record}
 use Rattle.slots.specs.Slots.{find_in}
 use Rattle.lines.specs.Lines.{line_code}
 use Rattle.rules.specs.Rules.{key_for, judge_order, order_code}
 use Rattle.rules.specs.Searches.{steps_of}
-use Rattle.desk.specs.declared.FlowAnswer.{FlowAnswer}
+use Rattle.desk.specs.declared.FlowRefusal.{FlowRefusal}
 use Rattle.desk.specs.Desk.{FlowPromise, flow_code, flow_reply}
 
 -- of every order, on any body's records
@@ -24,12 +23,12 @@ LookedFor slots year o rs = (AnsweredBy 12 slots year o rs → ⊥) × (Answered
 
 pub record Searches : Type 0 where
   -- "Each order's search counts the slots it looked at: up to and including the one found,"
-  pub found : OfOrders (λ slots year o rs. LookedFor slots year o rs → (i : ℕ) → find_in rs 0 (key_for year o) ≡ At i → steps_of year o rs ≡ suc i)
+  pub found : OfOrders (λ slots year o rs. LookedFor slots year o rs → (i : ℕ) → find_in rs 0 (key_for year o) ≡ Some i → steps_of year o rs ≡ suc i)
   -- "or all the body's used slots when there is none."
-  pub absent : OfOrders (λ slots year o rs. LookedFor slots year o rs → find_in rs 0 (key_for year o) ≡ Nothing → steps_of year o rs ≡ length rs)
+  pub absent : OfOrders (λ slots year o rs. LookedFor slots year o rs → find_in rs 0 (key_for year o) ≡ None → steps_of year o rs ≡ length rs)
   -- "Orders answered 12 or 13 and refused flows count 0"
   pub unsearched : OfOrders (λ slots year o rs. AnsweredBy 12 slots year o rs ⊎ AnsweredBy 13 slots year o rs → steps_of year o rs ≡ 0)
-  pub refused_none : (t : List ℕ) (ed : ℕ) (f out : List ℕ) (a : FlowAnswer) (t' out' : List ℕ) → FlowPromise t ed f out a t' out' → (flow_code a ≡ 0 → ⊥) → (flow_reply a).steps ≡ 0
+  pub refused_none : (t : List ℕ) (ed : ℕ) (f out : List ℕ) (a : Result (ℕ × ℕ × ℕ) FlowRefusal) (t' out' : List ℕ) → FlowPromise t ed f out a t' out' → (flow_code a ≡ 0 → ⊥) → (flow_reply a).steps ≡ 0
   -- "a replacement counts only the search for its own key": what its lines name makes no difference, so it counts what an INSERIMENTO of its key and lines does
   pub own_only : (year : ℕ) (o p : Ordinativo) (rs : List Record) → key_for year o ≡ key_for year p → line_code o.lines o.total ≡ line_code p.lines p.total
       → steps_of year o rs ≡ steps_of year p rs

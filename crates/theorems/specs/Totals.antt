@@ -1,11 +1,9 @@
 -- TOTALS KEPT IN THE CONTENTS (document 02, Req 04), of every engine that keeps the calls' promises. Proved: `kept-true : KeptTrue`,
 -- `on-screen : OnScreen`, `cash-moved : CashMoved`, `conversion : FromTable1`.
-use Rattle.std.specs.Prelude.{ℕ, ◌+◌, ◌*◌, ◌≤◌, ◌<◌, pos, ◌-ℤ◌, ◌≡◌, Bool, true, false, cond, List, length, eqb}
+use Rattle.std.specs.Prelude.{ℕ, ◌+◌, ◌*◌, ◌≤◌, ◌<◌, pos, ◌-ℤ◌, ◌≡◌, Bool, true, false, cond, List, length, eqb, Option, Result, Some, None, Ok}
 use Rattle.calendar.specs.declared.Date.{Date}
 use Rattle.target_days.specs.Target.{target_code}
 use Rattle.scan.specs.Bytes.{part, text_is}
-use Rattle.ranges.specs.declared.Found.{Found}
-use Rattle.ranges.specs.declared.Found.TheVariants.{At, Nothing}
 use Rattle.record.specs.declared.Key.{Key}
 use Rattle.record.specs.declared.Record.{Record}
 use Rattle.record.specs.Slot.{mandato_kind, reversale_kind}
@@ -14,17 +12,14 @@ use Rattle.body.specs.Body.{cents_of}
 use Rattle.entries.specs.Entry.{entry_size, kept, slots_of, place_of, codes_from, find_code}
 use Rattle.table.specs.Table.{table1, head_size, bodies, abi_of, table_ok, body_of, entry_of}
 use Rattle.editions.specs.declared.Edition.{Edition}
-use Rattle.editions.specs.declared.Edited.TheVariants.{By}
 use Rattle.editions.specs.Editions.{edition_of}
-use Rattle.flow.specs.declared.Verdict.TheVariants.{Stands}
 use Rattle.flow.specs.Flow.{verdict_of, header_of, flow_orders}
 use Rattle.rules.specs.Rules.{judge_notice}
 use Rattle.rules.specs.Effects.{records_by, all_records}
-use Rattle.notices.specs.declared.NoticeAnswer.{NoticeAnswer}
-use Rattle.notices.specs.declared.NoticeAnswer.TheVariants.{Done}
+use Rattle.notices.specs.declared.NoticeRefusal.{NoticeRefusal}
 use Rattle.notices.specs.declared.TotalsAnswer.{TotalsAnswer}
 use Rattle.notices.specs.Notices.{noticed, NoticePromise, totalled, zero_totals, TotalsPromise}
-use Rattle.desk.specs.declared.FlowAnswer.{FlowAnswer}
+use Rattle.desk.specs.declared.FlowRefusal.{FlowRefusal}
 use Rattle.desk.specs.Desk.{FlowPromise, flow_code}
 use Rattle.table.specs.Table as T
 use Rattle.convert.specs.Convert.{ConvertReplies}
@@ -50,23 +45,23 @@ contents_of t = part t 0 (head_size + entry_size * bodies t)
 -- what the entries there keep for a code is what totals answer: of a body, and of none
 abbrev pub OnScreen : Type 0
 OnScreen = (t : List ℕ) → table_ok t ≡ true → (code : List ℕ) (a : TotalsAnswer) → TotalsPromise t code a
-    → ((b : ℕ) → body_of (contents_of t) code ≡ At b
+    → ((b : ℕ) → body_of (contents_of t) code ≡ Some b
     → (a.code ≡ 0) × (a.paid ≡ kept mandato_kind (contents_of t) (entry_of b)) × (a.collected ≡ kept reversale_kind (contents_of t) (entry_of b))
     × (a.balance ≡ pos (kept reversale_kind (contents_of t) (entry_of b)) -ℤ pos (kept mandato_kind (contents_of t) (entry_of b))))
-    × (body_of (contents_of t) code ≡ Nothing → a ≡ zero_totals 7)
+    × (body_of (contents_of t) code ≡ None → a ≡ zero_totals 7)
 
 -- WHAT MOVES CASH, of a body of a valid table
 pub record CashMoved : Type 0 where
   -- no order does, of at most eight lines, as all orders of a flow are: a replacement's named lines give up what its own bring in
   pub order_cash : EachOrder (λ t b year o. length o.lines ≤ 8 → (kind : ℕ) → cents_of kind (records_by year o (body_records b t) (comes_to t b year o)) ≡ cents_of kind (body_records b t))
   -- an accepted execution adds its cents to those of its order's kind; an accepted reversal takes them back
-  pub execute_cash : EachNotice (λ t b executing k line a t'. executing ≡ true → (cents : ℕ) → a ≡ Done cents → (kind : ℕ)
+  pub execute_cash : EachNotice (λ t b executing k line a t'. executing ≡ true → (cents : ℕ) → a ≡ Ok cents → (kind : ℕ)
       → cents_of kind (records_at t' (place_of t (entry_of b)) (slots_of t (entry_of b))) ≡ cents_of kind (body_records b t) + cond (eqb k.kind kind) cents 0)
-  pub reverse_cash : EachNotice (λ t b executing k line a t'. executing ≡ false → (cents : ℕ) → a ≡ Done cents → (kind : ℕ)
+  pub reverse_cash : EachNotice (λ t b executing k line a t'. executing ≡ false → (cents : ℕ) → a ≡ Ok cents → (kind : ℕ)
       → cents_of kind (records_at t' (place_of t (entry_of b)) (slots_of t (entry_of b))) + cond (eqb k.kind kind) cents 0 ≡ cents_of kind (body_records b t))
 
 -- A TABLE 1: which of its bodies has a code, how many slots body b has, and its records
-abbrev pub old_body : List ℕ → List ℕ → Found
+abbrev pub old_body : List ℕ → List ℕ → Option ℕ
 old_body o code = find_code (codes_from table1.entry o head_size (bodies o)) 0 code
 
 abbrev pub old_slots : List ℕ → ℕ → ℕ
@@ -79,12 +74,12 @@ old_records o b = T.records_of o (old_entry b)
 -- the table 1's bank and the body b of the table 1; its orders' codes and the body's records afterwards are those that the rules give on the old records
 pub record TakenOld (o t₀ : List ℕ) (ed : ℕ) (f t' out' : List ℕ) : Type 0 where
   pub edition : Edition
-  pub numbered : edition_of ed ≡ By edition
+  pub numbered : edition_of ed ≡ Some edition
   pub at : ℕ
-  pub stands : verdict_of edition f ≡ Stands at
+  pub stands : verdict_of edition f ≡ Ok at
   pub bank : text_is (abi_of o) (header_of edition f at).abi ≡ true
   pub body : ℕ
-  pub named : old_body o (header_of edition f at).ente ≡ At body
+  pub named : old_body o (header_of edition f at).ente ≡ Some body
   pub codes : outcome_codes (length (flow_orders edition f at)) out' ≡ codes_in_turn (old_slots o body) (header_of edition f at).esercizio (flow_orders edition f at) (old_records o body)
   pub records : records_at t' (place_of t₀ (entry_of body)) (old_slots o body)
       ≡ all_records (old_slots o body) (header_of edition f at).esercizio (flow_orders edition f at) (old_records o body)
@@ -94,12 +89,12 @@ pub record Conversion (E : Engine) (o t₀ : List ℕ) : Type 0 where
   -- a valid table 2 with the table 1's bank, bodies, slots and records (crates/convert/specs/Same)
   pub same : Same o t₀
   -- so the conditions read with it: what a body's calls answer is what the rules say of the table 1's records (condition 2), of a flow that is taken,
-  pub flows : (ed : ℕ) (f out : List ℕ) (a : FlowAnswer) (t' out' : List ℕ) → FlowPromise t₀ ed f out a t' out' → flow_code a ≡ 0 → TakenOld o t₀ ed f t' out'
+  pub flows : (ed : ℕ) (f out : List ℕ) (a : Result (ℕ × ℕ × ℕ) FlowRefusal) (t' out' : List ℕ) → FlowPromise t₀ ed f out a t' out' → flow_code a ≡ 0 → TakenOld o t₀ ed f t' out'
   -- of a notice on a TARGET day,
-  pub notices : (code : List ℕ) (b : ℕ) → old_body o code ≡ At b → (executing : Bool) (k : Key) (line : ℕ) (d : Date) → target_code d ≡ 0 → (a : NoticeAnswer) (t' : List ℕ)
+  pub notices : (code : List ℕ) (b : ℕ) → old_body o code ≡ Some b → (executing : Bool) (k : Key) (line : ℕ) (d : Date) → target_code d ≡ 0 → (a : Result ℕ NoticeRefusal) (t' : List ℕ)
       → NoticePromise t₀ executing code k line d a t' → a ≡ noticed (judge_notice executing k line (old_records o b))
   -- and of totals: code, used slots, cents paid, cents collected, balance
-  pub totals : (code : List ℕ) (b : ℕ) → old_body o code ≡ At b → (a : TotalsAnswer) → TotalsPromise t₀ code a
+  pub totals : (code : List ℕ) (b : ℕ) → old_body o code ≡ Some b → (a : TotalsAnswer) → TotalsPromise t₀ code a
       → let paid = cents_of mandato_kind (old_records o b) in
       let collected = cents_of reversale_kind (old_records o b) in
       a ≡ totalled 0 (length (old_records o b)) paid collected (pos collected -ℤ pos paid)

@@ -20,7 +20,7 @@ use Rattle.schema.specs.declared.Parent.TheVariants.{FlussoOrdinativi, Mandato, 
 use Rattle.trail.specs.declared.Found.{Found}
 use Rattle.trail.specs.declared.Worth.{Worth}
 use Rattle.trail.specs.declared.Entered.{Entered}
-use Rattle.trail.specs.Codes.{flag, parent_code, parent_by, parent_at, form_code, form_at, operation_shape, value_at, Tells}
+use Rattle.trail.specs.Codes.{flag, parent_code, parent_at, form_code, form_at, operation_shape, value_at, Tells}
 use Rattle.trail.specs.Trail.{FieldFound, RowsFound, found_of, found_at, Coded, Finding, Trailed}
 
 -- CODES of equal things are equal
@@ -116,32 +116,6 @@ form_small EsitoOperazione = omega arith
 form_small CodiceErrore = omega arith
 form_small Descrizione = omega arith
 form_small Elemento = omega arith
-
--- the parent of a code, case by case
-module _ (b : ℕ) (r : Bool) where
-  pub by_1 : b ≡ 1 → Mandato r ≡ parent_by b r
-  by_1 h = rw h refl
-
-  pub by_2 : b ≡ 2 → Reversale r ≡ parent_by b r
-  by_2 h = rw h refl
-
-  pub by_3 : b ≡ 3 → InformazioniBeneficiario r ≡ parent_by b r
-  by_3 h = rw h refl
-
-  pub by_4 : b ≡ 4 → InformazioniVersante r ≡ parent_by b r
-  by_4 h = rw h refl
-
-  pub by_5 : b ≡ 5 → SostituzioneMandato ≡ parent_by b r
-  by_5 h = rw h refl
-
-  pub by_6 : b ≡ 6 → SostituzioneReversale ≡ parent_by b r
-  by_6 h = rw h refl
-
-  pub by_7 : b ≡ 7 → FlussoOrdinativi ≡ parent_by b r
-  by_7 h = rw h refl
-
-  pub by_none : (b ≡ 1 → ⊥) → (b ≡ 2 → ⊥) → (b ≡ 3 → ⊥) → (b ≡ 4 → ⊥) → (b ≡ 5 → ⊥) → (b ≡ 6 → ⊥) → (b ≡ 7 → ⊥) → FlussoOpi ≡ parent_by b r
-  by_none h1 h2 h3 h4 h5 h6 h7 = rw (ne_eqb b 1 h1, ne_eqb b 2 h2, ne_eqb b 3 h3, ne_eqb b 4 h4, ne_eqb b 5 h5, ne_eqb b 6 h6, ne_eqb b 7 h7) refl
 
 -- the value of a shape, case by case
 module _ (k w : ℕ) where

@@ -1,35 +1,29 @@
 -- What is kept of the children that a pass over content has found, and that all of it is true.
-use Rattle.std.specs.Prelude.{ℕ, ◌+◌, ◌*◌, ◌/◌, ◌%◌, ◌≤◌, ◌≡◌, List, cond, length, get_or, leb}
+use Rattle.std.specs.Prelude.{ℕ, ◌+◌, ◌*◌, ◌/◌, ◌%◌, ◌≤◌, ◌≡◌, List, cond, length, get_or, leb, Option, Some, None, Ok}
 use Rattle.tokens.specs.Tokens.{white_at}
 use Rattle.fields.specs.declared.Form.{Form}
 use Rattle.fields.specs.declared.Value.{Value}
 use Rattle.schema.specs.declared.Parent.{Parent}
 use Rattle.schema.specs.declared.Holds.TheVariants.{Rows}
 use Rattle.rows.specs.declared.Kept.{Kept}
-use Rattle.rows.specs.declared.Next.TheVariants.{Named}
-use Rattle.rows.specs.declared.FieldRead.TheVariants.{Said}
 use Rattle.rows.specs.Kept.{kept_from, next_of}
 use Rattle.rows.specs.Read.{field_read}
 use Rattle.rows.specs.Replaces.{rows_for}
 use Rattle.trail.specs.declared.Found.{Found}
 use Rattle.trail.specs.declared.Entered.{Entered}
-use Rattle.trail.specs.declared.FieldKept.{FieldKept}
-use Rattle.trail.specs.declared.FieldKept.TheVariants as field
-use Rattle.trail.specs.declared.RowsKept.{RowsKept}
-use Rattle.trail.specs.declared.RowsKept.TheVariants as rows
 use Rattle.trail.specs.Codes.{parent_at, form_at, value_at}
 
 -- WHAT IS FOUND. The first child that p names from a place on is a field of this form, with this value, and the place after it is this
 pub record FieldFound (p : Parent) (f : Form) (s : List ℕ) (from after : ℕ) (v : Value) : Type 0 where
   pub kept : Kept
-  pub next : next_of (kept_from p s from) ≡ Named kept
-  pub read : field_read s f kept.child ≡ Said v after
+  pub next : next_of (kept_from p s from) ≡ Some kept
+  pub read : field_read s f kept.child ≡ Ok (v, after)
 
 -- or it has children: by these rows, beginning at this place
 pub record RowsFound (p : Parent) (s : List ℕ) (from : ℕ) (e : Entered) : Type 0 where
   pub kept : Kept
   pub named : Parent
-  pub next : next_of (kept_from p s from) ≡ Named kept
+  pub next : next_of (kept_from p s from) ≡ Some kept
   pub holds : kept.holds ≡ Rows named
   pub rows : e.parent ≡ rows_for named s (kept.child.gt + 1)
   pub inner : e.inner ≡ white_at s (kept.child.gt + 1)
@@ -64,10 +58,10 @@ unfoldable pub Trailed : List ℕ → List ℕ → Type 0
 Trailed s t = (n : ℕ) → Finding s (found_at t n)
 
 -- WHAT IS SAID of the first child that p names from a place on; of what is not kept nothing
-abbrev pub FieldSaid : Parent → Form → List ℕ → ℕ → FieldKept → Type 0
-FieldSaid p f s from (field.Said v after) = FieldFound p f s from after v
-FieldSaid p f s from field.Unkept = Unit
+abbrev pub FieldSaid : Parent → Form → List ℕ → ℕ → Option (Value × ℕ) → Type 0
+FieldSaid p f s from (Some (v, after)) = FieldFound p f s from after v
+FieldSaid p f s from None = Unit
 
-abbrev pub RowsSaid : Parent → List ℕ → ℕ → RowsKept → Type 0
-RowsSaid p s from (rows.Entered e) = RowsFound p s from e
-RowsSaid p s from rows.Unkept = Unit
+abbrev pub RowsSaid : Parent → List ℕ → ℕ → Option Entered → Type 0
+RowsSaid p s from (Some e) = RowsFound p s from e
+RowsSaid p s from None = Unit

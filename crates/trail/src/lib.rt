@@ -39,23 +39,10 @@ pub struct Entered {
     pub after: usize,
 }
 
-#[derive(Clone, Copy)]
-pub enum RowsKept {
-    Entered(Entered),
-    Unkept,
-}
-
-// A field's value and the place after it.
-#[derive(Clone, Copy)]
-pub enum FieldKept {
-    Said(Value, usize),
-    Unkept,
-}
-
 fn flag(r: bool) -> usize
     ensures { (result ≡ flag r) × (result ≤ 1) }
 {
-    if r { 1 } else { 0 }
+    usize::from(r)
 }
 
 // A parent's code, or 0 where its children are not kept: 2 and 3 are mandato's, 4 and 5 reversale's, 6 to 9 those of their lines; the odd ones are those
@@ -72,46 +59,26 @@ pub fn parent_code(p: Parent) -> usize
         Parent::SostituzioneReversale => 12,
         Parent::FlussoOrdinativi => 14,
         Parent::FlussoOpi => 16,
-        Parent::Beneficiario => 0,
-        Parent::Versante => 0,
-        Parent::MessaggiEsito => 0,
-        Parent::TestataMessaggio => 0,
-        Parent::EsitoReversali => 0,
-        Parent::EsitoMandati => 0,
-        Parent::ErroriReversali => 0,
-        Parent::ErroriMandati => 0,
-        Parent::TestataFlusso => 0,
+        _ => 0,
     }
 }
 
 // The parent of a code.
+#[tactic(auto, unfolding(crate::specs::Codes::parent_at))]
 fn parent_at(c: usize) -> Parent
     ensures { result ≡ parent_at c }
 {
-    let b = c / 2;
     let r = c % 2 == 1;
-    if b == 1 {
-        return Parent::Mandato(r);
+    match c / 2 {
+        1 => Parent::Mandato(r),
+        2 => Parent::Reversale(r),
+        3 => Parent::InformazioniBeneficiario(r),
+        4 => Parent::InformazioniVersante(r),
+        5 => Parent::SostituzioneMandato,
+        6 => Parent::SostituzioneReversale,
+        7 => Parent::FlussoOrdinativi,
+        _ => Parent::FlussoOpi,
     }
-    if b == 2 {
-        return Parent::Reversale(r);
-    }
-    if b == 3 {
-        return Parent::InformazioniBeneficiario(r);
-    }
-    if b == 4 {
-        return Parent::InformazioniVersante(r);
-    }
-    if b == 5 {
-        return Parent::SostituzioneMandato;
-    }
-    if b == 6 {
-        return Parent::SostituzioneReversale;
-    }
-    if b == 7 {
-        return Parent::FlussoOrdinativi;
-    }
-    Parent::FlussoOpi
 }
 
 // A form's code, or 0 where no field of it is kept.
@@ -125,17 +92,7 @@ fn form_code(f: Form) -> usize
         Form::Data => 4,
         Form::Importo => 5,
         Form::Progressivo => 6,
-        Form::CodiceAbi => 0,
-        Form::Identificativo => 0,
-        Form::DataOra => 0,
-        Form::CodiceEnte => 0,
-        Form::Anagrafica => 0,
-        Form::DataOraZona => 0,
-        Form::Testo => 0,
-        Form::EsitoOperazione => 0,
-        Form::CodiceErrore => 0,
-        Form::Descrizione => 0,
-        Form::Elemento => 0,
+        _ => 0,
     }
 }
 
@@ -181,36 +138,27 @@ fn worth_of(v: Value) -> Worth
             shape: operation_shape(o),
             value: 0,
         },
-        Value::Text => Worth { shape: 0, value: 0 },
-        Value::Accepted(_) => Worth { shape: 0, value: 0 },
-        Value::Refused(_) => Worth { shape: 0, value: 0 },
+        Value::Text | Value::Accepted(_) | Value::Refused(_) => Worth { shape: 0, value: 0 },
     }
 }
 
 // The value of numbers.
+#[tactic(auto, unfolding(crate::specs::Codes::value_at))]
 fn value_at(shape: usize, value: u64) -> Value
     ensures { result ≡ value_at shape value }
 {
-    if shape == 1 {
-        return Value::Number(value);
-    }
-    if shape == 2 {
-        return Value::Day(Date {
+    match shape {
+        1 => Value::Number(value),
+        2 => Value::Day(Date {
             year: value / 65536,
             month: value / 256 % 256,
             day: value % 256,
-        });
+        }),
+        3 => Value::Operation(Operation::Inserimento),
+        4 => Value::Operation(Operation::Variazione),
+        5 => Value::Operation(Operation::Annullo),
+        _ => Value::Operation(Operation::Sostituzione),
     }
-    if shape == 3 {
-        return Value::Operation(Operation::Inserimento);
-    }
-    if shape == 4 {
-        return Value::Operation(Operation::Variazione);
-    }
-    if shape == 5 {
-        return Value::Operation(Operation::Annullo);
-    }
-    Value::Operation(Operation::Sostituzione)
 }
 
 // What is kept at a place of the trail.
@@ -281,18 +229,16 @@ pub fn keep_field(
         return n;
     }
     let w = worth_of(v);
-    let shape = w.shape;
-    if shape == 0 {
+    if w.shape == 0 {
         return n;
     }
-    let value = w.value;
     let e = Found {
         from,
         after,
         parent,
         holds,
-        shape,
-        value,
+        shape: w.shape,
+        value: w.value,
     };
     keep(s, trail, n, e)
 }
@@ -306,103 +252,101 @@ pub fn keep_rows(s: &[u8], p: Parent, from: usize, r: Entered, trail: &mut [u64]
     if parent == 0 {
         return;
     }
-    let q = r.parent;
-    let holds = parent_code(q);
+    let holds = parent_code(r.parent);
     if holds == 0 {
         return;
     }
-    let after = r.after;
-    let value = r.inner as u64;
     let e = Found {
         from,
-        after,
+        after: r.after,
         parent,
         holds,
         shape: 7,
-        value,
+        value: r.inner as u64,
     };
     keep(s, trail, n, e);
 }
 
 // The place of the trail for what a child of these rows holds, where the child's own is n.
 pub fn inside(q: Parent, trail: &[u64], n: usize) -> usize {
-    if parent_code(q) == 0 {
-        return n;
+    if parent_code(q) != 0 && n < trail.len() {
+        n + 1
+    } else {
+        n
     }
-    if n < trail.len() { n + 1 } else { n }
 }
 
 // The first place of the trail from n on where something is kept that was not sought before `from`, or nothing any more: where a reader that comes there has to look.
 pub fn seek(trail: &[u64], n: usize, from: usize) -> usize {
-    let most = trail.len() / 2;
-    let mut i = n;
-    while i < most {
+    for i in n..trail.len() / 2 {
         let k = trail[2 * i] as usize;
-        if k == 0 {
+        if k == 0 || from <= k % 65536 {
             return i;
         }
-        if from <= k % 65536 {
-            return i;
-        }
-        i += 1;
     }
-    i
+    n.max(trail.len() / 2)
 }
 
 // The field of this form that a parent names first from a place on, where that is kept at n.
-pub fn field_kept(s: &[u8], p: Parent, f: Form, from: usize, trail: &[u64], n: usize) -> FieldKept
+pub fn field_kept(
+    s: &[u8],
+    p: Parent,
+    f: Form,
+    from: usize,
+    trail: &[u64],
+    n: usize,
+) -> Option<(Value, usize)>
     requires { Trailed s.now trail.now }
     ensures { FieldSaid p f s.now from result }
 {
     let e = found_at(trail, n);
     if e.from != from {
-        return FieldKept::Unkept;
+        return None;
     }
     let parent = parent_code(p);
     if parent == 0 {
-        return FieldKept::Unkept;
+        return None;
     }
     if e.parent != parent {
-        return FieldKept::Unkept;
+        return None;
     }
     let holds = form_code(f);
     if holds == 0 {
-        return FieldKept::Unkept;
+        return None;
     }
     if e.holds != holds {
-        return FieldKept::Unkept;
+        return None;
     }
     if e.shape == 0 {
-        return FieldKept::Unkept;
+        return None;
     }
     if 7 <= e.shape {
-        return FieldKept::Unkept;
+        return None;
     }
-    FieldKept::Said(value_at(e.shape, e.value), e.after)
+    Some((value_at(e.shape, e.value), e.after))
 }
 
 // The child that a parent names first from a place on, where it is kept at n that it has children.
-pub fn rows_kept(s: &[u8], p: Parent, from: usize, trail: &[u64], n: usize) -> RowsKept
+pub fn rows_kept(s: &[u8], p: Parent, from: usize, trail: &[u64], n: usize) -> Option<Entered>
     requires { Trailed s.now trail.now }
     ensures { RowsSaid p s.now from result }
 {
     let e = found_at(trail, n);
     if e.from != from {
-        return RowsKept::Unkept;
+        return None;
     }
     let parent = parent_code(p);
     if parent == 0 {
-        return RowsKept::Unkept;
+        return None;
     }
     if e.parent != parent {
-        return RowsKept::Unkept;
+        return None;
     }
     if e.shape != 7 {
-        return RowsKept::Unkept;
+        return None;
     }
-    let q = parent_at(e.holds);
-    RowsKept::Entered(Entered {
-        parent: q,
+    Some(Entered {
+        parent: parent_at(e.holds),
         inner: e.value as usize,
         after: e.after,
     })

@@ -1,4 +1,5 @@
 -- Laws of the training engine: an array and how many of it count, then the ways out of the code over plain lists.
+use Rattle.std.specs.Prelude.{Option, Result, Some, None, Ok, Err}
 use Prim.Native.Nat.{ℕ, zero, suc, ◌+◌, ◌-◌, ◌≤◌, ◌<◌}
 use mathlib.Core.Bool.{Bool, true, false}
 use mathlib.Core.List.{List, [], ◌∷◌, ◌++◌}
@@ -6,14 +7,12 @@ use mathlib.Core.Path.{◌≡◌, refl, sym, ap, ◌∙◌}
 use native.Mathlib.Omega.{arith}
 use native.Mathlib.Numerals.{add-one}
 use lib.ListN.{length, get_or, take, drop, set, drop_of_length-le}
-use lib.Seq.{length-take-le, take-suc-set, take-set-lt, take_all, drop-cons, set_split}
-use Rattle.ranges.specs.declared.Found.{Found}
-use Rattle.ranges.specs.declared.Found.TheVariants.{At, Nothing}
+use lib.Seq.{take-set-lt, take_all, drop-cons, set_split}
 use Rattle.order.specs.declared.Line.{Line}
 use Rattle.order.specs.Ordinativo.{Ordinativo, no_line}
 use Rattle.record.specs.declared.Record.{Record}
 use Rattle.record.specs.declared.Key.{Key}
-use Rattle.record.specs.Slot.{key_is, key_of, record_with, with_state, acquired_state}
+use Rattle.record.specs.Slot.{key_is, with_state, acquired_state}
 use Rattle.slots.specs.Slots.{nth, find_in, no_record}
 use Rattle.slots.proofs.Laws.{find_first, find_later, find_nil}
 use Rattle.slots.proofs.Search.{found_below}
@@ -24,10 +23,6 @@ use Rattle.replacing.specs.Inner.{naming_at}
 use Rattle.replacing.proofs.Marks.{in_zero, replaced_length}
 use Rattle.rules.specs.declared.Change.{Change}
 use Rattle.rules.specs.declared.Change.TheVariants.{Insert, Vary, Annul, Replace}
-use Rattle.rules.specs.declared.Ruling.{Ruling}
-use Rattle.rules.specs.declared.Ruling.TheVariants.{Accepted, Refused}
-use Rattle.rules.specs.declared.Noticed.{Noticed}
-use Rattle.rules.specs.declared.Noticed.TheVariants.{Moved, Unmoved}
 use Rattle.rules.specs.Rules.{change_of, key_for, unless, stepped, judge_change, judge_order, record_of, written, moved_to, notice_in, notice_at, judge_notice}
 use Rattle.rules.specs.Inner.{record_code, names_code, absent_code, new_state}
 use Rattle.rules.specs.Effects.{stored_at, besides, records_by, records_moved}
@@ -39,21 +34,11 @@ use Rattle.training.specs.Inner.{on_record, on_none, Ruled, ChangeTaken, Marks}
 
 -- THE ARRAY
 
-pub taken_few : (l : List Record) (n : ℕ) → n ≤ length l → n ≡ length (take n l)
-taken_few l n h = sym (length-take-le n l h)
-
-pub taken_all : (l : List Record) (n : ℕ) → length l ≤ n → length l ≡ length (take n l)
-taken_all l n h = ap length (sym (take_all n l h))
-
 pub taken_low : (n : ℕ) (l : List Record) (i : ℕ) → i < length (take n l) → (i < n) × (i < length l)
 taken_low zero l i h = absurd (omega arith)
 taken_low (suc n) [] i h = absurd (omega arith)
 taken_low (suc n) (x ∷ l) zero h = (omega arith, omega arith)
 taken_low (suc n) (x ∷ l) (suc i) h = let r = taken_low n l i (omega arith) in (omega arith, omega arith)
-
--- the index of one that counts is an index of the array
-pub index_in : (n : ℕ) (l : List Record) (i m : ℕ) → length l ≡ m → i < length (take n l) → (length l ≡ m) × (i < length l)
-index_in n l i m e h = (e, (taken_low n l i h).1)
 
 -- fewer than there are places: they are as many as it says
 pub taken_short : (n : ℕ) (l : List Record) → length (take n l) < length l → n < length l
@@ -67,46 +52,33 @@ taken_get (suc n) [] i d h = absurd (omega arith)
 taken_get (suc n) (x ∷ l) zero d h = refl
 taken_get (suc n) (x ∷ l) (suc i) d h = taken_get n l i d (omega arith)
 
-pub taken_more : (l : List Record) (n : ℕ) (r : Record) → n < length l → take (n + 1) (set l n r) ≡ take n l ++ r ∷ []
-taken_more l n r h = ap (λ (k : ℕ). take k (set l n r)) (add-one n) ∙ take-suc-set l n r h
-
-pub taken_other : (l : List Record) (n i : ℕ) (r : Record) → i < n → take n (set l i r) ≡ set (take n l) i r
-taken_other l n i r h = take-set-lt n l i r h
-
--- a state past the last place is not written
-set_past : (l : List ℕ) (k s : ℕ) → length l ≤ k → set l k s ≡ l
-set_past [] k s h = refl
-set_past (x ∷ l) zero s h = absurd (omega arith)
-set_past (x ∷ l) (suc k) s h = ap (λ (y : List ℕ). x ∷ y) (set_past l k s (omega arith))
-
-pub state_past : (r : Record) (k s : ℕ) → length r.states ≡ 8 → 8 ≤ k → r ≡ with_state r k s
-state_past r k s e h =
-    ap (λ (x : List ℕ). record_with (key_of r) r.state r.lines r.date r.total x r.amounts) (sym (set_past r.states k s (omega (arith, e, h))))
+pub taken_set : (l : List Record) (n i : ℕ) (r : Record) → i < length (take n l) → take n (set l i r) ≡ set (take n l) i r
+taken_set l n i r h = take-set-lt n l i r (taken_low n l i h).0
 
 -- THE SEARCH: the answer from here is the whole answer
 module _ (rs : List Record) (i : ℕ) (k : Key) {r : Record} {b : Bool} (h : i < length rs) (q : r ≡ nth rs i) (e : b ≡ key_is r k) where
   front : drop i rs ≡ r ∷ drop (i + 1) rs
   front = drop-cons rs i no_record h ∙ (λ j. sym q j ∷ drop (sym (add-one i) j) rs)
 
-  pub found_here : b ≡ true → find_in (drop i rs) i k ≡ At i
+  pub found_here : b ≡ true → find_in (drop i rs) i k ≡ Some i
   found_here z = find_first front i k (sym e ∙ z)
 
   pub found_later : b ≡ false → find_in (drop i rs) i k ≡ find_in (drop (i + 1) rs) (i + 1) k
   found_later z = find_later front i k (sym e ∙ z)
 
-pub found_none : (rs : List Record) (i : ℕ) (k : Key) → length rs ≤ i → find_in (drop i rs) i k ≡ Nothing
+pub found_none : (rs : List Record) (i : ℕ) (k : Key) → length rs ≤ i → find_in (drop i rs) i k ≡ None
 found_none rs i k h = find_nil (drop_of_length-le rs {i = i} h) i k
 
-pub found_low : (rs : List Record) (k : Key) {f : Found} {i : ℕ} → f ≡ find_in rs 0 k → f ≡ At i → i < length rs
+pub found_low : (rs : List Record) (k : Key) {f : Option ℕ} {i : ℕ} → f ≡ find_in rs 0 k → f ≡ Some i → i < length rs
 found_low rs k {f} {i} e g = found_below rs k i no_record (sym e ∙ g)
 
 -- A NAMED LINE
-module _ (rs : List Record) (m : Naming) {f : Found} (e : f ≡ find_in rs 0 m.key) where
-  pub marks_absent : (rs' : List Record) → f ≡ Nothing → Marks rs (named_code rs m) (with_replaced rs m) 24 rs'
+module _ (rs : List Record) (m : Naming) {f : Option ℕ} (e : f ≡ find_in rs 0 m.key) where
+  pub marks_absent : (rs' : List Record) → f ≡ None → Marks rs (named_code rs m) (with_replaced rs m) 24 rs'
   unfolding named_code named_at
   marks_absent rs' g = (sym (ap (named_at rs m) (sym e ∙ g)), λ z. absurd (omega arith))
 
-  module _ {i : ℕ} (g : f ≡ At i) {r : Record} (q : r ≡ nth rs i) {code : ℕ} (p : code ≡ line_named_in r m.line m.amount) where
+  module _ {i : ℕ} (g : f ≡ Some i) {r : Record} (q : r ≡ nth rs i) {code : ℕ} (p : code ≡ line_named_in r m.line m.amount) where
     code_is : code ≡ named_code rs m
     unfolding named_code named_at
     code_is = p ∙ ap (λ (x : Record). line_named_in x m.line m.amount) q ∙ sym (ap (named_at rs m) (sym e ∙ g))
@@ -170,32 +142,22 @@ module _ (rs₀ : List Record) (kind : ℕ) (ls : List Line) where
                 ∙ g.lists;
           })
 
--- only a replacement names any
-module _ (rs : List Record) (o : Ordinativo) (c : Change) where
-  pub names_none : (d : Change) → c ≡ d → names_code d o rs ≡ 0 → besides d o rs ≡ rs → Marks rs (names_code c o rs) (besides c o rs) 0 rs
-  names_none d q x y =
-      (sym (ap (λ (k : Change). names_code k o rs) q ∙ x), λ z. sym (ap (λ (k : Change). besides k o rs) q ∙ y))
-
-  pub names_replace : {code : ℕ} {rs' : List Record} → c ≡ Replace → Marks rs (replace_code rs (namings o)) (replaced_by rs (namings o)) code rs'
-      → Marks rs (names_code c o rs) (besides c o rs) code rs'
-  names_replace q s = (s.0 ∙ sym (ap (λ (k : Change). names_code k o rs) q), λ z. s.1 z ∙ sym (ap (λ (k : Change). besides k o rs) q))
-
 -- A CHANGE
 
-module _ (year : ℕ) (o : Ordinativo) (rs : List Record) (next : Ruling) {code' code : ℕ} (e : code ≡ code') where
-  ruled_refused : (code ≡ 0 → ⊥) → Ruled year o rs (unless Refused code' next) (Refused code) rs
-  ruled_refused h = (sym (ap (λ (x : ℕ). unless Refused x next) (sym e) ∙ unless_stops Refused code next h), refl)
+module _ (year : ℕ) (o : Ordinativo) (rs : List Record) (next : Result (Change × ℕ) ℕ) {code' code : ℕ} (e : code ≡ code') where
+  ruled_refused : (code ≡ 0 → ⊥) → Ruled year o rs (unless Err code' next) (Err code) rs
+  ruled_refused h = (sym (ap (λ (x : ℕ). unless Err x next) (sym e) ∙ unless_stops Err code next h), refl)
 
-  ruled_next : {j : Ruling} {rs' : List Record} → code ≡ 0 → j ≡ next → rs' ≡ records_by year o rs j → Ruled year o rs (unless Refused code' next) j rs'
-  ruled_next h q s = (q ∙ sym (ap (λ (x : ℕ). unless Refused x next) (sym e ∙ h)), s)
+  ruled_next : {j : Result (Change × ℕ) ℕ} {rs' : List Record} → code ≡ 0 → j ≡ next → rs' ≡ records_by year o rs j → Ruled year o rs (unless Err code' next) j rs'
+  ruled_next h q s = (q ∙ sym (ap (λ (x : ℕ). unless Err x next) (sym e ∙ h)), s)
 
 -- its record stands at index i
 module _ (year : ℕ) (o : Ordinativo) (rs : List Record) (i : ℕ) (c : Change) (low : i < length rs) {r : Record} (q : r ≡ nth rs i) {code : ℕ} (e : code ≡ record_code c o r) where
   record_code_lem : code ≡ record_code c o (nth rs i)
   record_code_lem = e ∙ ap (record_code c o) q
 
-  pub record_refused : (code ≡ 0 → ⊥) → Ruled year o rs (on_record rs i o c) (Refused code) rs
-  record_refused h = ruled_refused year o rs (Accepted c i) record_code_lem h
+  pub record_refused : (code ≡ 0 → ⊥) → Ruled year o rs (on_record rs i o c) (Err code) rs
+  record_refused h = ruled_refused year o rs (Ok (c, i)) record_code_lem h
 
   -- where it is accepted nothing is replaced beside it: a replacement whose key is there is 14
   beside : code ≡ 0 → rs ≡ besides c o rs
@@ -207,9 +169,9 @@ module _ (year : ℕ) (o : Ordinativo) (rs : List Record) (i : ℕ) (c : Change)
       go Annul e = refl
       go Replace e = absurd (not_replaced o (nth rs i) e)
 
-  pub record_taken : {w : Record} {rs' : List Record} → code ≡ 0 → w ≡ written year o r c → rs' ≡ set rs i w → Ruled year o rs (on_record rs i o c) (Accepted c i) rs'
+  pub record_taken : {w : Record} {rs' : List Record} → code ≡ 0 → w ≡ written year o r c → rs' ≡ set rs i w → Ruled year o rs (on_record rs i o c) (Ok (c, i)) rs'
   record_taken h x s =
-      ruled_next year o rs (Accepted c i) record_code_lem h refl
+      ruled_next year o rs (Ok (c, i)) record_code_lem h refl
       (s ∙ ap (set rs i) (x ∙ ap (λ (v : Record). written year o v c) q) ∙ set_split rs i _ low ∙ ap (λ (l : List Record). stored_at l i (written year o (nth rs i) c)) (beside h))
 
 stored_end : (rs : List Record) (i : ℕ) (r : Record) → i ≡ length rs → stored_at rs i r ≡ rs ++ r ∷ []
@@ -224,8 +186,8 @@ module _ (slots year : ℕ) (o : Ordinativo) (rs : List Record) (c : Change) {n 
   none_code : code ≡ absent_code c (names_code c o rs) (length rs) slots
   none_code = e ∙ (λ i. absent_code c (k.0 i) (l i) slots)
 
-  pub none_refused : (code ≡ 0 → ⊥) → Ruled year o rs (on_none slots rs o c) (Refused code) rs
-  none_refused h = ruled_refused year o rs (Accepted c (length rs)) none_code h
+  pub none_refused : (code ≡ 0 → ⊥) → Ruled year o rs (on_none slots rs o c) (Err code) rs
+  none_refused h = ruled_refused year o rs (Ok (c, (length rs))) none_code h
 
   module _ (h : code ≡ 0) where
     new : New c named n slots
@@ -247,60 +209,60 @@ module _ (slots year : ℕ) (o : Ordinativo) (rs : List Record) (c : Change) {n 
     none_room s = omega (arith, new.low, marks_long)
 
     pub none_taken : {w : Record} {rs' : List Record} → w ≡ record_of (key_for year o) acquired_state (new_state c) o → rs' ≡ marks ++ w ∷ []
-        → Ruled year o rs (on_none slots rs o c) (Accepted c n) rs'
+        → Ruled year o rs (on_none slots rs o c) (Ok (c, n)) rs'
     none_taken x s =
-        ruled_next year o rs (Accepted c (length rs)) none_code h (ap (Accepted c) l)
+        ruled_next year o rs (Ok (c, (length rs))) none_code h (ap (λ (i : ℕ). Ok (c, i)) l)
         (s ∙ sym (stored_end marks n _ (sym marks_long)) ∙ (λ i. stored_at (marks_are i) n ((x ∙ sym (new.state o year (nth rs n))) i)))
 
 -- by its lines, and by the search for its key
 module _ (slots year : ℕ) (o : Ordinativo) (rs : List Record) (c : Change) {code : ℕ} (e : code ≡ line_code o.lines o.total) where
-  pub change_lines : (code ≡ 0 → ⊥) → ChangeTaken slots year o rs c (Refused code) 0 rs
+  pub change_lines : (code ≡ 0 → ⊥) → ChangeTaken slots year o rs c (Err code) 0 rs
   unfolding steps_of
   change_lines h =
       (ruled_refused year o rs (stepped slots o rs c (find_in rs 0 (key_for year o))) e h, rw (← e) (sym (unless_stops (λ c. 0) code _ h)))
 
-  module _ {f : Found} (h : code ≡ 0) (g : f ≡ find_in rs 0 (key_for year o)) where
-    by_search : {x : Found} → f ≡ x → judge_change slots year o rs c ≡ stepped slots o rs c x
+  module _ {f : Option ℕ} (h : code ≡ 0) (g : f ≡ find_in rs 0 (key_for year o)) where
+    by_search : {x : Option ℕ} → f ≡ x → judge_change slots year o rs c ≡ stepped slots o rs c x
     by_search z =
-        ap (λ (x : ℕ). unless Refused x (stepped slots o rs c (find_in rs 0 (key_for year o)))) (sym e ∙ h) ∙ ap (stepped slots o rs c) (sym g ∙ z)
+        ap (λ (x : ℕ). unless Err x (stepped slots o rs c (find_in rs 0 (key_for year o)))) (sym e ∙ h) ∙ ap (stepped slots o rs c) (sym g ∙ z)
 
-    looked : {x : Found} → f ≡ x → steps_of year o rs ≡ looked_at rs x
+    looked : {x : Option ℕ} → f ≡ x → steps_of year o rs ≡ looked_at rs x
     unfolding steps_of
     looked z =
         ap (λ (x : ℕ). unless (λ c. 0) x (looked_at rs (find_in rs 0 (key_for year o)))) (sym e ∙ h) ∙ ap (looked_at rs) (sym g ∙ z)
 
-    pub change_at : {i steps : ℕ} {j : Ruling} {rs' : List Record} → f ≡ At i → Ruled year o rs (on_record rs i o c) j rs' × (steps ≡ i + 1)
+    pub change_at : {i steps : ℕ} {j : Result (Change × ℕ) ℕ} {rs' : List Record} → f ≡ Some i → Ruled year o rs (on_record rs i o c) j rs' × (steps ≡ i + 1)
         → ChangeTaken slots year o rs c j steps rs'
     change_at {i} z r =
         let s = looked z in
         ((r.0.0 ∙ sym (by_search z ∙ stepped_at slots o rs i c), r.0.1), omega (arith, r.1, s))
 
-    pub change_none : {steps : ℕ} {j : Ruling} {rs' : List Record} → f ≡ Nothing → Ruled year o rs (on_none slots rs o c) j rs' × (steps ≡ length rs)
+    pub change_none : {steps : ℕ} {j : Result (Change × ℕ) ℕ} {rs' : List Record} → f ≡ None → Ruled year o rs (on_none slots rs o c) j rs' × (steps ≡ length rs)
         → ChangeTaken slots year o rs c j steps rs'
     change_none z r = ((r.0.0 ∙ sym (by_search z ∙ stepped_none slots o rs c), r.0.1), r.1 ∙ sym (looked z))
 
 -- its operation decides
-pub order_taken : (slots year : ℕ) (o : Ordinativo) (rs : List Record) {c : Change} → c ≡ change_of o.operation → {j : Ruling} {steps : ℕ} {rs' : List Record}
+pub order_taken : (slots year : ℕ) (o : Ordinativo) (rs : List Record) {c : Change} → c ≡ change_of o.operation → {j : Result (Change × ℕ) ℕ} {steps : ℕ} {rs' : List Record}
     → ChangeTaken slots year o rs c j steps rs' → OrderTaken slots year o rs j steps rs'
 unfolding judge_order
 order_taken slots year o rs q s = (s.0.0 ∙ ap (judge_change slots year o rs) q, s.1, s.0.1)
 
 -- A NOTICE
 module _ (rs : List Record) (executing : Bool) (k : Key) (line : ℕ) where
-  module _ {f : Found} (e : f ≡ find_in rs 0 k) where
-    pub notice_none : f ≡ Nothing → Unmoved 16 ≡ judge_notice executing k line rs
+  module _ {f : Option ℕ} (e : f ≡ find_in rs 0 k) where
+    pub notice_none : f ≡ None → Err 16 ≡ judge_notice executing k line rs
     unfolding judge_notice notice_at
     notice_none g = sym (ap (notice_at executing line rs) (sym e ∙ g))
 
-    pub notice_at_lem : {i : ℕ} {r : Record} {m : Noticed} → f ≡ At i → r ≡ nth rs i → m ≡ notice_in executing line i r → m ≡ judge_notice executing k line rs
+    pub notice_at_lem : {i : ℕ} {r : Record} {m : Result (ℕ × ℕ) ℕ} → f ≡ Some i → r ≡ nth rs i → m ≡ notice_in executing line i r → m ≡ judge_notice executing k line rs
     unfolding judge_notice notice_at
     notice_at_lem {i} g q h = h ∙ ap (notice_in executing line i) q ∙ sym (ap (notice_at executing line rs) (sym e ∙ g))
 
   pub eight_here : Eight rs → {i : ℕ} {r : Record} → i < length rs → r ≡ nth rs i → r.lines ≤ 8
   eight_here h {i} {r} l q = omega (arith, ap (λ (x : Record). x.lines) q, h i l)
 
-  module _ {m : Noticed} (e : m ≡ judge_notice executing k line rs) where
-    module _ {i cents : ℕ} (g : m ≡ Moved i cents) where
+  module _ {m : Result (ℕ × ℕ) ℕ} (e : m ≡ judge_notice executing k line rs) where
+    module _ {i cents : ℕ} (g : m ≡ Ok (i, cents)) where
       pub moved_low : i < length rs
       moved_low = found_below rs k i no_record (moved executing k line rs i cents (sym e ∙ g)).0
 
@@ -308,8 +270,8 @@ module _ (rs : List Record) (executing : Bool) (k : Key) (line : ℕ) where
       moved_first = (moved executing k line rs i cents (sym e ∙ g)).1.first
 
       pub notice_moved : {r w : Record} {s : ℕ} {rs' : List Record} → r ≡ nth rs i → s ≡ moved_to executing → w ≡ with_state r (line - 1) s → rs' ≡ set rs i w
-          → (Moved i cents ≡ judge_notice executing k line rs) × (rs' ≡ records_moved executing line rs (Moved i cents))
+          → (Ok (i, cents) ≡ judge_notice executing k line rs) × (rs' ≡ records_moved executing line rs (Ok (i, cents)))
       notice_moved q p x s = (sym g ∙ e, s ∙ ap (set rs i) (x ∙ (λ j. with_state (q j) (line - 1) (p j))))
 
-    pub notice_unmoved : {c : ℕ} → m ≡ Unmoved c → (Unmoved c ≡ judge_notice executing k line rs) × (rs ≡ records_moved executing line rs (Unmoved c))
+    pub notice_unmoved : {c : ℕ} → m ≡ Err c → (Err c ≡ judge_notice executing k line rs) × (rs ≡ records_moved executing line rs (Err c))
     notice_unmoved g = (sym g ∙ e, refl)

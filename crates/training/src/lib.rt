@@ -15,7 +15,6 @@ ghost use Rattle.training.specs.Inner.{on_record, on_none, Ruled, ChangeTaken, M
 
 use codes::Operation;
 use order::Order;
-use ranges::Found;
 use record::{Key, Record};
 use replacing::Naming;
 use rules::{Change, Noticed, Ruling};
@@ -56,7 +55,7 @@ pub struct NoticeServed {
 pub fn size(b: Book) -> usize
     ensures { (result ≡ length (list_of b)) × (result ≤ places) }
 {
-    if b.count <= PLACES { b.count } else { PLACES }
+    b.count.min(PLACES)
 }
 
 // The order at an index.
@@ -64,8 +63,7 @@ pub fn order_at(b: Book, i: usize) -> Record
     requires { i < length (list_of b) }
     ensures { result ≡ nth (list_of b) i }
 {
-    let rs = b.records;
-    rs[i]
+    b.records[i]
 }
 
 // One order more, after the last.
@@ -73,71 +71,51 @@ fn appended(b: Book, r: Record) -> Book
     requires { length (list_of b) < places }
     ensures { list_of result ≡ list_of b ++ r ∷ [] }
 {
-    let n = b.count;
-    let mut rs = b.records;
-    rs[n] = r;
-    Book {
-        count: n + 1,
-        records: rs,
-    }
+    let mut book = b;
+    book.records[b.count] = r;
+    book.count += 1;
+    book
 }
 
 // Another record in the place of one.
+#[tactic(auto, using(crate::proofs::Laws::taken_set))]
 fn replaced(b: Book, i: usize, r: Record) -> Book
     requires { i < length (list_of b) }
     ensures { list_of result ≡ set (list_of b) i r }
 {
-    let n = b.count;
-    let mut rs = b.records;
-    rs[i] = r;
-    Book {
-        count: n,
-        records: rs,
-    }
-}
-
-fn both(a: bool, b: bool) -> bool
-    ensures { result ≡ (a && b) }
-{
-    if a { b } else { false }
+    let mut book = b;
+    book.records[i] = r;
+    book
 }
 
 // Whether a record has this key.
+#[tactic(auto, unfolding(record::specs::Slot::key_is))]
 fn key_is(r: Record, k: Key) -> bool
     ensures { result ≡ key_is r k }
 {
-    both(
-        r.kind as u64 == k.kind,
-        both(r.esercizio == k.esercizio, r.number == k.number),
-    )
+    r.kind as u64 == k.kind && r.esercizio == k.esercizio && r.number == k.number
 }
 
 // The index of the order with this key.
-fn find(b: Book, key: Key) -> Found
+fn find(b: Book, key: Key) -> Option<usize>
     ensures { result ≡ find_in (list_of b) 0 key }
 {
-    let n = size(b);
-    let mut i = 0;
-    while i < n {
+    for i in 0..size(b) {
         if key_is(order_at(b, i), key) {
-            return Found::At(i);
+            return Some(i);
         }
-        i += 1;
     }
-    Found::Nothing
+    None
 }
 
 // A record with another state of one of its lines, counted from 0.
 fn with_state(r: Record, k: usize, s: u8) -> Record
     ensures { result ≡ with_state r k s }
 {
-    if 8 <= k {
-        return r;
-    }
-    let mut states = r.states;
-    states[k] = s;
     let mut w = r;
-    w.states = states;
+    if k < 8 {
+        w.states[k] = s;
+    }
     w
 }
 
@@ -147,7 +125,7 @@ fn mark_line(b: Book, m: Naming) -> Marked
 {
     let key = m.key;
     let line = m.line;
-    let Found::At(i) = find(b, key) else {
+    let Some(i) = find(b, key) else {
         return Marked { code: 24, book: b };
     };
     let r = order_at(b, i);
@@ -166,18 +144,14 @@ fn mark_line(b: Book, m: Naming) -> Marked
 fn mark_lines(b: Book, o: Order) -> Marked
     ensures { Marks (list_of b) (replace_code (list_of b) (namings (ordinativo o))) (replaced_by (list_of b) (namings (ordinativo o))) result.code (list_of result.book) }
 {
-    let ls = o.lines;
-    let count = order::count_of(ls);
     let mut book = b;
-    let mut j = 0;
-    while j < count {
+    for j in 0..order::count_of(o.lines) {
         let s = mark_line(book, replacing::naming_at(o, j));
         let code = s.code;
         if code != 0 {
             return Marked { code, book: b };
         }
         book = s.book;
-        j += 1;
     }
     Marked { code: 0, book }
 }
@@ -187,9 +161,7 @@ fn mark_names(b: Book, o: Order, c: Change) -> Marked
     ensures { Marks (list_of b) (names_code c (ordinativo o) (list_of b)) (besides c (ordinativo o) (list_of b)) result.code (list_of result.book) }
 {
     match c {
-        Change::Insert => Marked { code: 0, book: b },
-        Change::Vary => Marked { code: 0, book: b },
-        Change::Annul => Marked { code: 0, book: b },
+        Change::Insert | Change::Vary | Change::Annul => Marked { code: 0, book: b },
         Change::Replace => mark_lines(b, o),
     }
 }
@@ -203,13 +175,13 @@ fn change_record(b: Book, i: usize, year: u64, o: Order, c: Change) -> OrderServ
     let code = rules::record_code(c, o, r);
     if code != 0 {
         return OrderServed {
-            ruling: Ruling::Refused(code),
+            ruling: Err(code),
             steps: i + 1,
             book: b,
         };
     }
     OrderServed {
-        ruling: Ruling::Accepted(c, i),
+        ruling: Ok((c, i)),
         steps: i + 1,
         book: replaced(b, i, rules::written_by(year, o, r, c)),
     }
@@ -225,13 +197,13 @@ fn change_absent(b: Book, slots: usize, year: u64, o: Order, c: Change) -> Order
     let code = rules::absent_code(c, m.code, n, slots);
     if code != 0 {
         return OrderServed {
-            ruling: Ruling::Refused(code),
+            ruling: Err(code),
             steps: n,
             book: b,
         };
     }
     OrderServed {
-        ruling: Ruling::Accepted(c, n),
+        ruling: Ok((c, n)),
         steps: n,
         book: appended(m.book, rules::new_record(year, o, c)),
     }
@@ -242,11 +214,10 @@ fn take_change(b: Book, slots: usize, year: u64, o: Order, c: Change) -> OrderSe
     requires { slots ≤ places }
     ensures { ChangeTaken slots year (ordinativo o) (list_of b) c result.ruling result.steps (list_of result.book) }
 {
-    let ls = o.lines;
-    let code = lines::check_lines(ls, o.total);
+    let code = lines::check_lines(o.lines, o.total);
     if code != 0 {
         return OrderServed {
-            ruling: Ruling::Refused(code),
+            ruling: Err(code),
             steps: 0,
             book: b,
         };
@@ -257,8 +228,8 @@ fn take_change(b: Book, slots: usize, year: u64, o: Order, c: Change) -> OrderSe
         number: o.number,
     };
     match find(b, key) {
-        Found::At(i) => change_record(b, i, year, o, c),
-        Found::Nothing => change_absent(b, slots, year, o, c),
+        Some(i) => change_record(b, i, year, o, c),
+        None => change_absent(b, slots, year, o, c),
     }
 }
 
@@ -267,8 +238,7 @@ pub fn take_order(b: Book, slots: usize, year: u64, o: Order) -> OrderServed
     requires { slots ≤ places }
     ensures { OrderTaken slots year (ordinativo o) (list_of b) result.ruling result.steps (list_of result.book) }
 {
-    let operation = o.operation;
-    match operation {
+    match o.operation {
         Operation::Inserimento => take_change(b, slots, year, o, Change::Insert),
         Operation::Variazione => take_change(b, slots, year, o, Change::Vary),
         Operation::Annullo => take_change(b, slots, year, o, Change::Annul),
@@ -281,10 +251,8 @@ fn judge_notice(b: Book, executing: bool, key: Key, line: u64) -> Noticed
     requires { Eight (list_of b) }
     ensures { result ≡ judge_notice executing key line (list_of b) }
 {
-    match find(b, key) {
-        Found::At(i) => rules::notice_in(executing, line, i, order_at(b, i)),
-        Found::Nothing => Noticed::Unmoved(16),
-    }
+    let i = find(b, key).ok_or(16)?;
+    rules::notice_in(executing, line, i, order_at(b, i))
 }
 
 // Takes a notice: one line's state changes where it is accepted, nothing where it is refused.
@@ -293,16 +261,16 @@ pub fn take_notice(b: Book, executing: bool, key: Key, line: u64) -> NoticeServe
     ensures { (result.noticed ≡ judge_notice executing key line (list_of b)) × (list_of result.book ≡ records_moved executing line (list_of b) result.noticed) }
 {
     match judge_notice(b, executing, key, line) {
-        Noticed::Moved(i, cents) => {
+        Ok((i, cents)) => {
             let k = (line - 1) as usize;
             let w = with_state(order_at(b, i), k, rules::moved_to(executing));
             NoticeServed {
-                noticed: Noticed::Moved(i, cents),
+                noticed: Ok((i, cents)),
                 book: replaced(b, i, w),
             }
         }
-        Noticed::Unmoved(c) => NoticeServed {
-            noticed: Noticed::Unmoved(c),
+        Err(c) => NoticeServed {
+            noticed: Err(c),
             book: b,
         },
     }

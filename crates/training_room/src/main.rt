@@ -1,7 +1,7 @@
 // The training room: a table is read from a file, or document 01's is opened, and a clerk's commands are taken from standard input, line by line.
 #![tactic(auto)]
 
-use enrolment::Enrolled;
+use enrolment::EnrolRefusal;
 use printing::say;
 use room::Room;
 use std::env::{Env, FillError};
@@ -18,10 +18,7 @@ struct Lesson {
 }
 
 fn is_remark(line: &[u8]) -> bool {
-    if line.len() == 0 {
-        return false;
-    }
-    line[0] == b'#'
+    line.starts_with(b"#")
 }
 
 // At a terminal the clerk sees what is typed; elsewhere the line is said again, so that the answers can be read with it.
@@ -40,7 +37,7 @@ fn take_line<H: Files, W: Write>(
     line: &[u8],
     typed: bool,
 ) -> io::Result<Room> {
-    if line.len() == 0 {
+    if line.is_empty() {
         return Ok(r);
     }
     if !typed {
@@ -53,7 +50,7 @@ fn take_line<H: Files, W: Write>(
 }
 
 fn is_quit(line: &[u8]) -> bool {
-    scan::same(clerk_line::word(line, 0), b"quit")
+    matches!(clerk_line::word(line, 0), b"quit")
 }
 
 // Reads one line and takes it. The longest path and some words fit into it.
@@ -69,16 +66,15 @@ fn take_next<H: Files, S: Read, W: Write>(
     }
     let mut line = [0u8; 4200];
     let got = clerk_line::read_line(from, &mut line)?;
-    let n = got.size;
-    if is_quit(&line[..n]) {
+    let line = &line[..got.size];
+    if is_quit(line) {
         return Ok(Lesson {
             room: r,
             more: false,
         });
     }
-    let room = take_line(rt, to, r, &line[..n], typed)?;
     Ok(Lesson {
-        room,
+        room: take_line(rt, to, r, line, typed)?,
         more: got.more,
     })
 }
@@ -93,14 +89,12 @@ fn take_lines<H: Files, S: Read + IsTerminal, W: Write>(
 ) -> io::Result<()> {
     let typed = from.is_terminal();
     let mut room = r;
-    let mut left = most;
-    while 0 < left {
+    for _ in 0..most {
         let next = take_next(rt, from, to, room, typed)?;
         if !next.more {
             return Ok(());
         }
         room = next.room;
-        left -= 1;
     }
     Ok(())
 }
@@ -114,16 +108,14 @@ fn teach<H: Files, S: Read + IsTerminal, W: Write, E: Write>(
     t: &[u8],
 ) -> io::Result<()> {
     let e = enrolment::room_of(t);
-    let told = e.told;
-    let room = e.room;
-    match told {
-        Enrolled::Ready => take_lines(rt, from, to, room, 1000000000000),
-        Enrolled::InvalidTable => printing::complain(errors, b"the table is not valid\n"),
-        Enrolled::TooLarge => printing::complain(
+    match e.told {
+        Ok(()) => take_lines(rt, from, to, e.room, 1000000000000),
+        Err(EnrolRefusal::InvalidTable) => printing::complain(errors, b"the table is not valid\n"),
+        Err(EnrolRefusal::TooLarge) => printing::complain(
             errors,
             b"a body of the table has more than 32 slots: the training room takes tables whose bodies have at most 32\n",
         ),
-        Enrolled::YearClosed => printing::complain(
+        Err(EnrolRefusal::YearClosed) => printing::complain(
             errors,
             b"a body of the table has closed a year: the training room closes none, and takes no such table\n",
         ),
@@ -138,7 +130,7 @@ fn teach_anew<H: Files, S: Read + IsTerminal, W: Write, E: Write>(
     errors: &mut E,
 ) -> io::Result<()> {
     let mut table = [0u8; 880];
-    opening::open_table(
+    let _ = opening::open_table(
         b"01234\x06000471\0\0\0\0\0\0\0\0\0\0\0\0\x04\x03471\0\0\0\0\0\0\0\0\0\0\0\0\0\0\0\x04",
         &mut table,
     );
@@ -165,8 +157,7 @@ fn teach_file<H: Files, S: Read + IsTerminal, W: Write, E: Write>(
     };
     let mut table = [0u8; 65793];
     let got = printing::read_input(&mut file, &mut table);
-    let n = got.read;
-    teach(rt, from, to, errors, &table[..n])
+    teach(rt, from, to, errors, &table[..got.read])
 }
 
 fn main(rt: HostRuntime) -> io::Result<()> {

@@ -1,4 +1,5 @@
 -- Structure and fields by name, by recursion over the tree (specs/), are those by row number and level (proofs/Levels.antt).
+use Rattle.std.specs.Prelude.{Option, Some, None}
 use mathlib.Core.Path.{◌≡◌, refl, sym, ap, subst, ◌∙◌}
 use mathlib.Core.List.{List, [], ◌∷◌, ◌++◌}
 use mathlib.Core.Bool.{Bool, true, false, cond, ◌&&◌, ◌||◌}
@@ -13,8 +14,6 @@ use Rattle.schema.specs.declared.Parent.{Parent}
 use Rattle.schema.specs.declared.Parent.TheVariants.{FlussoOrdinativi, Mandato, Reversale, InformazioniBeneficiario, InformazioniVersante, SostituzioneMandato, SostituzioneReversale, Beneficiario, Versante, MessaggiEsito, TestataMessaggio, EsitoReversali, EsitoMandati, ErroriReversali, ErroriMandati, FlussoOpi, TestataFlusso}
 use Rattle.schema.specs.declared.Holds.{Holds}
 use Rattle.schema.specs.declared.Holds.TheVariants.{Text, Rows}
-use Rattle.schema.specs.declared.Spot.{Spot}
-use Rattle.schema.specs.declared.Spot.TheVariants.{At, Passed}
 use Rattle.schema.specs.Table.{Named, ◌is◌, Row, table}
 use Rattle.rows.specs.Replaces.{as_replacing}
 use Rattle.structure.specs.Structure.{ranges, is_row, in_order, levels}
@@ -25,16 +24,16 @@ use Rattle.tree.proofs.Levels.{among_names, spot_named, KeptTree, keep_tree, kep
 use Rattle.tree.proofs.Names.{names_at, only_at, row_is, row_next, tables_apart}
 
 -- WHAT THE ROWS SAY OF A NAME is said at its row
-abbrev pub say_at : Spot → Said
-say_at (At n h) = named h
-say_at Passed = passed
+abbrev pub say_at : Option (ℕ × Holds) → Said
+say_at (Some (n, h)) = named h
+say_at None = passed
 
 module _ (x : List ℕ) where
-  said_names : (ns : List Named) (n : ℕ) (w : Said) (o : Spot) → w ≡ say_at o → said_by ns x w ≡ say_at (among_names ns n x o)
+  said_names : (ns : List Named) (n : ℕ) (w : Said) (o : Option (ℕ × Holds)) → w ≡ say_at o → said_by ns x w ≡ say_at (among_names ns n x o)
   said_names [] n w o e = e
   said_names ((y is h) ∷ ns) n w o e = go (text_is (bytes y) x) (said_names ns n w o e)
     where
-      go : (b : Bool) → said_by ns x w ≡ say_at (among_names ns n x o) → cond b (named h) (said_by ns x w) ≡ say_at (cond b (At n h) (among_names ns n x o))
+      go : (b : Bool) → said_by ns x w ≡ say_at (among_names ns n x o) → cond b (named h) (said_by ns x w) ≡ say_at (cond b (Some (n, h)) (among_names ns n x o))
       go true i = refl
       go false i = i
 
@@ -49,7 +48,7 @@ names_of (k ∷ ks) = name_of k.tree ∷ names_of ks
 
 data Found (p : Parent) : List KeptTree → Type 0 where
   found_none : Found p []
-  found_next : {k : KeptTree} {ks : List KeptTree} → spot_named (table p) 0 (name_of k.tree) ≡ At k.row k.holds → Found p ks → Found p (k ∷ ks)
+  found_next : {k : KeptTree} {ks : List KeptTree} → spot_named (table p) 0 (name_of k.tree) ≡ Some (k.row, k.holds) → Found p ks → Found p (k ∷ ks)
 
 module _ (p : Parent) where
   names_kept : (ts : Trees) → (kept_names (table p) ts ≡ names_of (kept_trees p ts)) × Found p (kept_trees p ts)
@@ -57,30 +56,30 @@ module _ (p : Parent) where
   names_kept none = (refl, found_none)
   names_kept (more t ts) = let i = names_kept ts in go (spot_named (table p) 0 (name_of t)) refl (said_rows (name_of t) (table p) 0) i.0 i.1
     where
-      go : (w : Spot) → spot_named (table p) 0 (name_of t) ≡ w → said (table p) (name_of t) ≡ say_at w → kept_names (table p) ts ≡ names_of (kept_trees p ts) → Found p (kept_trees p ts)
+      go : (w : Option (ℕ × Holds)) → spot_named (table p) 0 (name_of t) ≡ w → said (table p) (name_of t) ≡ say_at w → kept_names (table p) ts ≡ names_of (kept_trees p ts) → Found p (kept_trees p ts)
           → (keep_name (said (table p) (name_of t)) (name_of t) (kept_names (table p) ts) ≡ names_of (keep_tree w t (kept_trees p ts))) × Found p (keep_tree w t (kept_trees p ts))
-      go (At n h) e z i f = (rw (z, i), found_next {k = record { tree = t; row = n; holds = h }} e f)
-      go Passed e z i f = (rw (z, i), f)
+      go (Some (n, h)) e z i f = (rw (z, i), found_next {k = record { tree = t; row = n; holds = h }} e f)
+      go None e z i f = (rw (z, i), f)
 
   -- IN THIS ORDER: a kept child is in row n if it has one of the row's names
-  abbrev is_at : Spot → Bool
-  is_at (At n h) = true
-  is_at Passed = false
+  abbrev is_at : Option (ℕ × Holds) → Bool
+  is_at (Some (n, h)) = true
+  is_at None = false
 
-  among_has : (ns : List Named) (n : ℕ) (y : List ℕ) → is_at (among_names ns n y Passed) ≡ has_name ns y
+  among_has : (ns : List Named) (n : ℕ) (y : List ℕ) → is_at (among_names ns n y None) ≡ has_name ns y
   among_has [] n y = refl
   among_has ((x is g) ∷ ns) n y = go (text_is (bytes x) y) (among_has ns n y)
     where
-      go : (b : Bool) → is_at (among_names ns n y Passed) ≡ has_name ns y → is_at (cond b (At n g) (among_names ns n y Passed)) ≡ (b || has_name ns y)
+      go : (b : Bool) → is_at (among_names ns n y None) ≡ has_name ns y → is_at (cond b (Some (n, g)) (among_names ns n y None)) ≡ (b || has_name ns y)
       go true i = refl
       go false i = i
 
-  row_here : (n m : ℕ) (h : Holds) (y : List ℕ) → spot_named (table p) 0 y ≡ At m h → eqb m n ≡ has_name (names_at (table p) n) y
+  row_here : (n m : ℕ) (h : Holds) (y : List ℕ) → spot_named (table p) 0 y ≡ Some (m, h) → eqb m n ≡ has_name (names_at (table p) n) y
   row_here n m h y e =
-      let z : only_at n (At m h) ≡ among_names (names_at (table p) n) n y Passed = rw e at (row_is n y (table p) n 0 (omega arith) (tables_apart p n)) in
+      let z : only_at n (Some (m, h)) ≡ among_names (names_at (table p) n) n y None = rw e at (row_is n y (table p) n 0 (omega arith) (tables_apart p n)) in
       go (eqb m n) ∙ ap is_at z ∙ among_has (names_at (table p) n) n y
     where
-      go : (b : Bool) → b ≡ is_at (cond b (At m h) Passed)
+      go : (b : Bool) → b ≡ is_at (cond b (Some (m, h)) None)
       go true = refl
       go false = refl
 
@@ -275,10 +274,10 @@ module _ (d : ℕ) (ih : Level d) where
   all_fit_lem p r none = refl
   all_fit_lem p r (more (tree l n h) ts) = go (spot_named (table p) 0 n) (said_rows n (table p) 0) (all_fit_lem p r ts)
     where
-      go : (w : Spot) → said (table p) n ≡ say_at w → all_trees (kept_fits (fits_tree d)) (kept_trees p ts) ≡ all_fit ts p
+      go : (w : Option (ℕ × Holds)) → said (table p) n ≡ say_at w → all_trees (kept_fits (fits_tree d)) (kept_trees p ts) ≡ all_fit ts p
           → all_trees (kept_fits (fits_tree d)) (keep_tree w (tree l n h) (kept_trees p ts)) ≡ (held_fits h (said (table p) n) && all_fit ts p)
-      go (At m g) e i = rw (e, i, held_fits_lem g h (λ q z. let y = rank_said p q n (rw z at e) in omega arith))
-      go Passed e i = rw (e, i, pass_fits h)
+      go (Some (m, g)) e i = rw (e, i, held_fits_lem g h (λ q z. let y = rank_said p q n (rw z at e) in omega arith))
+      go None e i = rw (e, i, pass_fits h)
 
 one_level : (d : ℕ) → Level d → Level (suc d)
 unfolding fits_tree
@@ -325,10 +324,10 @@ module _ (d : ℕ) (ih : FieldLevel d) where
       let b = both (held_fits h (said (table p) n)) (all_fit ts p) e in
       go (spot_named (table p) 0 n) (said_rows n (table p) 0) b.0 (all_fields_lem p r ts b.1)
     where
-      go : (w : Spot) → said (table p) n ≡ say_at w → held_fits h (said (table p) n) ≡ true → fields_of_trees (fields_tree d) (kept_trees p ts) ≡ all_fields ts p
+      go : (w : Option (ℕ × Holds)) → said (table p) n ≡ say_at w → held_fits h (said (table p) n) ≡ true → fields_of_trees (fields_tree d) (kept_trees p ts) ≡ all_fields ts p
           → fields_of_trees (fields_tree d) (keep_tree w (tree l n h) (kept_trees p ts)) ≡ held_fields h l (said (table p) n) ++ all_fields ts p
-      go (At m g) z f i = rw (z, i, held_fields_lem l n g h (λ q y. let x = rank_said p q n (rw y at z) in omega arith) (rw z at f))
-      go Passed z f i = rw (z, i, pass_fields l h)
+      go (Some (m, g)) z f i = rw (z, i, held_fields_lem l n g h (λ q y. let x = rank_said p q n (rw y at z) in omega arith) (rw z at f))
+      go None z f i = rw (z, i, pass_fields l h)
 
 field_level : (d : ℕ) → FieldLevel d → FieldLevel (suc d)
 unfolding fields_tree

@@ -1,4 +1,5 @@
 -- What `field_at` shows is what the grammar says of the place.
+use Rattle.std.specs.Prelude.{Option, Some, None}
 use mathlib.Core.Path.{◌≡◌, refl, sym, ap, ◌∙◌}
 use mathlib.Core.List.{List, ◌++◌}
 use Prim.Native.Nat.{ℕ, ◌+◌, ◌-◌}
@@ -14,8 +15,6 @@ use Rattle.grammar.proofs.Parts.{part_join, part_length, part_has}
 use Rattle.grammar.proofs.Sound.{name_sound, end_sound, element_bytes, content_at_sound}
 use Rattle.children.specs.declared.Child.{Child}
 use Rattle.children.specs.declared.FieldSpans.{FieldSpans}
-use Rattle.children.specs.declared.Step.{Step}
-use Rattle.children.specs.declared.Step.TheVariants.{One, End}
 use Rattle.children.specs.Child.{child_at, spans_of, field_at}
 use Rattle.children.proofs.Laws.{child_read}
 use Rattle.tree.specs.Field.{ElementThere, FieldShown, shown, nothing, FieldAnswered}
@@ -40,7 +39,7 @@ module _ (s : List ℕ) (p : ℕ) where
       rw (r.child, x, v, y)
 
   -- what is read is an element that stands there
-  read_there : (k : Child) → child_at s p ≡ One k → (n : List ℕ) × (c : List ℕ) × ElementThere s p n c × (spans_of (One k) ≡ spans p n c)
+  read_there : (k : Child) → child_at s p ≡ Some k → (n : List ℕ) × (c : List ℕ) × ElementThere s p n c × (spans_of (Some k) ≡ spans p n c)
   read_there k e =
       let r = child_read s p k e in
       let g = name_past s (p + 1) r.gt r.named in
@@ -58,25 +57,25 @@ module _ (s : List ℕ) (p : ℕ) where
       let u = part_length s (p + 1) r.gt (omega arith) in
       let v = part_length s (r.gt + 1) r.to (omega arith) in
       let y : r.gt + 1 ≡ p + length (start_tag n) = omega arith in
-      let q : spans_of (One (record { lt = p; gt = r.gt; to = r.to; after = white_at s r.end })) ≡ spans p n c = rw (u, v, y) in
-      (n, c, w, ap (λ (x : Child). spans_of (One x)) r.is ∙ q)
+      let q : spans_of (Some (record { lt = p; gt = r.gt; to = r.to; after = white_at s r.end })) ≡ spans p n c = rw (u, v, y) in
+      (n, c, w, ap (λ (x : Child). spans_of (Some x)) r.is ∙ q)
 
   field_shown : FieldShown s p (field_at s p)
   unfolding field_at
   field_shown = go (child_at s p) refl
     where
-      go : (w : Step) → child_at s p ≡ w → FieldShown s p (spans_of w)
-      go (One k) e = let r = read_there k e in rw r.3 (shown r.2)
-      go End e = nothing (λ n c w. let a : field_at s p ≡ spans_of End = rw e in let z : p + 1 ≡ 0 = ap (λ (x : FieldSpans). x.name) (there_read w ∙ a) in omega arith)
+      go : (w : Option Child) → child_at s p ≡ w → FieldShown s p (spans_of w)
+      go (Some k) e = let r = read_there k e in rw r.3 (shown r.2)
+      go None e = nothing (λ n c w. let a : field_at s p ≡ spans_of None = rw e in let z : p + 1 ≡ 0 = ap (λ (x : FieldSpans). x.name) (there_read w ∙ a) in omega arith)
 
   shown_field : (r : FieldSpans) → FieldShown s p r → r ≡ field_at s p
   unfolding field_at
   shown_field r (shown w) = there_read w
   shown_field r (nothing none) = go (child_at s p) refl
     where
-      go : (w : Step) → child_at s p ≡ w → spans_of End ≡ spans_of w
-      go (One k) e = let r = read_there k e in absurd (none r.0 r.1 r.2)
-      go End e = refl
+      go : (w : Option Child) → child_at s p ≡ w → spans_of None ≡ spans_of w
+      go (Some k) e = let r = read_there k e in absurd (none r.0 r.1 r.2)
+      go None e = refl
 
 pub field_answered : FieldAnswered
 field_answered s p r = (λ e. rw e (field_shown s p), shown_field s p r)

@@ -1,4 +1,5 @@
 -- Fields that stand: the list of them as a test, and what it says of the parts.
+use Rattle.std.specs.Prelude.{Result, Ok, Err}
 use mathlib.Core.Path.{◌≡◌, refl, sym, ap, ◌∙◌}
 use mathlib.Core.List.{List, [], ◌∷◌, ◌++◌}
 use mathlib.Core.Bool.{Bool, true, false, ◌&&◌}
@@ -8,8 +9,6 @@ use Rattle.scan.proofs.Laws.{both}
 use Rattle.fields.specs.declared.Cause.{Cause}
 use Rattle.fields.specs.declared.Judged.{Judged}
 use Rattle.fields.specs.declared.Judged.TheVariants.{Stands, Breaks}
-use Rattle.fields.specs.declared.Reading.{Reading}
-use Rattle.fields.specs.declared.Reading.TheVariants as reading
 use Rattle.fields.specs.Fields.{reading_of, field_stands}
 use Rattle.fields.proofs.Laws.{stands_holds, holds_value}
 use Rattle.schema.specs.declared.Parent.{Parent}
@@ -17,6 +16,7 @@ use Rattle.standing.specs.Readings.{Field, first_bad, bad_or, Place, Nowhere}
 use Rattle.tree.specs.Tree.{Trees}
 use Rattle.tree.specs.Fields.{AllStand, all_none, all_next, FirstBreaks, here, later}
 use Rattle.tree.proofs.Levels.{fits_tree, fields_tree}
+use Rattle.fields.specs.declared.Value.{Value}
 
 abbrev pub stand : Judged → Bool
 stand Stands = true
@@ -59,9 +59,9 @@ unfolding first_bad
 bad_none [] e = all_none
 bad_none (f ∷ fs) e = go (reading_of f.form f.text) refl e (bad_none fs)
   where
-    go : (r : Reading) → reading_of f.form f.text ≡ r → bad_or f.lt (first_bad fs) r ≡ Nowhere → (first_bad fs ≡ Nowhere → AllStand fs) → AllStand (f ∷ fs)
-    go (reading.Holds v) z h i = all_next (sym (stands_holds f.form f.text (sym z))) (i h)
-    go (reading.Breaks d) z h i = let y : ◌≡◌ {A = ℕ} 0 1 = cc in absurd (omega arith)
+    go : (r : Result Value Cause) → reading_of f.form f.text ≡ r → bad_or f.lt (first_bad fs) r ≡ Nowhere → (first_bad fs ≡ Nowhere → AllStand fs) → AllStand (f ∷ fs)
+    go (Ok v) z h i = all_next (sym (stands_holds f.form f.text (sym z))) (i h)
+    go (Err d) z h i = let y : ◌≡◌ {A = ℕ} 0 1 = cc in absurd (omega arith)
 
 -- the first that breaks
 pub bad_first : (fs : List Field) (p : ℕ) (c : Cause) → first_bad fs ≡ Place p c → FirstBreaks fs p c
@@ -69,9 +69,9 @@ unfolding first_bad
 bad_first [] p c e = let z : ◌≡◌ {A = ℕ} 0 1 = cc in absurd (omega arith)
 bad_first (f ∷ fs) p c e = go (reading_of f.form f.text) refl e (bad_first fs p c)
   where
-    go : (r : Reading) → reading_of f.form f.text ≡ r → bad_or f.lt (first_bad fs) r ≡ Place p c → (first_bad fs ≡ Place p c → FirstBreaks fs p c) → FirstBreaks (f ∷ fs) p c
-    go (reading.Holds v) z h i = later (sym (stands_holds f.form f.text (sym z))) (i h)
-    go (reading.Breaks d) z h i = let y : f.lt ≡ p = cc in let x : d ≡ c = cc in here (z ∙ ap reading.Breaks x) y
+    go : (r : Result Value Cause) → reading_of f.form f.text ≡ r → bad_or f.lt (first_bad fs) r ≡ Place p c → (first_bad fs ≡ Place p c → FirstBreaks fs p c) → FirstBreaks (f ∷ fs) p c
+    go (Ok v) z h i = later (sym (stands_holds f.form f.text (sym z))) (i h)
+    go (Err d) z h i = let y : f.lt ≡ p = cc in let x : d ≡ c = cc in here (z ∙ ap Err x) y
 
 pub first_bad_lem : (fs : List Field) (p : ℕ) (c : Cause) → FirstBreaks fs p c → first_bad fs ≡ Place p c
 unfolding first_bad

@@ -1,11 +1,11 @@
 -- A tree says one header and one list of orders.
+use Rattle.std.specs.Prelude.{Some}
 use mathlib.Core.Path.{◌≡◌, refl, sym, subst, ◌∙◌}
 use mathlib.Core.Logic.{inl, inr}
 use mathlib.Core.List.{List, [], ◌∷◌}
 use Prim.Native.Nat.{ℕ}
 use Prim.Native.String.{String}
 use native.Mathlib.Omega.{arith}
-use Rattle.digits.specs.declared.Number.TheVariants.{Value}
 use Rattle.digits.specs.Digits.{esercizio, numero, progressivo}
 use Rattle.codes.specs.declared.Operation.{Operation}
 use Rattle.codes.specs.declared.Operation.TheVariants.{Inserimento, Variazione, Annullo, Sostituzione}
@@ -24,7 +24,7 @@ text_one a b = let y = a.alone in let z = b.alone in cc
 value_one : {A : Type 0} {x : String} {form : List ℕ → A} {ts : Trees} {v w : A} → OneValue x form ts v → OneValue x form ts w → v ≡ w
 value_one a b = let y = a.is in let z = b.is in let e = text_one a.one b.one in cc
 
-number_one : {x : String} {form : List ℕ → _} {ts : Trees} {v w : ℕ} → OneValue x form ts (Value v) → OneValue x form ts (Value w) → v ≡ w
+number_one : {x : String} {form : List ℕ → _} {ts : Trees} {v w : ℕ} → OneValue x form ts (Some v) → OneValue x form ts (Some w) → v ≡ w
 number_one a b = let e = value_one a b in cc
 
 testata_one : (e : Edition) (ts us vs : Trees) → TestataIn e ts us → TestataIn e ts vs → us ≡ vs
@@ -45,9 +45,9 @@ each_one u (each_next {t = t} {a = a} x xs) (each_next {a = b} y ys) = let e = u
 named_one : (w : Words) (ts : Trees) (n m : NamedLine) → NamedIn w ts n → NamedIn w ts m → n ≡ m
 named_one w ts n m a b =
     let z : b.structure ≡ a.structure = let y = a.there.alone in let x = b.there.alone in cc in
-    let u = number_one a.number (subst (λ (us : Trees). OneValue (da_sostituire "numero_" w.name) numero us (Value m.number)) z b.number) in
-    let v = number_one a.line (subst (λ (us : Trees). OneValue (da_sostituire "progressivo_" w.party) progressivo us (Value m.line)) z b.line) in
-    let e = number_one a.esercizio (subst (λ (us : Trees). OneValue (da_sostituire "esercizio_" w.name) esercizio us (Value m.esercizio)) z b.esercizio) in
+    let u = number_one a.number (subst (λ (us : Trees). OneValue (da_sostituire "numero_" w.name) numero us (Some m.number)) z b.number) in
+    let v = number_one a.line (subst (λ (us : Trees). OneValue (da_sostituire "progressivo_" w.party) progressivo us (Some m.line)) z b.line) in
+    let e = number_one a.esercizio (subst (λ (us : Trees). OneValue (da_sostituire "esercizio_" w.name) esercizio us (Some m.esercizio)) z b.esercizio) in
     λ i. record { number = u i; line = v i; esercizio = e i }
 
 by_one : (o : Operation) (w : Words) (ts : Trees) (n m : NamedLine) → NamedBy o w ts n → NamedBy o w ts m → n ≡ m

@@ -1,4 +1,5 @@
 -- Where structure and fields stand, the header and the orders by name (specs/Orders.antt) are there, and are those of proofs/Levels.antt.
+use Rattle.std.specs.Prelude.{Option, Some, None}
 use mathlib.Core.Path.{◌≡◌, refl, sym, ap, subst, ◌∙◌}
 use mathlib.Core.Logic.{inl, inr}
 use mathlib.Core.List.{List, [], ◌∷◌, ◌++◌, map}
@@ -13,14 +14,8 @@ use lib.Dec.{eqb, leb}
 use borrow.Author.Tests.{eqb-true, ne_eqb, leb-true}
 use Rattle.scan.specs.Bytes.{bytes, between, run, starts_with, has_at, text_is}
 use Rattle.scan.proofs.Laws.{both}
-use Rattle.codes.specs.declared.Asked.{Asked}
-use Rattle.codes.specs.declared.Asked.TheVariants.{Operazione, NoOperation}
 use Rattle.codes.specs.Codes.{tipo_operazione}
-use Rattle.digits.specs.declared.Number.{Number}
-use Rattle.digits.specs.declared.Number.TheVariants.{Value, NoNumber}
 use Rattle.digits.specs.Digits.{esercizio, numero, importo, progressivo}
-use Rattle.dates.specs.declared.Day.{Day}
-use Rattle.dates.specs.declared.Day.TheVariants.{On, NoDay}
 use Rattle.dates.specs.Dates.{data_of}
 use Rattle.fields.specs.declared.Form.{Form}
 use Rattle.fields.specs.declared.Form.TheVariants.{Esercizio, TipoOperazione, Numero, Data, Importo, Progressivo}
@@ -31,7 +26,6 @@ use Rattle.schema.specs.declared.Parent.{Parent}
 use Rattle.schema.specs.declared.Parent.TheVariants.{FlussoOrdinativi, Mandato, Reversale, FlussoOpi, TestataFlusso}
 use Rattle.schema.specs.declared.Holds.{Holds}
 use Rattle.schema.specs.declared.Holds.TheVariants.{Text, Rows}
-use Rattle.schema.specs.declared.Spot.TheVariants.{At, Passed}
 use Rattle.schema.specs.Table.{◌is◌, Row, once, many, table}
 use Rattle.structure.specs.Structure.{Range, ranges, takes, is_row, in_order}
 use Rattle.orders.specs.Orders.{value_of, date_of, operation_of, eight}
@@ -52,6 +46,7 @@ use Rattle.tree.proofs.Levels.{KeptTree, keep_tree, kept_trees, rows_of_trees, a
 use Rattle.tree.proofs.Names.{text_same, HasRow, row_at, has_names, in_row_trees, pick, as_kept, row_picked}
 use Rattle.tree.proofs.Orders.{one_name, all_row, Spelled, OrderWords, mandato_words_lem, reversale_words_lem, order_names, order_names_lem}
 use Rattle.tree.proofs.Stand.{stand, all_stand, Right, stand_both, stand_is}
+use Rattle.calendar.specs.declared.Date.{Date}
 
 -- HOW MANY A ROW HAS
 abbrev count_row : ℕ → List ℕ → ℕ
@@ -188,44 +183,44 @@ module _ (d : ℕ) (p : Parent) (ts : Trees) (r : Right (suc d) p ts) where
   text_of n x f h = text_one x f n d ts (children_named (x ∷ []) ts) refl (row_length d p ts r n x (Text f) 1 1 h) (row_right d p ts r n x (Text f) 1 1 h)
 
 -- VALUES
-pub number_there : (n : Number) → is_number n ≡ Stands → n ≡ Value (value_of n)
-number_there (Value v) e = refl
-number_there NoNumber e = let z : ◌≡◌ {A = ℕ} 0 1 = cc in absurd (omega arith)
+pub number_there : (n : Option ℕ) → is_number n ≡ Stands → n ≡ Some (value_of n)
+number_there (Some v) e = refl
+number_there None e = let z : ◌≡◌ {A = ℕ} 0 1 = cc in absurd (omega arith)
 
-pub day_there : (n : Day) → is_day n ≡ Stands → n ≡ On (date_of n)
-day_there (On v) e = refl
-day_there NoDay e = let z : ◌≡◌ {A = ℕ} 0 1 = cc in absurd (omega arith)
+pub day_there : (n : Option Date) → is_day n ≡ Stands → n ≡ Some (date_of n)
+day_there (Some v) e = refl
+day_there None e = let z : ◌≡◌ {A = ℕ} 0 1 = cc in absurd (omega arith)
 
-operation_there : (n : Asked) → is_operation n ≡ Stands → n ≡ Operazione (operation_of n)
-operation_there (Operazione v) e = refl
-operation_there NoOperation e = let z : ◌≡◌ {A = ℕ} 0 1 = cc in absurd (omega arith)
+operation_there : (n : Option Operation) → is_operation n ≡ Stands → n ≡ Some (operation_of n)
+operation_there (Some v) e = refl
+operation_there None e = let z : ◌≡◌ {A = ℕ} 0 1 = cc in absurd (omega arith)
 
 module _ (x : String) (ts : Trees) where
   -- the value of a child's text
   value_of_lem : {A : Type 0} (f : Form) (form : List ℕ → A) (v : A) → TextOf x f ts → (field_stands f (text_named x ts) ≡ Stands → form (text_named x ts) ≡ v) → OneValue x form ts v
   value_of_lem f form v t e = record { text = text_named x ts; one = t.one; is = e t.stands }
 
-  importo_of : TextOf x Importo ts → OneValue x importo ts (Value (value_of (importo (text_named x ts))))
+  importo_of : TextOf x Importo ts → OneValue x importo ts (Some (value_of (importo (text_named x ts))))
   unfolding field_stands
   importo_of t = value_of_lem Importo importo _ t (number_there (importo (text_named x ts)))
 
-  numero_of : TextOf x Numero ts → OneValue x numero ts (Value (value_of (numero (text_named x ts))))
+  numero_of : TextOf x Numero ts → OneValue x numero ts (Some (value_of (numero (text_named x ts))))
   unfolding field_stands
   numero_of t = value_of_lem Numero numero _ t (number_there (numero (text_named x ts)))
 
-  progressivo_of : TextOf x Progressivo ts → OneValue x progressivo ts (Value (value_of (progressivo (text_named x ts))))
+  progressivo_of : TextOf x Progressivo ts → OneValue x progressivo ts (Some (value_of (progressivo (text_named x ts))))
   unfolding field_stands
   progressivo_of t = value_of_lem Progressivo progressivo _ t (number_there (progressivo (text_named x ts)))
 
-  esercizio_of : TextOf x Esercizio ts → OneValue x esercizio ts (Value (value_of (esercizio (text_named x ts))))
+  esercizio_of : TextOf x Esercizio ts → OneValue x esercizio ts (Some (value_of (esercizio (text_named x ts))))
   unfolding field_stands
   esercizio_of t = value_of_lem Esercizio esercizio _ t (number_there (esercizio (text_named x ts)))
 
-  data_of_lem : TextOf x Data ts → OneValue x data_of ts (On (date_of (data_of (text_named x ts))))
+  data_of_lem : TextOf x Data ts → OneValue x data_of ts (Some (date_of (data_of (text_named x ts))))
   unfolding field_stands
   data_of_lem t = value_of_lem Data data_of _ t (day_there (data_of (text_named x ts)))
 
-  operazione_of : TextOf x TipoOperazione ts → OneValue x tipo_operazione ts (Operazione (operation_of (tipo_operazione (text_named x ts))))
+  operazione_of : TextOf x TipoOperazione ts → OneValue x tipo_operazione ts (Some (operation_of (tipo_operazione (text_named x ts))))
   unfolding field_stands
   operazione_of t = value_of_lem TipoOperazione tipo_operazione _ t (operation_there (tipo_operazione (text_named x ts)))
 
@@ -295,17 +290,17 @@ NamedWhere true w kids n = NamedIn w kids n
 NamedWhere false w kids n = n ≡ no_name
 
 -- which its operation says, where that stands
-word_asked : tipo_operazione (bytes "SOSTITUZIONE") ≡ Operazione Sostituzione
+word_asked : tipo_operazione (bytes "SOSTITUZIONE") ≡ Some Sostituzione
 unfolding tipo_operazione text_is has_at starts_with
 word_asked = refl
 
 named_asked : (t : List ℕ) (b : Bool) → text_is (bytes "SOSTITUZIONE") t ≡ b → is_operation (tipo_operazione t) ≡ Stands → (w : Words) (kids : Trees) (n : NamedLine) → NamedWhere b w kids n → NamedBy (operation_of (tipo_operazione t)) w kids n
 unfolding tipo_operazione
-named_asked t true e h w kids n x = subst (λ (a : Asked). NamedBy (operation_of a) w kids n) (sym (ap tipo_operazione (text_same (bytes "SOSTITUZIONE") t e) ∙ word_asked)) x
+named_asked t true e h w kids n x = subst (λ (a : Option Operation). NamedBy (operation_of a) w kids n) (sym (ap tipo_operazione (text_same (bytes "SOSTITUZIONE") t e) ∙ word_asked)) x
 named_asked t false e h w kids n x = rw e (go (text_is (bytes "INSERIMENTO") t) (text_is (bytes "VARIAZIONE") t) (text_is (bytes "ANNULLO") t) (rw e at h))
   where
-    asked : Bool → Bool → Bool → Asked
-    asked i v a = cond i (Operazione Inserimento) (cond v (Operazione Variazione) (cond a (Operazione Annullo) NoOperation))
+    asked : Bool → Bool → Bool → Option Operation
+    asked i v a = cond i (Some Inserimento) (cond v (Some Variazione) (cond a (Some Annullo) None))
 
     go : (i v a : Bool) → is_operation (asked i v a) ≡ Stands → NamedBy (operation_of (asked i v a)) w kids n
     go true v a h = x
@@ -427,7 +422,7 @@ orders_each n d (more t ts) a = go (text_is (bytes "mandato") (name_of t)) refl 
         (record { fits = c.0; stands = c.1 }, b.1)
 
     go : (b : Bool) → text_is (bytes "mandato") (name_of t) ≡ b → (c : Bool) → text_is (bytes "reversale") (name_of t) ≡ c
-        → all_trees (right (suc (suc (suc d)))) (keep_tree (cond b (At n (Rows (Mandato false))) (cond c (At n (Rows (Reversale false))) Passed)) t (pick order_names n ts)) ≡ true
+        → all_trees (right (suc (suc (suc d)))) (keep_tree (cond b (Some (n, (Rows (Mandato false)))) (cond c (Some (n, (Rows (Reversale false)))) None)) t (pick order_names n ts)) ≡ true
         → (all_trees (right (suc (suc (suc d)))) (pick order_names n ts) ≡ true → Each Whole (children_named ("mandato" ∷ "reversale" ∷ []) ts) (orders_tree ts))
         → Each Whole (cond (b || (c || false)) (t ∷ children_named ("mandato" ∷ "reversale" ∷ []) ts) (children_named ("mandato" ∷ "reversale" ∷ []) ts))
         (cond b (order_tree mandato_words (kids_in (held_of t)) ∷ orders_tree ts) (cond c (order_tree reversale_words (kids_in (held_of t)) ∷ orders_tree ts) (orders_tree ts)))

@@ -1,8 +1,7 @@
 -- Document 01, "The fields" and code 5, said of a tree: its fields in document order, and which breaks first.
-use Rattle.std.specs.Prelude.{◌≡◌, ℕ, List, [], ◌∷◌, ◌++◌}
+use Rattle.std.specs.Prelude.{◌≡◌, ℕ, List, [], ◌∷◌, ◌++◌, Err}
 use Rattle.fields.specs.declared.Cause.{Cause}
 use Rattle.fields.specs.declared.Judged.TheVariants.{Stands}
-use Rattle.fields.specs.declared.Reading.TheVariants.{Breaks}
 use Rattle.fields.specs.Fields.{reading_of, field_stands}
 use Rattle.schema.specs.declared.Parent.{Parent}
 use Rattle.schema.specs.declared.Holds.TheVariants.{Text, Rows}
@@ -37,5 +36,5 @@ pub data AllStand : List Field → Type 0 where
 -- "a field breaks; place is the byte of < of the first such element": the first that breaks stands at p, and c is the cause that its reading tells
 -- (document 02, Req 03: "Every field reading tells one, and the flow's answer carries it")
 pub data FirstBreaks : List Field → ℕ → Cause → Type 0 where
-  here : {f : Field} {fs : List Field} {p : ℕ} {c : Cause} → reading_of f.form f.text ≡ Breaks c → f.lt ≡ p → FirstBreaks (f ∷ fs) p c
+  here : {f : Field} {fs : List Field} {p : ℕ} {c : Cause} → reading_of f.form f.text ≡ Err c → f.lt ≡ p → FirstBreaks (f ∷ fs) p c
   later : {f : Field} {fs : List Field} {p : ℕ} {c : Cause} → field_stands f.form f.text ≡ Stands → FirstBreaks fs p c → FirstBreaks (f ∷ fs) p c

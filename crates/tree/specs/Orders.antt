@@ -1,14 +1,11 @@
 -- The header and the orders that a tree says, by name.
-use Rattle.std.specs.Prelude.{◌≡◌, ◌⊎◌, ℕ, List, [], ◌∷◌, Bool, false, cond, ◌||◌}
+use Rattle.std.specs.Prelude.{◌≡◌, ◌⊎◌, ℕ, List, [], ◌∷◌, Bool, false, cond, ◌||◌, Some}
 use Prim.Native.String.{String}
 use Rattle.scan.specs.Bytes.{bytes, text_is}
 use Rattle.codes.specs.declared.Operation.{Operation}
 use Rattle.codes.specs.declared.Operation.TheVariants.{Inserimento, Variazione, Annullo, Sostituzione}
-use Rattle.codes.specs.declared.Asked.TheVariants.{Operazione}
 use Rattle.codes.specs.Codes.{tipo_operazione}
-use Rattle.digits.specs.declared.Number.TheVariants.{Value}
 use Rattle.digits.specs.Digits.{esercizio, numero, importo, progressivo}
-use Rattle.dates.specs.declared.Day.TheVariants.{On}
 use Rattle.dates.specs.Dates.{data_of}
 use Rattle.record.specs.Slot.{mandato_kind, reversale_kind}
 use Rattle.order.specs.declared.NamedLine.{NamedLine}
@@ -73,7 +70,7 @@ pub record HeaderIn (e : Edition) (kids : Trees) (h : Header) : Type 0 where
   pub there : TestataIn e kids testata
   pub abi : OneText "codice_ABI_BT" testata h.abi
   pub ente : OneText "codice_ente_BT" testata h.ente
-  pub esercizio : OneValue "esercizio" esercizio kids (Value h.esercizio)
+  pub esercizio : OneValue "esercizio" esercizio kids (Some h.esercizio)
 
 -- AN ORDER'S WORDS: its kind, its element's name, and who its lines are for. "Reversale is the same with reversale, informazioni_versante, versante in
 -- place of mandato, informazioni_beneficiario, beneficiario"
@@ -101,9 +98,9 @@ da_sostituire x y = joined x (joined y "_da_sostituire")
 pub record NamedIn (w : Words) (kids : Trees) (n : NamedLine) : Type 0 where
   pub structure : Trees
   pub there : OneHolds (joined "sostituzione_" w.name) kids structure
-  pub number : OneValue (da_sostituire "numero_" w.name) numero structure (Value n.number)
-  pub line : OneValue (da_sostituire "progressivo_" w.party) progressivo structure (Value n.line)
-  pub esercizio : OneValue (da_sostituire "esercizio_" w.name) esercizio structure (Value n.esercizio)
+  pub number : OneValue (da_sostituire "numero_" w.name) numero structure (Some n.number)
+  pub line : OneValue (da_sostituire "progressivo_" w.party) progressivo structure (Some n.line)
+  pub esercizio : OneValue (da_sostituire "esercizio_" w.name) esercizio structure (Some n.esercizio)
 
 -- "other operations pass it over"
 abbrev pub NamedBy : Operation → Words → Trees → NamedLine → Type 0
@@ -114,17 +111,17 @@ NamedBy Annullo w kids n = n ≡ no_name
 
 -- AN ORDER, with all its lines, each of which knows the order's operation
 pub record LineIn (o : Operation) (w : Words) (t : Tree) (l : Line) : Type 0 where
-  pub progressivo : OneValue (joined "progressivo_" w.party) progressivo (kids_in (held_of t)) (Value l.progressivo)
-  pub amount : OneValue (joined "importo_" w.party) importo (kids_in (held_of t)) (Value l.amount)
+  pub progressivo : OneValue (joined "progressivo_" w.party) progressivo (kids_in (held_of t)) (Some l.progressivo)
+  pub amount : OneValue (joined "importo_" w.party) importo (kids_in (held_of t)) (Some l.amount)
   pub named : NamedBy o w (kids_in (held_of t)) l.named
 
 pub record OrderIn (w : Words) (t : Tree) (o : Ordinativo) : Type 0 where
   pub name : name_of t ≡ bytes w.name
   pub kind : o.kind ≡ w.kind
-  pub operation : OneValue "tipo_operazione" tipo_operazione (kids_in (held_of t)) (Operazione o.operation)
-  pub number : OneValue (joined "numero_" w.name) numero (kids_in (held_of t)) (Value o.number)
-  pub date : OneValue (joined "data_" w.name) data_of (kids_in (held_of t)) (On o.date)
-  pub total : OneValue (joined "importo_" w.name) importo (kids_in (held_of t)) (Value o.total)
+  pub operation : OneValue "tipo_operazione" tipo_operazione (kids_in (held_of t)) (Some o.operation)
+  pub number : OneValue (joined "numero_" w.name) numero (kids_in (held_of t)) (Some o.number)
+  pub date : OneValue (joined "data_" w.name) data_of (kids_in (held_of t)) (Some o.date)
+  pub total : OneValue (joined "importo_" w.name) importo (kids_in (held_of t)) (Some o.total)
   pub lines : Each (LineIn o.operation w) (children_named (joined "informazioni_" w.party ∷ []) (kids_in (held_of t))) o.lines
 
 -- THE ORDERS among the root's children: "mandato and reversale in any mix"

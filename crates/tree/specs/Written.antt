@@ -1,10 +1,9 @@
 -- A tree written out: its bytes, with no white space between elements, and the places that its elements then have. What is written is read back.
-use Rattle.std.specs.Prelude.{◌≡◌, ℕ, suc, ◌+◌, List, [], ◌++◌, length}
+use Rattle.std.specs.Prelude.{◌≡◌, ℕ, suc, ◌+◌, List, [], ◌++◌, length, Ok}
 use Prim.Native.String.{String}
 use Rattle.scan.specs.Bytes.{bytes}
 use Rattle.grammar.specs.Grammar.{Name, Text, start_tag, end_tag}
 use Rattle.editions.specs.declared.Edition.{Edition}
-use Rattle.flow.specs.declared.Verdict.TheVariants.{Stands}
 use Rattle.flow.specs.Flow.{flow_kind, verdict_of, header_of, flow_orders}
 use Rattle.tree.specs.Tree.{Tree, tree, Held, says, holds, Trees, none, more, held_of, kids_in, ReadsAs}
 use Rattle.tree.specs.Fields.{AllStand}
@@ -66,13 +65,13 @@ pub record FlowTree (e : Edition) (t : Tree) : Type 0 where
 -- Proved: `flow-read-back` (proofs/Places.antt)
 pub record ReadBack (e : Edition) (t : Tree) (at : ℕ) : Type 0 where
   pub tree_again : ReadsAs (flow_kind e).ids (bytes_of t) (placed 0 t)
-  pub stands : verdict_of e (bytes_of t) ≡ Stands at
+  pub stands : verdict_of e (bytes_of t) ≡ Ok at
   pub header : HeaderIn e (kids_in (held_of t)) (header_of e (bytes_of t) at)
   pub orders : OrdersIn (kids_in (held_of t)) (flow_orders e (bytes_of t) at)
 
 -- READ AND WRITTEN AGAIN: of a flow that stands, white space, Id and all, the tree's bytes stand too, with the same header and orders
 pub record Again (e : Edition) (s : List ℕ) (at : ℕ) (t : Tree) : Type 0 where
   pub begins : ℕ
-  pub stands : verdict_of e (bytes_of t) ≡ Stands begins
+  pub stands : verdict_of e (bytes_of t) ≡ Ok begins
   pub header : header_of e (bytes_of t) begins ≡ header_of e s at
   pub orders : flow_orders e (bytes_of t) begins ≡ flow_orders e s at

@@ -1,4 +1,5 @@
 -- Laws of tests one after the other, and of a record's lines, one at a time.
+use Rattle.std.specs.Prelude.{Some, None}
 use Prim.Native.Nat.{ℕ, suc, ◌+◌, ◌-◌, ◌≤◌, ◌<◌}
 use mathlib.Core.Bool.{Bool, true, false, ◌&&◌, cond, and-false}
 use mathlib.Core.List.{List, [], ◌∷◌}
@@ -11,7 +12,6 @@ use lib.Dec.{eqb}
 use borrow.Author.Tests.{eq-eqb, ne_eqb, eqb-true, eqb-false}
 use Rattle.valid.specs.Valid.{all_from, sum, executed_in}
 use Rattle.valid.specs.Inner.{judged_by}
-use Rattle.valid.specs.declared.Judged.TheVariants.{Broken, Right}
 
 -- TESTS OF ONE AFTER THE OTHER
 
@@ -20,13 +20,6 @@ and_stop a b e f = e ∙ ap (λ (y : Bool). y && b) f
 
 pub and_go : (a b : Bool) {x : Bool} → x ≡ (a && b) → a ≡ true → x ≡ b
 and_go a b e f = e ∙ ap (λ (y : Bool). y && b) f
-
-pub and_eq : {a b c d x : Bool} → x ≡ (a && b) → a ≡ c → b ≡ d → x ≡ (c && d)
-and_eq e p q = e ∙ (λ i. p i && q i)
-
--- the first is known
-pub and_known : {a b c : Bool} → a ≡ true → b ≡ c → b ≡ (a && c)
-and_known {a} {b} {c} p q = q ∙ sym (ap (λ (x : Bool). x && c) p)
 
 pub and_fails : (a : Bool) {b : Bool} → b ≡ false → (a && b) ≡ false
 and_fails a e = ap (λ (x : Bool). a && x) e ∙ and-false a
@@ -78,10 +71,10 @@ executed_sum (x ∷ s) (y ∷ a) = go (eqb x 2) (executed_sum s a) where
 
 -- WHAT IS TOLD
 
-pub told_right : (b : Bool) (x c : ℕ) → judged_by b x ≡ Right c → (b ≡ true) × (x ≡ c)
+pub told_right : (b : Bool) (x c : ℕ) → judged_by b x ≡ Some c → (b ≡ true) × (x ≡ c)
 told_right true x c e = (refl, cc)
 told_right false x c e = let z : ◌≡◌ {A = ℕ} 0 1 = cc in absurd (omega arith)
 
-pub told_broken : (b : Bool) (x : ℕ) → judged_by b x ≡ Broken → b ≡ false
+pub told_broken : (b : Bool) (x : ℕ) → judged_by b x ≡ None → b ≡ false
 told_broken true x e = let z : ◌≡◌ {A = ℕ} 0 1 = cc in absurd (omega arith)
 told_broken false x e = refl

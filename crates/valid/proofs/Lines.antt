@@ -1,4 +1,6 @@
 -- A record's lines judged where their bytes stand: first those past its number of lines, then those that are there.
+use Rattle.std.specs.Prelude.{None}
+use Rattle.std.specs.Bool.{then_some}
 use Prim.Native.Nat.{ℕ, zero, suc, ◌+◌, ◌-◌, ◌*◌, ◌≤◌, ◌<◌}
 use mathlib.Core.Bool.{Bool, true, false, ◌&&◌, cond, and-false, and-true, and_assoc}
 use mathlib.Core.List.{List}
@@ -6,20 +8,18 @@ use mathlib.Core.Path.{◌≡◌, refl, sym, ap, ◌∙◌}
 use native.Mathlib.Omega.{arith}
 use lib.ListN.{length, get_or, drop, drop_of_length-le}
 use lib.Dec.{eqb, leb}
-use borrow.Author.Tests.{lt-ltb, le-ltb, le-leb, eqb-true}
+use borrow.Author.Tests.{lt-ltb, le-ltb, le-leb, eqb-true, eqb-false, eq-eqb, ne_eqb}
 use Rattle.scan.specs.Bytes.{between}
 use Rattle.scan.proofs.Laws.{both}
 use Rattle.bounds.specs.Bounds.{max_cents}
-use Rattle.calendar.specs.Calendar.{is_date}
 use Rattle.words.specs.Numbers.{be8}
 use Rattle.record.specs.Slot.{record_at}
 use Rattle.record.proofs.Back.{eight_at_lem, be8s_at}
 use Rattle.record.specs.declared.Record.{Record}
 use Rattle.valid.specs.Valid.{line_there, line_absent, line_ok, all_from, sum, ranges_ok, record_ok, executed_in, executed}
-use Rattle.valid.specs.declared.Judged.TheVariants.{Broken}
 use Rattle.valid.specs.Inner.{judged_by, judged_record}
 use Rattle.valid.proofs.Valid.{ranges_bounds}
-use Rattle.valid.proofs.Laws.{and_stop, and_go, and_fails, all_more, all_done, sum_more, sum_over, sum_go, executed_more}
+use Rattle.valid.proofs.Laws.{and_stop, and_go, all_more, all_done, sum_more, sum_over, sum_go, executed_more}
 
 -- ONE LINE, FROM ITS BYTES
 
@@ -136,7 +136,7 @@ module _ (t : List ℕ) (at n k rest a : ℕ) (h : k < n) (b : n ≤ 8) (q : n �
 
 -- what is told where a line breaks
 pub lines_told : (r : Record) (n : ℕ) → left_ok r n 0 r.total ≡ false
-    → Broken ≡ judged_by (all_from (line_ok r) 0 n && eqb (sum r.amounts) r.total) (executed r)
+    → None ≡ judged_by (all_from (line_ok r) 0 n && eqb (sum r.amounts) r.total) (executed r)
 lines_told r n f = sym (ap (λ (b : Bool). judged_by b (executed r)) (sym (left_all r n) ∙ f))
 
 pub there_done : (r : Record) (n k rest : ℕ) → k ≤ n → n ≤ k → sum (drop n r.amounts) ≡ 0 → left_ok r n k rest ≡ eqb 0 rest
@@ -146,9 +146,21 @@ there_done r n k rest h l z =
     let y = ap (λ (j : ℕ). eqb (sum (drop j r.amounts)) rest) q ∙ ap (λ (s : ℕ). eqb s rest) z in
     λ i. x i && y i
 
+-- what the code's last line says: that nothing is left, and the cents
+pub told_by : (rest cents : ℕ) {b : Bool} {x : ℕ} → eqb 0 rest ≡ b → cents ≡ x → then_some (eqb rest 0) cents ≡ judged_by b x
+told_by rest cents e f = by (eqb rest 0) ∙ (λ i. judged_by ((turned (eqb 0 rest) refl ∙ e) i) (f i))
+  where
+    by : (k : Bool) → then_some k cents ≡ judged_by k cents
+    by true = refl
+    by false = refl
+
+    turned : (k : Bool) → eqb 0 rest ≡ k → eqb rest 0 ≡ eqb 0 rest
+    turned true g = eq-eqb rest 0 (sym (eqb-true 0 rest g)) ∙ sym g
+    turned false g = ne_eqb rest 0 (λ z. eqb-false 0 rest g (sym z)) ∙ sym g
+
 -- THE WHOLE RECORD
 
-pub broken : (r : Record) → record_ok r ≡ false → Broken ≡ judged_record r
+pub broken : (r : Record) → record_ok r ≡ false → None ≡ judged_record r
 broken r f = sym (ap (λ (b : Bool). judged_by b (executed r)) f)
 
 all_split : (f : ℕ → Bool) (k m n : ℕ) → all_from f k (m + n) ≡ (all_from f k m && all_from f (k + m) n)
@@ -178,12 +190,6 @@ no_sum r k zero l q e = ap sum (drop_of_length-le r.amounts {i = k} (omega arith
 no_sum r k (suc m) l q e =
     let w = both (line_ok r k) _ e in
     omega (arith, sum_more r.amounts k 0 (omega arith), no_amount r k l w.0, no_sum r (k + 1) m (omega arith) (omega arith) w.1)
-
-pub date_not : (r : Record) → is_date r.date ≡ false → ranges_ok r ≡ false
-unfolding ranges_ok
-date_not r f =
-    and_fails (between 1 2 r.kind) (and_fails (between 1 2 r.state) (and_fails (between 1 8 r.lines) (and_fails (between 2000 2099 r.esercizio)
-    (and_fails (between 1 9999999 r.number) (ap (λ (x : Bool). x && leb r.total max_cents) f)))))
 
 pub ranges_not : (r : Record) → ranges_ok r ≡ false → record_ok r ≡ false
 unfolding record_ok

@@ -12,14 +12,6 @@ ghost use Rattle.valid.specs.Valid.{line_absent, line_ok, all_from, sum, ranges_
 ghost use Rattle.valid.specs.Inner.{judged_by, judged_record};
 
 use calendar::Date;
-use record::{both, wide};
-
-// A record judged: broken, or valid with the cents of its executed lines.
-#[derive(Clone, Copy)]
-pub enum Judged {
-    Broken,
-    Right(u64),
-}
 
 fn top_state(annulled: bool) -> u8
     ensures { result ≡ cond annulled waiting_line replaced_line }
@@ -35,7 +27,7 @@ fn top_state(annulled: bool) -> u8
 fn state_there(annulled: bool, state: u8) -> bool
     ensures { result ≡ between waiting_line (cond annulled waiting_line replaced_line) state }
 {
-    both(record::WAITING <= state, state <= top_state(annulled))
+    (record::WAITING..=top_state(annulled)).contains(&state)
 }
 
 fn date_ok(t: &[u8], at: usize) -> bool
@@ -44,54 +36,34 @@ fn date_ok(t: &[u8], at: usize) -> bool
 {
     calendar::is_date(Date {
         year: words::read2(t, at),
-        month: wide(t[at + 2]),
-        day: wide(t[at + 3]),
+        month: u64::from(t[at + 2]),
+        day: u64::from(t[at + 3]),
     })
 }
 
+#[tactic(auto, unfolding(crate::specs::Valid::ranges_ok, record::specs::Slot::record_at))]
 fn ranges_ok(t: &[u8], at: usize) -> bool
     requires { at + slot_size ≤ length t.now }
     ensures { result ≡ ranges_ok (record_at t.now at) }
 {
-    if !date_ok(t, at + 12) {
-        return false;
-    }
-    let kind = t[at];
-    let state = t[at + 1];
-    let lines = t[at + 2];
     let esercizio = words::read2(t, at + 4);
     let number = words::read4(t, at + 8);
-    let total = words::read8(t, at + 16);
-    both(
-        both(record::MANDATO <= kind, kind <= record::REVERSALE),
-        both(
-            both(record::ACQUIRED <= state, state <= record::ANNULLED),
-            both(
-                both(1 <= lines, lines <= 8),
-                both(
-                    both(
-                        bounds::FIRST_YEAR <= esercizio,
-                        esercizio <= bounds::LAST_YEAR,
-                    ),
-                    both(
-                        both(1 <= number, number <= bounds::MAX_NUMERO),
-                        total <= bounds::MAX_CENTS,
-                    ),
-                ),
-            ),
-        ),
-    )
+    date_ok(t, at + 12)
+        && matches!(t[at], record::MANDATO..=record::REVERSALE)
+            & matches!(t[at + 1], record::ACQUIRED..=record::ANNULLED)
+            & matches!(t[at + 2], 1..=8)
+            & (bounds::FIRST_YEAR..=bounds::LAST_YEAR).contains(&esercizio)
+            & (1..=bounds::MAX_NUMERO).contains(&number)
+            & (words::read8(t, at + 16) <= bounds::MAX_CENTS)
 }
 
 // Whether a line holds nothing.
+#[tactic(auto, unfolding(crate::specs::Valid::line_absent))]
 fn line_absent(t: &[u8], at: usize, k: usize) -> bool
     requires { (at + slot_size ≤ length t.now) × (k < 8) }
     ensures { result ≡ line_absent (get_or t.now (at + states_offset + k) 0) (be8 t.now (at + amounts_offset + 8 * k)) }
 {
-    both(
-        t[at + record::STATES + k] == 0,
-        words::read8(t, at + record::AMOUNTS + 8 * k) == 0,
-    )
+    (t[at + record::STATES + k] == 0) & (words::read8(t, at + record::AMOUNTS + 8 * k) == 0)
 }
 
 // Whether the lines past the record's number of lines all hold nothing. There is no way out of the loop before its end, so that for a number known
@@ -101,10 +73,8 @@ fn absent_from(t: &[u8], at: usize, lines: usize) -> bool
     ensures { result ≡ all_from (line_ok (record_at t.now at)) lines (8 - lines) }
 {
     let mut right = true;
-    let mut k = lines;
-    while k < 8 {
-        right = both(right, line_absent(t, at, k));
-        k += 1;
+    for k in lines..8 {
+        right &= line_absent(t, at, k);
     }
     right
 }
@@ -133,18 +103,8 @@ pub fn line_cents(executed: bool, amount: u64) -> u64
     if executed { amount } else { 0 }
 }
 
-fn told_by(right: bool, cents: u64) -> Judged
-    ensures { result ≡ judged_by right cents }
-{
-    if right {
-        Judged::Right(cents)
-    } else {
-        Judged::Broken
-    }
-}
-
 // Whether the lines that are there are right and sum to the total, with no sum that could wrap, and what is executed; the others hold nothing.
-fn lines_there(t: &[u8], at: usize, lines: usize) -> Judged
+fn lines_there(t: &[u8], at: usize, lines: usize) -> Option<u64>
     requires { (at + slot_size ≤ length t.now) × (lines ≤ 8) × (lines ≡ (record_at t.now at).lines)
         × (sum (drop lines (record_at t.now at).amounts) ≡ 0) × ((record_at t.now at).total ≤ max_cents) }
     ensures { result ≡ judged_by (all_from (line_ok (record_at t.now at)) 0 lines
@@ -153,34 +113,32 @@ fn lines_there(t: &[u8], at: usize, lines: usize) -> Judged
     let annulled = t[at + 1] == record::ANNULLED;
     let mut rest = words::read8(t, at + 16);
     let mut cents: u64 = 0;
-    let mut k = 0;
-    while k < lines {
+    for k in 0..lines {
         let amount = words::read8(t, at + record::AMOUNTS + 8 * k);
         let state = t[at + record::STATES + k];
         if !state_there(annulled, state) {
-            return Judged::Broken;
+            return None;
         }
         if rest < amount {
-            return Judged::Broken;
+            return None;
         }
         rest -= amount;
         cents += line_cents(state == record::EXECUTED, amount);
-        k += 1;
     }
-    told_by(0 == rest, cents)
+    (rest == 0).then_some(cents)
 }
 
 // Whether the record in the slot at a place is valid, and the cents of its executed lines.
-pub fn judge_at(t: &[u8], at: usize) -> Judged
+pub fn judge_at(t: &[u8], at: usize) -> Option<u64>
     requires { at + slot_size ≤ length t.now }
     ensures { result ≡ judged_record (record_at t.now at) }
 {
     if !ranges_ok(t, at) {
-        return Judged::Broken;
+        return None;
     }
-    let lines = wide(t[at + 2]) as usize;
+    let lines = usize::from(t[at + 2]);
     if !lines_absent(t, at, lines) {
-        return Judged::Broken;
+        return None;
     }
     lines_there(t, at, lines)
 }

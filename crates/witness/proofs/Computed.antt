@@ -1,4 +1,5 @@
 -- THE FLOWS, READ: computed from the written rules, once for each flow; a table comes in afterwards (`reads`).
+use Rattle.std.specs.Prelude.{Ok}
 use Prim.Native.Nat.{ℕ}
 use mathlib.Core.Path.{◌≡◌, refl}
 use mathlib.Core.Bool.{true}
@@ -10,7 +11,6 @@ use Rattle.order.specs.Ordinativo.{Ordinativo}
 use Rattle.orders.specs.Orders.{those, text_in as orders_text_in, inside, line_of, lines_of, eight, lines_in, order_of, orders_of, named_of, named_in}
 use Rattle.editions.specs.declared.Edition.TheVariants.{Oil}
 use Rattle.header.specs.Header.{Header}
-use Rattle.flow.specs.declared.Verdict.TheVariants.{Stands}
 use Rattle.flow.specs.Flow.{header_of, flow_orders, verdict_by, verdict_of}
 use Rattle.table.specs.Table.{table_ok}
 use Rattle.desk.specs.Desk.{for_bank, flow_reads}
@@ -39,7 +39,7 @@ use Rattle.standing.specs.Readings.{fields_by, fields_at, first_bad}
 pub record ReadAs (f : List ℕ) (h : Header) (os : List Ordinativo) : Type 0 where
   pub at : ℕ
   pub short : leb (length f) max_flow ≡ true
-  pub stands : verdict_of Oil f ≡ Stands at
+  pub stands : verdict_of Oil f ≡ Ok at
   pub header : header_of Oil f at ≡ h
   pub orders : flow_orders Oil f at ≡ os
 

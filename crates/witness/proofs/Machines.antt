@@ -1,5 +1,6 @@
 -- WHAT CONDITION 3 RULES OUT, of engines that serve orders, each for a body, on the table's bytes: "no slot" for another body's full slots, a record
 -- written over a neighbour's, and a mark left where no body owns the byte. The rules' own engine passes where those fail.
+use Rattle.std.specs.Prelude.{Result, Err}
 use Prim.Native.Nat.{ℕ, ◌+◌, ◌*◌}
 use mathlib.Core.Path.{◌≡◌, refl, ap}
 use mathlib.Core.Bool.{Bool, cond, ◌||◌}
@@ -18,14 +19,13 @@ use Rattle.request.specs.Request.{asked, needed}
 use Rattle.contents.specs.Contents.{head_bytes, entry_bytes, entries_bytes}
 use Rattle.opening.specs.Opening.{opened}
 use Rattle.order.specs.Ordinativo.{Ordinativo}
-use Rattle.rules.specs.declared.Ruling.{Ruling}
-use Rattle.rules.specs.declared.Ruling.TheVariants.{Refused}
 use Rattle.lines.specs.Lines.{numbered_from, sum_of, line_code}
 use Rattle.rules.specs.Rules.{order_code, amounts_of, any_executed, situation_in, situation_of, placed, stepped, judge_order, written}
 use Rattle.service.specs.Service.{order_comes, order_stored, order_leaves}
 use Rattle.isolation.specs.Machine.{Machine, Isolated, whose, state_after, log}
 use Rattle.isolation.specs.Order.{mine}
 use Rattle.witness.specs.Flows.{small, order}
+use Rattle.rules.specs.declared.Change.{Change}
 
 -- where body b's slots are in the table with one slot each
 abbrev base : ℕ → ℕ
@@ -34,14 +34,14 @@ base b = place_of small (entry_of b)
 abbrev size : ℕ → ℕ
 size b = slots_of small (entry_of b)
 
-abbrev comes : List ℕ → ℕ → Ordinativo → Ruling
+abbrev comes : List ℕ → ℕ → Ordinativo → Result (Change × ℕ) ℕ
 comes t b o = order_comes t (base b) (size b) 2021 o
 
 abbrev leaves : List ℕ → ℕ → Ordinativo → List ℕ
 leaves t b o = order_leaves t (base b) (size b) 2021 o
 
 -- how an order is judged, and the table that it leaves
-abbrev engine : (List ℕ → ℕ → Ordinativo → Ruling) → (List ℕ → ℕ → Ordinativo → List ℕ) → Machine
+abbrev engine : (List ℕ → ℕ → Ordinativo → Result (Change × ℕ) ℕ) → (List ℕ → ℕ → Ordinativo → List ℕ) → Machine
 engine judge next = record {
   State = List ℕ;
   Call = ℕ × Ordinativo;
@@ -65,7 +65,7 @@ abbrev full : List ℕ → ℕ → Bool
 full t b = eqb (used_at t (base b) (size b)) (size b)
 
 abbrev crowded : Machine
-crowded = engine (λ t b o. cond (full t 0 || full t 1) (Refused 15) (comes t b o)) leaves
+crowded = engine (λ t b o. cond (full t 0 || full t 1) (Err 15) (comes t b o)) leaves
 
 -- one slot past the body's own is taken for its own
 abbrev spilling : Machine

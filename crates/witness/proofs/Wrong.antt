@@ -1,4 +1,5 @@
 -- WHAT THE PROMISES RULE OUT, each on a flow or a call for document 01's table; and that such flows are taken.
+use Rattle.std.specs.Prelude.{Option, Result, Some, Ok, Err}
 use Prim.Native.Nat.{ℕ, zero, suc, ◌+◌, ◌*◌, ◌≤◌, ◌<◌}
 use mathlib.Core.Path.{◌≡◌, refl, sym, ap, ◌∙◌, subst}
 use mathlib.Core.Bool.{Bool, true, false}
@@ -18,24 +19,19 @@ use Rattle.entries.specs.Entry.{slots_of, place_of}
 use Rattle.table.specs.Table.{table_ok, body_of, entry_of}
 use Rattle.editions.specs.declared.Edition.{Edition}
 use Rattle.editions.specs.declared.Edition.TheVariants.{Oil}
-use Rattle.editions.specs.declared.Edited.{Edited}
-use Rattle.editions.specs.declared.Edited.TheVariants.{By}
 use Rattle.header.specs.Header.{Header}
 use Rattle.opening.specs.Opening.{open_code}
 use Rattle.notices.specs.declared.TotalsAnswer.{TotalsAnswer}
 use Rattle.notices.specs.Notices.{notice_code_of}
-use Rattle.desk.specs.declared.FlowAnswer.{FlowAnswer}
-use Rattle.desk.specs.declared.FlowAnswer.TheVariants.{Taken}
+use Rattle.desk.specs.declared.FlowRefusal.{FlowRefusal}
 use Rattle.desk.specs.declared.FlowReply.{FlowReply}
 use Rattle.desk.specs.Desk.{Reading, flow_reads, flow_answer, flow_table, flow_outcomes, Gives, FlowPromise, flow_reply, FlowReplies}
-use Rattle.ranges.specs.declared.Found.{Found}
-use Rattle.ranges.specs.declared.Found.TheVariants.{At}
 use Rattle.record.specs.declared.Record.{Record}
 use Rattle.table.proofs.Bodies.{body_at_lem, found_body}
 use Rattle.order.specs.Ordinativo.{Ordinativo}
-use Rattle.flow.specs.declared.Verdict.{Verdict}
+use Rattle.flow.specs.declared.Breakage.{Breakage}
 use Rattle.fields.specs.declared.Cause.{Cause}
-use Rattle.flow.specs.declared.Verdict.TheVariants.{FieldBreaks, Stands}
+use Rattle.flow.specs.declared.Breakage.TheVariants.{FieldBreaks}
 use Rattle.flow.specs.Flow.{header_of, flow_orders}
 use Rattle.rules.specs.Listed.{Has, last_turn, Applies, no_order, line_zero, line_past, not_executed, named_before, other_amount, misnumbered, missummed, present, full, absent, annulled, executed, differs}
 use Rattle.rules.specs.Rules.{key_for, judge_order, order_code}
@@ -57,20 +53,20 @@ use Rattle.witness.proofs.Computed.{flows}
 use Rattle.witness.proofs.Facts.{key, facts, own_reads, again_reads, more_reads, other_first_reads, own_first_reads, wednesday}
 
 -- a result that keeps the promise is that of the reading
-by_reading : (t : List ℕ) (ed : ℕ) (f out : List ℕ) {t' out' : List ℕ} {a : FlowAnswer} {g : Reading} → flow_reads t ed f (length out) ≡ g → FlowPromise t ed f out a t' out' → Gives t out g a t' out'
+by_reading : (t : List ℕ) (ed : ℕ) (f out : List ℕ) {t' out' : List ℕ} {a : Result (ℕ × ℕ × ℕ) FlowRefusal} {g : Reading} → flow_reads t ed f (length out) ≡ g → FlowPromise t ed f out a t' out' → Gives t out g a t' out'
 by_reading t ed f out e p = rw e at p
 
 -- a verdict has one place, a search one answer
-one_place : {v : Verdict} {i j : ℕ} → v ≡ Stands i → v ≡ Stands j → i ≡ j
+one_place : {v : Result ℕ Breakage} {i j : ℕ} → v ≡ Ok i → v ≡ Ok j → i ≡ j
 one_place e d = cc
 
-one_edition : {x : Edited} {d e : Edition} → x ≡ By d → x ≡ By e → d ≡ e
+one_edition : {x : Option Edition} {d e : Edition} → x ≡ Some d → x ≡ Some e → d ≡ e
 one_edition e d = cc
 
-one_body : {v : Found} {i j : ℕ} → v ≡ At i → v ≡ At j → i ≡ j
+one_body : {v : Option ℕ} {i j : ℕ} → v ≡ Some i → v ≡ Some j → i ≡ j
 one_body e d = cc
 
-breaks_stands : {v : Verdict} {p i : ℕ} {c : Cause} → v ≡ FieldBreaks p c → v ≡ Stands i → ⊥
+breaks_stands : {v : Result ℕ Breakage} {p i : ℕ} {c : Cause} → v ≡ Err (FieldBreaks p c) → v ≡ Ok i → ⊥
 breaks_stands e d = let z : ◌≡◌ {A = ℕ} 0 1 = cc in omega arith
 
 -- "15 (INSERIMENTO: the body has no empty slot)"
@@ -126,8 +122,8 @@ byte : (i : ℕ) {x y : List ℕ} → x ≡ y → get_or x i 0 ≡ get_or y i 0
 byte i e = ap (λ (x : List ℕ). get_or x i 0) e
 
 -- TAKEN: the flow of one order for 471, its order accepted, whatever keeps the promise
-module _ (a : FlowAnswer) (t' out' : List ℕ) (p : FlowPromise sample_table 1 (single "471") (room 1) a t' out') where
-  pub taken : a ≡ Taken 1 1 0
+module _ (a : Result (ℕ × ℕ × ℕ) FlowRefusal) (t' out' : List ℕ) (p : FlowPromise sample_table 1 (single "471") (room 1) a t' out') where
+  pub taken : a ≡ Ok (1, 1, 0)
   taken = (by_reading sample_table 1 (single "471") (room 1) own_reads p).0 ∙ facts.answer
 
   pub stored : get_or t' 496 0 ≡ 1
@@ -147,12 +143,12 @@ taken_reply n t' out' p =
     )
 
 -- taken again on the table that it left: its order is refused (14)
-pub taken_again : (a : FlowAnswer) (t' out' : List ℕ) → FlowPromise second 1 (single "471") (room 1) a t' out' → a ≡ Taken 1 0 1
+pub taken_again : (a : Result (ℕ × ℕ × ℕ) FlowRefusal) (t' out' : List ℕ) → FlowPromise second 1 (single "471") (room 1) a t' out' → a ≡ Ok (1, 0, 1)
 taken_again a t' out' p = (by_reading second 1 (single "471") (room 1) again_reads p).0 ∙ facts.answer_again
 
 -- two orders there: 14, accepted; the second is in the second slot
-module _ (a : FlowAnswer) (t' out' : List ℕ) (p : FlowPromise second 1 two (room 2) a t' out') where
-  pub more_taken : a ≡ Taken 2 1 2
+module _ (a : Result (ℕ × ℕ × ℕ) FlowRefusal) (t' out' : List ℕ) (p : FlowPromise second 1 two (room 2) a t' out') where
+  pub more_taken : a ≡ Ok (2, 1, 2)
   more_taken = (by_reading second 1 two (room 2) more_reads p).0 ∙ facts.answer_more
 
   pub more_codes : (get_or out' 2 0 ≡ 14) × (get_or out' 18 0 ≡ 0)
@@ -175,10 +171,10 @@ pub right_keeps : Keeps right
 right_keeps t ed f out = (refl, refl, refl)
 
 -- THE WRONG ONES
-abbrev code : FlowAnswer → ℕ
+abbrev code : Result (ℕ × ℕ × ℕ) FlowRefusal → ℕ
 code a = (flow_reply a).code
 
-abbrev accepted : FlowAnswer → ℕ
+abbrev accepted : Result (ℕ × ℕ × ℕ) FlowRefusal → ℕ
 accepted a = (flow_reply a).accepted
 
 module _ (T : Taker) (keeps : Keeps T) where
@@ -188,7 +184,7 @@ module _ (T : Taker) (keeps : Keeps T) where
   pub one_outcome : OneOutcome T → ⊥
   one_outcome r =
       let k = keeps second 1 two (room 2) in
-      let n = ap (λ (a : FlowAnswer). (flow_reply a).orders) (more_taken _ _ _ k) in
+      let n = ap (λ (a : Result (ℕ × ℕ × ℕ) FlowRefusal). (flow_reply a).orders) (more_taken _ _ _ k) in
       omega (arith, more_codes _ _ _ k, r second 1 two (room 2) 0 1 (omega arith) (omega arith))
 
   pub stores_nothing : StoresNothing T → ⊥
@@ -208,8 +204,8 @@ module _ (T : Taker) (keeps : Keeps T) where
   counts_orders r =
       let d = taken _ _ _ (keeps sample_table 1 (single "471") (room 1)) in
       let e = taken_again _ _ _ (keeps second 1 (single "471") (room 1)) in
-      let x : 1 ≡ r.0 1 = sym (ap accepted d) ∙ r.1 sample_table 1 (single "471") (room 1) ∙ ap (λ (a : FlowAnswer). r.0 (flow_reply a).orders) d in
-      let y : 0 ≡ r.0 1 = sym (ap accepted e) ∙ r.1 second 1 (single "471") (room 1) ∙ ap (λ (a : FlowAnswer). r.0 (flow_reply a).orders) e in
+      let x : 1 ≡ r.0 1 = sym (ap accepted d) ∙ r.1 sample_table 1 (single "471") (room 1) ∙ ap (λ (a : Result (ℕ × ℕ × ℕ) FlowRefusal). r.0 (flow_reply a).orders) d in
+      let y : 0 ≡ r.0 1 = sym (ap accepted e) ∙ r.1 second 1 (single "471") (room 1) ∙ ap (λ (a : Result (ℕ × ℕ × ℕ) FlowRefusal). r.0 (flow_reply a).orders) e in
       omega arith
 
   -- it leaves the table that the engine of condition 3 leaves

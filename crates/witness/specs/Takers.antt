@@ -1,11 +1,9 @@
 -- WHAT TAKES CALLS, right or wrong: functions from what a call is lent to an answer and the buffers afterwards. What is proved impossible of those that
 -- keep the promises are document 01's five programs ("How tight the promises are") and its "Errors we have seen made", each said by what it does at
 -- every input, or, where it says `somewhere`, at one input at least.
-use Rattle.std.specs.Prelude.{ℕ, ◌+◌, ◌*◌, ◌<◌, ◌≤◌, ◌≡◌, Bool, true, List, [], ◌∷◌, ◌++◌, length, get_or}
+use Rattle.std.specs.Prelude.{ℕ, ◌+◌, ◌*◌, ◌<◌, ◌≤◌, ◌≡◌, Bool, true, List, [], ◌∷◌, ◌++◌, length, get_or, Result, Some, Ok, Err}
 use Rattle.std.proofs.Math.Option.{some}
-use Rattle.digits.specs.declared.Number.TheVariants.{Value}
 use Rattle.digits.specs.Digits.{digits}
-use Rattle.ranges.specs.declared.Found.TheVariants.{At}
 use Rattle.codes.specs.declared.Operation.TheVariants.{Annullo}
 use Rattle.calendar.specs.declared.Date.{Date}
 use Rattle.record.specs.declared.Key.{Key}
@@ -13,25 +11,24 @@ use Rattle.record.specs.declared.Record.{Record}
 use Rattle.entries.specs.Entry.{request_size, slots_of, codes_from}
 use Rattle.table.specs.Table.{table_ok, bodies, body_of, entry_of}
 use Rattle.request.specs.Request.{first_body, asked}
-use Rattle.opening.specs.declared.Opened.{Opened}
-use Rattle.opening.specs.declared.Opened.TheVariants.{WrongRequest}
+use Rattle.opening.specs.declared.OpenRefusal.{OpenRefusal}
+use Rattle.opening.specs.declared.OpenRefusal.TheVariants.{WrongRequest}
 use Rattle.opening.specs.Opening.{OpenPromise}
 use Rattle.order.specs.Ordinativo.{Ordinativo}
 use Rattle.fields.specs.declared.Cause.{Cause}
 use Rattle.editions.specs.declared.Edition.{Edition}
-use Rattle.editions.specs.declared.Edited.TheVariants.{By}
 use Rattle.editions.specs.Editions.{edition_of}
-use Rattle.flow.specs.declared.Verdict.TheVariants.{FieldBreaks, Stands}
+use Rattle.flow.specs.declared.Breakage.TheVariants.{FieldBreaks}
 use Rattle.flow.specs.Flow.{verdict_of, header_of, flow_orders}
 use Rattle.slots.specs.Slots.{nth}
 use Rattle.rules.specs.Rules.{key_for}
 use Rattle.rules.specs.Effects.{all_records}
 use Rattle.rules.specs.Listed.{Has, Differs}
 use Rattle.service.specs.Service.{outcome_size, order_leaves}
-use Rattle.notices.specs.declared.NoticeAnswer.{NoticeAnswer}
+use Rattle.notices.specs.declared.NoticeRefusal.{NoticeRefusal}
 use Rattle.notices.specs.declared.TotalsAnswer.{TotalsAnswer}
 use Rattle.notices.specs.Notices.{NoticePromise, TotalsPromise}
-use Rattle.desk.specs.declared.FlowAnswer.{FlowAnswer}
+use Rattle.desk.specs.declared.FlowRefusal.{FlowRefusal}
 use Rattle.desk.specs.declared.FlowReply.{FlowReply}
 use Rattle.desk.specs.Desk.{served, flow_reads, FlowPromise, flow_reply}
 use Rattle.theorems.specs.Engine.{flow as a_flow, who, body_records, owned}
@@ -39,7 +36,7 @@ use Rattle.theorems.specs.Codes.{outcome_codes, zero_codes}
 
 -- FLOWS: from a table, an edition's number, a flow and a lent outcome buffer
 pub record Taker : Type 0 where
-  pub answer : List ℕ → ℕ → List ℕ → List ℕ → FlowAnswer
+  pub answer : List ℕ → ℕ → List ℕ → List ℕ → Result (ℕ × ℕ × ℕ) FlowRefusal
   pub table : List ℕ → ℕ → List ℕ → List ℕ → List ℕ
   pub outcomes : List ℕ → ℕ → List ℕ → List ℕ → List ℕ
 
@@ -108,10 +105,10 @@ module _ (T : Taker) where
     pub taken : (reply table number flow lent).code ≡ 0
     pub at : ℕ
     pub edition : Edition
-    pub numbered : edition_of number ≡ By edition
-    pub stands : verdict_of edition flow ≡ Stands at
+    pub numbered : edition_of number ≡ Some edition
+    pub stands : verdict_of edition flow ≡ Ok at
     pub body : ℕ
-    pub named : body_of table (header_of edition flow at).ente ≡ At body
+    pub named : body_of table (header_of edition flow at).ente ≡ Some body
 
   -- the flow's esercizio, the body's slots, and its records after the first orders of the flow
   abbrev year : Somewhere → ℕ
@@ -156,8 +153,8 @@ module _ (T : Taker) where
     pub place : ℕ
     pub cause : Cause
     pub edition : Edition
-    pub numbered : edition_of number ≡ By edition
-    pub late : verdict_of edition flow ≡ FieldBreaks place cause
+    pub numbered : edition_of number ≡ Some edition
+    pub late : verdict_of edition flow ≡ Err (FieldBreaks place cause)
     pub changed : T.table table number flow lent ≡ table → ⊥
 
   -- a body served on another body's slots: somewhere a flow that names one body of a valid table changes what another body owns
@@ -176,7 +173,7 @@ module _ (T : Taker) where
 
 -- NOTICES, TOTALS AND OPENING
 pub record Notifier : Type 0 where
-  pub answer : List ℕ → Bool → List ℕ → Key → ℕ → Date → NoticeAnswer
+  pub answer : List ℕ → Bool → List ℕ → Key → ℕ → Date → Result ℕ NoticeRefusal
   pub table : List ℕ → Bool → List ℕ → Key → ℕ → Date → List ℕ
 
 abbrev pub KeepsNotice : Notifier → Type 0
@@ -190,7 +187,7 @@ abbrev pub KeepsTotals : Teller → Type 0
 KeepsTotals S = (t code : List ℕ) → TotalsPromise t code (S t code)
 
 pub record Opener : Type 0 where
-  pub answer : List ℕ → List ℕ → Opened
+  pub answer : List ℕ → List ℕ → Result Unit OpenRefusal
   pub table : List ℕ → List ℕ → List ℕ
 
 abbrev pub KeepsOpen : Opener → Type 0
@@ -202,7 +199,7 @@ pub record InventsUsed (S : Teller) : Type 0 where
   pub code : List ℕ
   pub body : ℕ
   pub valid : table_ok table ≡ true
-  pub named : body_of table code ≡ At body
+  pub named : body_of table code ≡ Some body
   pub other : (S table code).used ≡ length (body_records body table) → ⊥
 
 -- or one told without a look at the table
@@ -213,20 +210,20 @@ UsedUnseen S = (g : List ℕ → ℕ) × ((t code : List ℕ) → (S t code).use
 -- body, it may well keep apart
 pub record SameValue (a b : List ℕ) : Type 0 where
   pub value : ℕ
-  pub left : digits 1 16 a ≡ Value value
-  pub right : digits 1 16 b ≡ Value value
+  pub left : digits 1 16 a ≡ Some value
+  pub right : digits 1 16 b ≡ Some value
 
 -- such codes of two bodies of a table
 pub record Mixed (t a b : List ℕ) : Type 0 where
   pub one : ℕ
   pub other : ℕ
-  pub left : body_of t a ≡ At one
-  pub right : body_of t b ≡ At other
+  pub left : body_of t a ≡ Some one
+  pub right : body_of t b ≡ Some other
   pub value : SameValue a b
 
 -- flows that stand and differ in nothing but codice_ente_BT are answered alike
 abbrev pub ByNumber : Taker → Type 0
-ByNumber T = (t : List ℕ) (ed : ℕ) (e : Edition) → edition_of ed ≡ By e → (f g out : List ℕ) (i j : ℕ) → verdict_of e f ≡ Stands i → verdict_of e g ≡ Stands j
+ByNumber T = (t : List ℕ) (ed : ℕ) (e : Edition) → edition_of ed ≡ Some e → (f g out : List ℕ) (i j : ℕ) → verdict_of e f ≡ Ok i → verdict_of e g ≡ Ok j
     → (header_of e f i).abi ≡ (header_of e g j).abi → (header_of e f i).esercizio ≡ (header_of e g j).esercizio → flow_orders e f i ≡ flow_orders e g j
     → Mixed t (header_of e f i).ente (header_of e g j).ente → T.answer t ed f out ≡ T.answer t ed g out
 
@@ -243,4 +240,4 @@ code_asked q i = get_or (codes_from request_size q first_body (asked q)) i []
 
 -- a request for two such bodies is held to repeat a code
 abbrev pub OpenByNumber : Opener → Type 0
-OpenByNumber O = (q t : List ℕ) (i j : ℕ) → i < j → j < asked q → SameValue (code_asked q i) (code_asked q j) → O.answer q t ≡ WrongRequest
+OpenByNumber O = (q t : List ℕ) (i j : ℕ) → i < j → j < asked q → SameValue (code_asked q i) (code_asked q j) → O.answer q t ≡ Err WrongRequest

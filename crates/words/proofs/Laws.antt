@@ -3,27 +3,10 @@ use Prim.Native.Nat.{ℕ, ◌+◌, ◌-◌, ◌*◌, ◌/◌, ◌%◌, ◌≤◌
 use mathlib.Core.Path.{◌≡◌, refl, sym, ap, ◌∙◌}
 use mathlib.Core.List.{List, [], ◌++◌, append_assoc, append-nil}
 use native.Mathlib.Omega.{arith}
-use native.Mathlib.Numerals.{add-one}
 use native.Mathlib.Nat.{add-zero, zero-add, add_assoc, mod-eq_of_lt}
-use lib.ListN.{length, take, drop, get_or, set, length-append, length-drop, take-append-drop, get_or-append}
-use lib.Seq.{paste, paste-suc, take-length, length-take-le, take_at, drop_at, drop-drop, get_or-take, get_or-drop, get_or-append-add}
+use lib.ListN.{length, take, drop, get_or, length-append, length-drop, take-append-drop, get_or-append}
+use lib.Seq.{length-take-le, take_at, drop_at, drop-drop, get_or-take, get_or-drop, get_or-append-add}
 use Rattle.words.specs.Numbers.{put, be2, be4, be8, bytes2, bytes4, bytes8}
-use Rattle.words.specs.Inner.{turned}
-
--- one turn of the loop that copies
-pub turn : (s₀ s : List ℕ) (at : ℕ) (v : List ℕ) (i : ℕ) → at + length v ≤ length s₀ → i < length v → s ≡ paste s₀ at v i
-    → set s (at + i) (get_or v i 0) ≡ paste s₀ at v (i + 1)
-turn s₀ s at v i fits below e =
-    ap (λ (l : List ℕ). set l (at + i) (get_or v i 0)) e
-    ∙ paste-suc s₀ at v i 0 (omega arith) below
-    ∙ ap (paste s₀ at v) (sym (add-one i))
-
--- the whole copy
-pub whole : (s₀ s : List ℕ) (at : ℕ) (v : List ℕ) (i : ℕ) → i ≤ length v → length v ≤ i → s ≡ paste s₀ at v i → s ≡ put s₀ at v
-unfolding put
-whole s₀ s at v i le ge e =
-    let q : i ≡ length v = omega arith in
-    e ∙ ap (paste s₀ at v) q ∙ ap (λ (l : List ℕ). take at s₀ ++ l ++ drop (at + length v) s₀) (take-length v)
 
 pub length_put : (s : List ℕ) (at : ℕ) (v : List ℕ) → at + length v ≤ length s → length (put s at v) ≡ length s
 unfolding put
@@ -157,38 +140,3 @@ module _ (s : List ℕ) (at v : ℕ) (h : at ≤ length s) where
 pub be4_by : (s : List ℕ) (at : ℕ) → get_or s at 0 * 16777216 + get_or s (at + 1) 0 * 65536 + get_or s (at + 2) 0 * 256 + get_or s (at + 3) 0 ≡ be4 s at
 unfolding be4 be2
 be4_by s at = let q : at + 2 + 1 ≡ at + 3 = omega arith in rw q (omega arith)
-
--- a number by what stands below a place of it and what from there on
-below256 : (a y : ℕ) → a < 256 → (a + y * 256) % 256 ≡ a
-below256 a y h = omega arith
-
-over256 : (a y : ℕ) → a < 256 → (a + y * 256) / 256 ≡ y
-over256 a y h = omega arith
-
-over65536 : (a y : ℕ) → a < 65536 → (a + y * 65536) / 65536 ≡ y
-over65536 a y h = omega arith
-
-over16777216 : (a y : ℕ) → a < 16777216 → (a + y * 16777216) / 16777216 ≡ y
-over16777216 a y h = omega arith
-
--- four bytes read from either end
-module _ (a b c d : ℕ) (ha : a < 256) (hb : b < 256) (hc : c < 256) (hd : d < 256) where
-  first_byte : (a + b * 256 + c * 65536 + d * 16777216) % 256 ≡ a
-  first_byte =
-      let q : a + b * 256 + c * 65536 + d * 16777216 ≡ a + (b + c * 256 + d * 65536) * 256 = omega arith in
-      ap (λ (x : ℕ). x % 256) q ∙ below256 a (b + c * 256 + d * 65536) ha
-
-  second_byte : (a + b * 256 + c * 65536 + d * 16777216) / 256 % 256 ≡ b
-  second_byte =
-      let q : a + b * 256 + c * 65536 + d * 16777216 ≡ a + (b + (c + d * 256) * 256) * 256 = omega arith in
-      ap (λ (x : ℕ). x / 256 % 256) q ∙ ap (λ (x : ℕ). x % 256) (over256 a (b + (c + d * 256) * 256) ha) ∙ below256 b (c + d * 256) hb
-
-  third_byte : (a + b * 256 + c * 65536 + d * 16777216) / 65536 % 256 ≡ c
-  third_byte =
-      let q : a + b * 256 + c * 65536 + d * 16777216 ≡ a + b * 256 + (c + d * 256) * 65536 = omega arith in
-      ap (λ (x : ℕ). x / 65536 % 256) q ∙ ap (λ (x : ℕ). x % 256) (over65536 (a + b * 256) (c + d * 256) (omega arith)) ∙ below256 c d hc
-
-  pub turned_le : turned (a + b * 256 + c * 65536 + d * 16777216) ≡ a * 16777216 + b * 65536 + c * 256 + d
-  turned_le =
-      let z = over16777216 (a + b * 256 + c * 65536) d (omega arith) in
-      λ i. first_byte i * 16777216 + second_byte i * 65536 + third_byte i * 256 + z i

@@ -1,4 +1,6 @@
 -- Laws of a close, a way out of the code at a time.
+use Rattle.std.proofs.lemmas.Option.{some_pair_parts}
+use Rattle.std.specs.Prelude.{Option, Result, Some, None, Ok, Err}
 use Prim.Native.Nat.{ℕ, ◌+◌, ◌≤◌, ◌<◌}
 use mathlib.Core.Path.{◌≡◌, refl, sym, ap, ◌∙◌}
 use mathlib.Core.Bool.{Bool, true, false, cond}
@@ -11,7 +13,6 @@ use Rattle.bounds.specs.Bounds.{is_year}
 use Rattle.words.specs.Numbers.{put, bytes2}
 use Rattle.record.specs.declared.Record.{Record}
 use Rattle.slots.specs.Slots.{records_at}
-use Rattle.body.specs.declared.Sums.TheVariants.{Broken, Right}
 use Rattle.body.specs.Body.{body_ok, cents_of}
 use Rattle.body.specs.Inner.{summed}
 use Rattle.entries.specs.Entry.{entry_fixed, closed_place, kept_bytes, closed_of}
@@ -19,11 +20,11 @@ use Rattle.service.specs.Service.{settled}
 use Rattle.packing.proofs.Packed.{packed_long}
 use Rattle.closing.specs.Closing.{earlier_remains, line_waits, removed, stays_at, year_removed}
 use Rattle.closing.proofs.Removed.{removed_records, removed_ok, length_open}
-use Rattle.address.specs.declared.Addressed.TheVariants.{Invalid, Unknown, Body}
+use Rattle.address.specs.declared.NoBody.TheVariants.{Invalid, Unknown}
 use Rattle.address.specs.Address.{addressed}
 use Rattle.address.proofs.Laws.{Slots}
-use Rattle.year_end.specs.declared.CloseAnswer.{CloseAnswer}
-use Rattle.year_end.specs.declared.CloseAnswer.TheVariants.{InvalidTable, UnknownBody, NotAYear, AlreadyClosed, EarlierRemains, LineWaits, Closed}
+use Rattle.year_end.specs.declared.CloseRefusal.{CloseRefusal}
+use Rattle.year_end.specs.declared.CloseRefusal.TheVariants.{InvalidTable, UnknownBody, NotAYear, AlreadyClosed, EarlierRemains, LineWaits}
 use Rattle.year_end.specs.YearEnd.{close_of, body_closed, close_stored, close_by, close_table_by, ClosePromise}
 use Rattle.year_end.specs.Inner.{Fits}
 
@@ -33,16 +34,18 @@ slots_fit s = record { entry = s.entry; inside = s.inside; few = s.few; valid = 
 
 -- TOTALS SET ANEW, by the judged sums
 module _ (t : List ℕ) (base n : ℕ) (ok : body_ok t base n ≡ true) where
-  pub sums_broken : summed (body_ok t base n) (records_at t base n) ≡ Broken → ⊥
+  pub sums_broken : summed (body_ok t base n) (records_at t base n) ≡ None → ⊥
   sums_broken e =
-      let d : Right (cents_of 1 (records_at t base n)) (cents_of 2 (records_at t base n)) ≡ Broken = sym (ap (λ (b : Bool). summed b (records_at t base n)) ok) ∙ e in
+      let d : ◌≡◌ {A = Option (ℕ × ℕ)} (Some ((cents_of 1 (records_at t base n)), (cents_of 2 (records_at t base n)))) (None) = sym (ap (λ (b : Bool). summed b (records_at t base n)) ok) ∙ e in
       let z : ◌≡◌ {A = ℕ} 0 1 = cc in
       omega arith
 
-  pub sums_right : {p q : ℕ} → summed (body_ok t base n) (records_at t base n) ≡ Right p q → (p ≡ cents_of 1 (records_at t base n)) × (q ≡ cents_of 2 (records_at t base n))
+  pub sums_right : {p q : ℕ} → summed (body_ok t base n) (records_at t base n) ≡ Some (p, q) → (p ≡ cents_of 1 (records_at t base n)) × (q ≡ cents_of 2 (records_at t base n))
   sums_right {p} {q} e =
-      let d : Right (cents_of 1 (records_at t base n)) (cents_of 2 (records_at t base n)) ≡ Right p q = sym (ap (λ (b : Bool). summed b (records_at t base n)) ok) ∙ e in
-      (cc, cc)
+      let a = cents_of 1 (records_at t base n) in
+      let b = cents_of 2 (records_at t base n) in
+      let d = some_pair_parts a p b q (sym (ap (λ (x : Bool). summed x (records_at t base n)) ok) ∙ e) in
+      (sym d.0, sym d.1)
 
 pub settled_with : (t t' : List ℕ) (e : ℕ) (rs : List Record) {p q : ℕ} → (p ≡ cents_of 1 rs) × (q ≡ cents_of 2 rs) → t' ≡ put t (e + entry_fixed) (kept_bytes p q) → t' ≡ settled t e rs
 unfolding settled
@@ -70,40 +73,40 @@ module _ (t : List ℕ) (e base n year : ℕ) (F : Fits t e base n) where
 
 -- THE ANSWER, for a body
 module _ (last year : ℕ) (rs : List Record) where
-  pub too_early : year < 2000 → NotAYear ≡ close_of last year rs
+  pub too_early : year < 2000 → Err NotAYear ≡ close_of last year rs
   unfolding close_of
   too_early h = rw (lt-leb 2000 year h)
 
-  pub too_late : 2000 ≤ year → 2099 < year → NotAYear ≡ close_of last year rs
+  pub too_late : 2000 ≤ year → 2099 < year → Err NotAYear ≡ close_of last year rs
   unfolding close_of
   too_late l h = rw (le-leb 2000 year l, lt-leb year 2099 h)
 
   module _ (l : 2000 ≤ year) (h : year ≤ 2099) where
-    pub no_later : year ≤ last → AlreadyClosed ≡ close_of last year rs
+    pub no_later : year ≤ last → Err AlreadyClosed ≡ close_of last year rs
     unfolding close_of
     no_later a = rw (le-leb 2000 year l, le-leb year 2099 h, le-leb year last a)
 
     module _ (a : last < year) where
-      pub earlier_there : earlier_remains year rs ≡ true → EarlierRemains ≡ close_of last year rs
+      pub earlier_there : earlier_remains year rs ≡ true → Err EarlierRemains ≡ close_of last year rs
       unfolding close_of
       earlier_there e = rw (le-leb 2000 year l, le-leb year 2099 h, lt-leb year last a, e)
 
       module _ (e : earlier_remains year rs ≡ false) where
-        pub line_there_lem : line_waits year rs ≡ true → LineWaits ≡ close_of last year rs
+        pub line_there_lem : line_waits year rs ≡ true → Err LineWaits ≡ close_of last year rs
         unfolding close_of
         line_there_lem w = rw (le-leb 2000 year l, le-leb year 2099 h, lt-leb year last a, e, w)
 
-        pub may_close : line_waits year rs ≡ false → Closed (removed year rs) ≡ close_of last year rs
+        pub may_close : line_waits year rs ≡ false → Ok (removed year rs) ≡ close_of last year rs
         unfolding close_of
         may_close w = rw (le-leb 2000 year l, le-leb year 2099 h, lt-leb year last a, e, w)
 
 -- it is one of these
-pub close_one : (P : CloseAnswer → Type 0) (last year : ℕ) (rs : List Record)
-    → P NotAYear → P AlreadyClosed → P EarlierRemains → P LineWaits → P (Closed (removed year rs)) → P (close_of last year rs)
+pub close_one : (P : Result ℕ CloseRefusal → Type 0) (last year : ℕ) (rs : List Record)
+    → P (Err NotAYear) → P (Err AlreadyClosed) → P (Err EarlierRemains) → P (Err LineWaits) → P (Ok (removed year rs)) → P (close_of last year rs)
 unfolding close_of
 close_one P last year rs a b c d e = go (is_year year) (leb year last) (earlier_remains year rs) (line_waits year rs)
   where
-    go : (w x y z : Bool) → P (cond w (cond x AlreadyClosed (cond y EarlierRemains (cond z LineWaits (Closed (removed year rs))))) NotAYear)
+    go : (w x y z : Bool) → P (cond w (cond x (Err AlreadyClosed) (cond y (Err EarlierRemains) (cond z (Err LineWaits) (Ok (removed year rs))))) (Err NotAYear))
     go false x y z = a
     go true true y z = b
     go true false true z = c
@@ -118,12 +121,12 @@ pub record May (last year : ℕ) (rs : List Record) (k : ℕ) : Type 0 where
   pub none_waits : line_waits year rs ≡ false
   pub count : k ≡ removed year rs
 
-pub closed_when : (last year : ℕ) (rs : List Record) (k : ℕ) → close_of last year rs ≡ Closed k → May last year rs k
+pub closed_when : (last year : ℕ) (rs : List Record) (k : ℕ) → close_of last year rs ≡ Ok k → May last year rs k
 unfolding close_of
 closed_when last year rs k = go (is_year year) (leb year last) (earlier_remains year rs) (line_waits year rs) refl refl refl refl
   where
     go : (w x y z : Bool) → is_year year ≡ w → leb year last ≡ x → earlier_remains year rs ≡ y → line_waits year rs ≡ z
-        → cond w (cond x AlreadyClosed (cond y EarlierRemains (cond z LineWaits (Closed (removed year rs))))) NotAYear ≡ Closed k → May last year rs k
+        → cond w (cond x (Err AlreadyClosed) (cond y (Err EarlierRemains) (cond z (Err LineWaits) (Ok (removed year rs))))) (Err NotAYear) ≡ Ok k → May last year rs k
     go false x y z a b c d e = let q : ◌≡◌ {A = ℕ} 0 1 = cc in absurd (omega arith)
     go true true y z a b c d e = let q : ◌≡◌ {A = ℕ} 0 1 = cc in absurd (omega arith)
     go true false true z a b c d e = let q : ◌≡◌ {A = ℕ} 0 1 = cc in absurd (omega arith)
@@ -133,15 +136,15 @@ closed_when last year rs k = go (is_year year) (leb year last) (earlier_remains 
 
 -- and for a table
 module _ (t code : List ℕ) (year : ℕ) where
-  pub no_table : addressed t code ≡ Invalid → ClosePromise t code year InvalidTable t
+  pub no_table : addressed t code ≡ Err Invalid → ClosePromise t code year (Err InvalidTable) t
   unfolding close_by close_table_by
   no_table e = (sym (ap (close_by t year) e), sym (ap (close_table_by t year) e))
 
-  pub no_body : addressed t code ≡ Unknown → ClosePromise t code year UnknownBody t
+  pub no_body : addressed t code ≡ Err Unknown → ClosePromise t code year (Err UnknownBody) t
   unfolding close_by close_table_by
   no_body e = (sym (ap (close_by t year) e), sym (ap (close_table_by t year) e))
 
-  pub closed_at : {e base n : ℕ} {a : CloseAnswer} {u : List ℕ} → addressed t code ≡ Body e base n → a ≡ close_of (closed_of t e) year (records_at t base n)
+  pub closed_at : {e base n : ℕ} {a : Result ℕ CloseRefusal} {u : List ℕ} → addressed t code ≡ Ok (e, base, n) → a ≡ close_of (closed_of t e) year (records_at t base n)
       → u ≡ close_stored t e base n year a → ClosePromise t code year a u
   unfolding close_by close_table_by
   closed_at {e} {base} {n} q f g = (f ∙ sym (ap (close_by t year) q), g ∙ ap (close_stored t e base n year) f ∙ sym (ap (close_table_by t year) q))

@@ -1,4 +1,5 @@
 -- A CLOSE GOES BY ITS BODY ALONE: on two tables with the same bytes in the body's slots and in its entry's own bytes it answers the same, and leaves the same there.
+use Rattle.std.specs.Prelude.{Result, Ok, Err}
 use Prim.Native.Nat.{ℕ, ◌+◌, ◌-◌, ◌*◌, ◌≤◌}
 use mathlib.Core.Path.{◌≡◌, refl, sym, ap, ◌∙◌}
 use mathlib.Core.Bool.{cond}
@@ -23,8 +24,8 @@ use Rattle.packing.specs.Packing as P
 use Rattle.packing.proofs.Packed.{packed_before}
 use Rattle.closing.specs.Closing.{stays, flags_by, staying, stays_at, year_removed}
 use Rattle.closing.proofs.Removed.{length_open}
-use Rattle.year_end.specs.declared.CloseAnswer.{CloseAnswer}
-use Rattle.year_end.specs.declared.CloseAnswer.TheVariants.{InvalidTable, UnknownBody, NotAYear, AlreadyClosed, EarlierRemains, LineWaits, Closed}
+use Rattle.year_end.specs.declared.CloseRefusal.{CloseRefusal}
+use Rattle.year_end.specs.declared.CloseRefusal.TheVariants.{InvalidTable, UnknownBody, NotAYear, AlreadyClosed, EarlierRemains, LineWaits}
 use Rattle.year_end.specs.YearEnd.{close_of, body_closed, close_stored}
 use Rattle.year_end.specs.Inner.{Fits}
 use Rattle.year_end.proofs.Laws.{removed_long}
@@ -139,15 +140,15 @@ module _ {s t : List ℕ} {e base n : ℕ} (year : ℕ) (a : Agree s base t base
       λ i. close_of (closed_agree e e c i) year (records_agree n a i)
 
   -- AND THE SAME BYTES, whatever it is
-  stored_same : (x : CloseAnswer) → Agree (close_stored s e base n year x) base (close_stored t e base n year x) base (slot_size * n)
+  stored_same : (x : Result ℕ CloseRefusal) → Agree (close_stored s e base n year x) base (close_stored t e base n year x) base (slot_size * n)
       × Agree (close_stored s e base n year x) (e + entry_fixed) (close_stored t e base n year x) (e + entry_fixed) (entry_size - entry_fixed)
-  stored_same (Closed k) = (slots_left, tail_left)
-  stored_same InvalidTable = (a, b)
-  stored_same UnknownBody = (a, b)
-  stored_same NotAYear = (a, b)
-  stored_same AlreadyClosed = (a, b)
-  stored_same EarlierRemains = (a, b)
-  stored_same LineWaits = (a, b)
+  stored_same (Ok k) = (slots_left, tail_left)
+  stored_same (Err InvalidTable) = (a, b)
+  stored_same (Err UnknownBody) = (a, b)
+  stored_same (Err NotAYear) = (a, b)
+  stored_same (Err AlreadyClosed) = (a, b)
+  stored_same (Err EarlierRemains) = (a, b)
+  stored_same (Err LineWaits) = (a, b)
 
   pub close_own : Agree (close_stored s e base n year (close_of (closed_of s e) year (records_at s base n))) base (close_stored t e base n year (close_of (closed_of t e) year (records_at t base n))) base (slot_size * n)
       × Agree (close_stored s e base n year (close_of (closed_of s e) year (records_at s base n))) (e + entry_fixed) (close_stored t e base n year (close_of (closed_of t e) year (records_at t base n))) (e + entry_fixed) (entry_size - entry_fixed)

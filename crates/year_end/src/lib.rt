@@ -9,22 +9,24 @@ ghost use Rattle.service.specs.Service.{settled};
 ghost use Rattle.year_end.specs.YearEnd.{close_of, body_closed, close_stored, ClosePromise, close_reply};
 ghost use Rattle.year_end.specs.Inner.{Fits};
 
-use address::Addressed;
-use body::Sums;
+use address::NoBody;
 
-// What a close answers: why not, or the number of records removed.
+// Why a year is not closed.
 #[derive(Clone, Copy)]
-pub enum CloseAnswer {
+pub enum CloseRefusal {
     InvalidTable,
     UnknownBody,
     NotAYear,
     AlreadyClosed,
     EarlierRemains,
     LineWaits,
-    Closed(usize),
 }
 
+// What a close answers: how many records were removed, or why it is refused.
+pub type CloseAnswer = Result<usize, CloseRefusal>;
+
 // An answer in document 02's numbers.
+// Code and values stand side by side, since C takes them one by one (`hondivole_close`).
 #[derive(Clone, Copy)]
 pub struct CloseReply {
     pub code: u64,
@@ -36,10 +38,9 @@ fn settle_body(t: &mut [u8], e: usize, base: usize, n: usize)
     requires { Fits t.old e base n }
     ensures { t.new ≡ settled t.old e (records_at t.old base n) }
 {
-    let Sums::Right(paid, collected) = body::judge(t, base, n) else {
-        return;
-    };
-    entries::settle(t, e, paid, collected);
+    if let Some((paid, collected)) = body::judge(t, base, n) {
+        entries::settle(t, e, paid, collected);
+    }
 }
 
 // Closes a year in a body: how many records are removed.
@@ -54,27 +55,25 @@ fn close_body(t: &mut [u8], e: usize, base: usize, n: usize, year: u64) -> usize
 }
 
 // Closes a year in a body, unless something stands against it.
+#[tactic(auto, using(crate::proofs::Laws::too_early, crate::proofs::Laws::too_late))]
 fn close_in(t: &mut [u8], e: usize, base: usize, n: usize, year: u64) -> CloseAnswer
     requires { Fits t.old e base n }
     ensures { (result ≡ close_of (closed_of t.old e) year (records_at t.old base n))
         × (t.new ≡ close_stored t.old e base n year result) }
 {
-    if year < bounds::FIRST_YEAR {
-        return CloseAnswer::NotAYear;
-    }
-    if bounds::LAST_YEAR < year {
-        return CloseAnswer::NotAYear;
+    if year < bounds::FIRST_YEAR || bounds::LAST_YEAR < year {
+        return Err(CloseRefusal::NotAYear);
     }
     if year <= entries::closed_of(t, e) {
-        return CloseAnswer::AlreadyClosed;
+        return Err(CloseRefusal::AlreadyClosed);
     }
     if closing::earlier_remains(t, base, n, year) {
-        return CloseAnswer::EarlierRemains;
+        return Err(CloseRefusal::EarlierRemains);
     }
     if closing::line_waits(t, base, n, year) {
-        return CloseAnswer::LineWaits;
+        return Err(CloseRefusal::LineWaits);
     }
-    CloseAnswer::Closed(close_body(t, e, base, n, year))
+    Ok(close_body(t, e, base, n, year))
 }
 
 // Closes a year for the body with a code, or leaves the table as it is.
@@ -82,9 +81,9 @@ pub fn close(t: &mut [u8], code: &[u8], year: u64) -> CloseAnswer
     ensures { ClosePromise t.old code.now year result t.new }
 {
     match address::addressed_by(t, code) {
-        Addressed::Invalid => CloseAnswer::InvalidTable,
-        Addressed::Unknown => CloseAnswer::UnknownBody,
-        Addressed::Body(e, base, n) => close_in(t, e, base, n, year),
+        Err(NoBody::Invalid) => Err(CloseRefusal::InvalidTable),
+        Err(NoBody::Unknown) => Err(CloseRefusal::UnknownBody),
+        Ok((e, base, n)) => close_in(t, e, base, n, year),
     }
 }
 
@@ -93,13 +92,13 @@ pub fn reply_of(a: CloseAnswer) -> CloseReply
     ensures { (result.code ≡ (close_reply a).code) × (result.removed ≡ (close_reply a).removed) }
 {
     match a {
-        CloseAnswer::InvalidTable => refusal(1),
-        CloseAnswer::UnknownBody => refusal(7),
-        CloseAnswer::NotAYear => refusal(37),
-        CloseAnswer::AlreadyClosed => refusal(36),
-        CloseAnswer::EarlierRemains => refusal(38),
-        CloseAnswer::LineWaits => refusal(39),
-        CloseAnswer::Closed(count) => CloseReply {
+        Err(CloseRefusal::InvalidTable) => refusal(1),
+        Err(CloseRefusal::UnknownBody) => refusal(7),
+        Err(CloseRefusal::NotAYear) => refusal(37),
+        Err(CloseRefusal::AlreadyClosed) => refusal(36),
+        Err(CloseRefusal::EarlierRemains) => refusal(38),
+        Err(CloseRefusal::LineWaits) => refusal(39),
+        Ok(count) => CloseReply {
             code: 0,
             removed: count as u64,
         },

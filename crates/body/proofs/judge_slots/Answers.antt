@@ -1,35 +1,23 @@
-use mathlib.Core.Path.{refl, sym, ◌∙◌}
-use native.Mathlib.Omega.{arith}
-use Rattle.body.proofs.Laws.{sofar_broken, its_most, sofar_more, sofar_done}
+use Rattle.std.proofs.Common.{arith, sym, ◌∙◌}
+use Rattle.body.proofs.Laws.{sofar_start, sofar_broken, its_most, sofar_more, sofar_done}
 use Rattle.body.proofs.judge_slots.Goals as goal
 
-pub loop-left-init : goal.loop-left-init
-loop-left-init c = record { whole = refl; right = refl; paid_is = omega arith; collected_is = omega arith; paid_most = omega arith; collected_most = omega arith }
+pub loop-i-init : goal.loop-i-init
+loop-i-init c = sofar_start c.args.t.now c.args.base c.args.n
 
-pub judge_slot-requires : goal.judge_slot-requires
-judge_slot-requires c = let w = c.loop-left.invariant.whole in omega arith
-
-pub returns-in_default : goal.returns-in_default
-returns-in_default c = sofar_broken c.loop-left.invariant _ (omega arith) (sym c.judge_slot.ensures ∙ c.in_default.is)
-
-pub bounds-t-at : goal.bounds-t-at
-bounds-t-at c = let w = c.loop-left.invariant.whole in omega arith
+pub returns-in_err-cents : goal.returns-in_err-cents
+returns-in_err-cents c = c.from_residual.ensures ∙ sofar_broken c.loop-i.invariant _ (omega arith) (sym c.judge_slot.ensures ∙ c.in_err-cents.was)
 
 pub overflow_add-paid : goal.overflow_add-paid
-overflow_add-paid c = let m = its_most c.loop-left.invariant (omega arith) (sym c.judge_slot.ensures ∙ c.in-Right.is) in
-    let p = c.loop-left.invariant.paid_most in
-    omega (arith, c.line_cents-paid.ensures.1)
+overflow_add-paid c = let m = its_most c.loop-i.invariant (omega arith) (sym c.judge_slot.ensures ∙ c.in_ok-cents.was) in
+    omega (arith, c.loop-i.invariant.paid_most, c.line_cents-paid.ensures.1)
 
 pub overflow_add-collected : goal.overflow_add-collected
-overflow_add-collected c = let m = its_most c.loop-left.invariant (omega arith) (sym c.judge_slot.ensures ∙ c.in-Right.is) in
-    let p = c.loop-left.invariant.collected_most in
-    omega (arith, c.line_cents-collected.ensures.1)
+overflow_add-collected c = let m = its_most c.loop-i.invariant (omega arith) (sym c.judge_slot.ensures ∙ c.in_ok-cents.was) in
+    omega (arith, c.loop-i.invariant.collected_most, c.line_cents-collected.ensures.1)
 
-pub overflow_add-at : goal.overflow_add-at
-overflow_add-at c = let w = c.loop-left.invariant.whole in omega arith
-
-pub loop-left-preserved : goal.loop-left-preserved
-loop-left-preserved c = sofar_more c.loop-left.invariant (omega arith) (sym c.judge_slot.ensures ∙ c.in-Right.is) c.line_cents-paid.result c.line_cents-collected.result c.line_cents-paid.ensures.0 c.line_cents-collected.ensures.0 c.line_cents-paid.ensures.1 c.line_cents-collected.ensures.1
+pub loop-i-preserved : goal.loop-i-preserved
+loop-i-preserved c = sofar_more c.loop-i.invariant (omega arith) (sym c.judge_slot.ensures ∙ c.in_ok-cents.was) c.line_cents-paid.result c.line_cents-collected.result c.line_cents-paid.ensures.0 c.line_cents-collected.ensures.0 c.line_cents-paid.ensures.1 c.line_cents-collected.ensures.1
 
 pub returns : goal.returns
-returns c = sofar_done c.loop-left.invariant (omega arith)
+returns c = sofar_done c.loop-i.invariant (omega arith)

@@ -1,17 +1,12 @@
-use Prim.Native.Nat.{◌-◌}
-use mathlib.Core.Path.{refl, sym, ◌∙◌}
-use native.Mathlib.Omega.{arith}
+use Rattle.std.proofs.Common.{◌+◌, ◌-◌, ◌*◌, arith, sym, ◌∙◌}
 use Rattle.body.proofs.Later.{not_later, later_on, later_end}
 use Rattle.body.proofs.slots_later.Goals as goal
 
-pub loop-left-init : goal.loop-left-init
-loop-left-init c = (refl, refl)
-
 pub returns-then-read2-year : goal.returns-then-read2-year
-returns-then-read2-year c = sym (c.loop-left.invariant.1 ∙ not_later c.args.t.now c.loop-left.at c.loop-left.left c.read2.ensures.0 (omega arith) c.if-read2-year.true)
+returns-then-read2-year c = sym (c.loop-i.invariant ∙ not_later c.args.t.now c.args.base c.args.n c.loop-i.i c.read2.ensures.0 (omega arith) c.if-read2-year.true)
 
-pub loop-left-preserved : goal.loop-left-preserved
-loop-left-preserved c = (omega arith, c.loop-left.invariant.1 ∙ later_on c.args.t.now c.loop-left.at c.loop-left.left c.read2.ensures.0 (omega arith) c.if-read2-year.false)
+pub loop-i-preserved : goal.loop-i-preserved
+loop-i-preserved c = c.loop-i.invariant ∙ later_on c.args.t.now c.args.base c.args.n c.loop-i.i c.read2.ensures.0 (omega arith) c.if-read2-year.false
 
 pub returns : goal.returns
-returns c = sym (c.loop-left.invariant.1 ∙ later_end c.args.t.now c.loop-left.at c.loop-left.left c.args.year (omega arith))
+returns c = sym (c.loop-i.invariant ∙ later_end c.args.t.now (c.args.base + 96 * c.loop-i.i) (c.args.n - c.loop-i.i) c.args.year (omega arith))

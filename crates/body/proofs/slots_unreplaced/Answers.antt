@@ -1,17 +1,12 @@
-use Prim.Native.Nat.{◌-◌}
-use mathlib.Core.Path.{refl, sym, ◌∙◌}
-use native.Mathlib.Omega.{arith}
+use Rattle.std.proofs.Common.{◌+◌, ◌-◌, ◌*◌, arith, sym, ◌∙◌}
 use Rattle.body.proofs.Replaced.{some_first, none_later, none_end}
 use Rattle.body.proofs.slots_unreplaced.Goals as goal
 
-pub loop-left-init : goal.loop-left-init
-loop-left-init c = (refl, refl)
+pub returns-then-contains : goal.returns-then-contains
+returns-then-contains c = sym (c.loop-i.invariant ∙ some_first c.args.t.now c.args.base c.args.n c.loop-i.i c.record_at-r.ensures c.contains.ensures.value (omega arith) c.if-contains.true)
 
-pub returns-then-any_replaced : goal.returns-then-any_replaced
-returns-then-any_replaced c = sym (c.loop-left.invariant.1 ∙ some_first c.args.t.now c.loop-left.at c.loop-left.left c.record_at-r.ensures c.any_replaced.ensures (omega arith) c.if-any_replaced.true)
-
-pub loop-left-preserved : goal.loop-left-preserved
-loop-left-preserved c = (omega arith, c.loop-left.invariant.1 ∙ none_later c.args.t.now c.loop-left.at c.loop-left.left c.record_at-r.ensures c.any_replaced.ensures (omega arith) c.if-any_replaced.false)
+pub loop-i-preserved : goal.loop-i-preserved
+loop-i-preserved c = c.loop-i.invariant ∙ none_later c.args.t.now c.args.base c.args.n c.loop-i.i c.record_at-r.ensures c.contains.ensures.value (omega arith) c.if-contains.false
 
 pub returns : goal.returns
-returns c = sym (c.loop-left.invariant.1 ∙ none_end c.args.t.now c.loop-left.at c.loop-left.left (omega arith))
+returns c = sym (c.loop-i.invariant ∙ none_end c.args.t.now (c.args.base + 96 * c.loop-i.i) (c.args.n - c.loop-i.i) (omega arith))

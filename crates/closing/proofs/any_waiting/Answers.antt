@@ -1,16 +1,15 @@
-use mathlib.Core.Path.{refl, sym, ◌∙◌}
-use native.Mathlib.Omega.{arith}
-use Rattle.closing.proofs.Laws.{waits_here, waits_later, waits_none}
+use Rattle.std.proofs.Common.{◌≡◌, ◌∙◌, ap, ◌+◌, ◌-◌, take, drop, length, sym, arith, length-drop, length-take-le}
+use lib.Seq.{ext_get_or, get_or-take, get_or-drop}
+use Rattle.record.proofs.Back.{eight_at_lem}
+use Rattle.record.specs.Slot.{eight_at}
+use Rattle.closing.specs.Closing.{any_waiting}
+use Rattle.closing.proofs.Laws.{waiting_is}
 use Rattle.closing.proofs.any_waiting.Goals as goal
 
-pub loop-k-init : goal.loop-k-init
-loop-k-init c = (omega arith, refl)
-
-pub returns-then-t-at-eq-WAITING : goal.returns-then-t-at-eq-WAITING
-returns-then-t-at-eq-WAITING c = sym (waits_here c.args.t.now c.args.at c.loop-k.k (omega arith) c.if-t-at-eq-WAITING.true) ∙ c.loop-k.invariant.1
-
-pub loop-k-preserved : goal.loop-k-preserved
-loop-k-preserved c = (omega arith, sym (waits_later c.args.t.now c.args.at c.loop-k.k (omega arith) c.if-t-at-eq-WAITING.false) ∙ c.loop-k.invariant.1)
-
 pub returns : goal.returns
-returns c = sym (waits_none c.args.t.now c.args.at c.loop-k.k (omega arith)) ∙ c.loop-k.invariant.1
+returns c = let a = c.args in
+    let part = take (a.at + 8 - a.at) (drop a.at a.t.now) in
+    let l : length part ≡ 8 = length-take-le (a.at + 8 - a.at) (drop a.at a.t.now) (omega (arith, length-drop a.at a.t.now)) ∙ omega arith in
+    let e : part ≡ eight_at a.t.now a.at = ext_get_or 0 part (eight_at a.t.now a.at) l (λ i h.
+    get_or-take (a.at + 8 - a.at) (drop a.at a.t.now) i 0 (omega arith) ∙ get_or-drop a.at a.t.now i 0 ∙ sym (eight_at_lem a.t.now a.at i (omega arith))) in
+    c.contains.ensures.value ∙ waiting_is (take (a.at + 8 - a.at) (drop a.at a.t.now)) ∙ ap any_waiting e

@@ -1,14 +1,16 @@
-use Prim.Native.Nat.{ℕ}
-use mathlib.Core.Path.{ap, ◌∙◌}
-use native.Mathlib.Omega.{arith}
-use Rattle.slots.specs.Slots.{records_at}
-use Rattle.body.specs.Body.{body_ok}
-use Rattle.closing.specs.Closing.{removed, year_removed}
+use Rattle.std.proofs.Common.{◌∙◌, ap, arith, ℕ}
+use Rattle.packing.specs.Packing.{chosen_count, packed}
 use Rattle.packing.proofs.Laws.{room}
+use Rattle.closing.specs.Closing.{stays_at}
+use Rattle.closing.proofs.Removed.{removed_used}
 use Rattle.closing.proofs.remove_year.Goals as goal
 
-pub remove_by-requires : goal.remove_by-requires
-remove_by-requires c = (omega (arith, room c.args.n (omega arith)), ap (body_ok c.args.t.now c.args.base) (room c.args.n (omega arith)) ∙ c.requires.2)
+pub overflow_sub-result : goal.overflow_sub-result
+overflow_sub-result c = let a = c.args in
+    let e = c.flags_of.ensures ∙ ap (λ (m : ℕ). stays_at a.t.now a.base m a.year) (room a.n (omega arith)) in
+    omega (arith, removed_used a.t.now a.base a.n a.year c.requires.0 c.requires.2, c.used_slots-used.ensures, c.pack.ensures.0, ap chosen_count e)
 
 pub returns : goal.returns
-returns c = (c.remove_by.ensures.0 ∙ ap (λ (m : ℕ). removed c.args.year (records_at c.args.t.now c.args.base m)) (room c.args.n (omega arith)), c.remove_by.ensures.1 ∙ ap (λ (m : ℕ). year_removed c.args.t.now c.args.base m c.args.year) (room c.args.n (omega arith)))
+returns c = let a = c.args in
+    let e = c.flags_of.ensures ∙ ap (λ (m : ℕ). stays_at a.t.now a.base m a.year) (room a.n (omega arith)) in
+    (omega (arith, removed_used a.t.now a.base a.n a.year c.requires.0 c.requires.2, c.used_slots-used.ensures, c.pack.ensures.0, ap chosen_count e), c.pack.ensures.1 ∙ ap (packed a.t.now a.base) e)

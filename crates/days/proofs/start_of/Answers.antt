@@ -6,4 +6,4 @@ use Rattle.days.proofs.start_of.Goals as goal
 
 pub returns : goal.returns
 unfolding starts length_at month_length leap
-returns c = c.wide.ensures ∙ table_rule c.args.k c.requires
+returns c = c.from.ensures ∙ table_rule c.args.k c.requires

@@ -1,4 +1,3 @@
-use Prim.Native.Nat.{◌-◌}
 use lib.Dec.{leb}
 use Rattle.entries.specs.Entry.{slots_of}
 use Rattle.training.specs.Training.{places}
@@ -6,7 +5,4 @@ use Rattle.enrolment.proofs.Laws.{Walking}
 use Rattle.enrolment.proofs.all_small.Given as goal
 
 abbrev pub invariant-loop-b : goal.invariant-loop-b
-invariant-loop-b l = Walking (λ at. leb (slots_of l.t at) places) l.n l.b
-
-abbrev pub decreases-loop-b : goal.decreases-loop-b
-decreases-loop-b l = l.n - l.b
+invariant-loop-b l = Walking (λ at. leb (slots_of l.t at) places) l.b-end l.b

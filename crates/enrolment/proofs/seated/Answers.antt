@@ -8,7 +8,7 @@ pub body_count-n-requires : goal.body_count-n-requires
 body_count-n-requires c = (valid_head c.args.t.now c.requires.0).long
 
 pub loop-b-init : goal.loop-b-init
-loop-b-init c = (omega arith, c.empty_room-none.ensures.1, seats_none c.args.t.now c.empty_room-none.result.seats)
+loop-b-init c = (omega arith, c.empty_room.ensures.1, seats_none c.args.t.now c.empty_room.result.seats)
 
 pub overflow_mul-b : goal.overflow_mul-b
 overflow_mul-b c = omega (arith, entry_inside c.args.t.now c.requires.0 c.body_count-n.ensures.0 c.loop-b.b (omega arith))

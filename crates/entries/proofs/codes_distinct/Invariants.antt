@@ -1,11 +1,9 @@
-use Prim.Native.Nat.{◌-◌, ◌+◌, ◌*◌}
-use mathlib.Core.Path.{◌≡◌}
+use Prim.Native.Nat.{◌+◌, ◌-◌, ◌*◌}
 use mathlib.Core.Bool.{true}
+use mathlib.Core.Path.{◌≡◌}
 use Rattle.entries.specs.Entry.{forms_ok, codes_from, distinct_codes}
 use Rattle.entries.proofs.codes_distinct.Given as goal
 
-abbrev pub invariant-loop-left : goal.invariant-loop-left
-invariant-loop-left l = (l.at + l.size * l.left ≡ l.first + l.size * l.n) × (forms_ok l.size l.t l.at l.left ≡ true) × (distinct_codes (codes_from l.size l.t l.first l.n) ≡ distinct_codes (codes_from l.size l.t l.at l.left))
-
-abbrev pub decreases-loop-left : goal.decreases-loop-left
-decreases-loop-left l = l.left
+abbrev pub invariant-loop-i : goal.invariant-loop-i
+invariant-loop-i l = (forms_ok l.size l.t (l.first + l.size * l.i) (l.n - l.i) ≡ true)
+    × (distinct_codes (codes_from l.size l.t l.first l.n) ≡ distinct_codes (codes_from l.size l.t (l.first + l.size * l.i) (l.n - l.i)))

@@ -1,42 +1,43 @@
-use Prim.Native.Nat.{ℕ, suc, ◌<◌, ◌-◌, ◌+◌}
-use mathlib.Core.Path.{◌≡◌, refl, sym, ◌∙◌}
-use mathlib.Core.Bool.{true}
-use native.Mathlib.Nat.{sub-zero}
-use native.Mathlib.Omega.{arith}
-use Rattle.entries.proofs.Laws.{times, form, forms_split, find_hit, find_on, find_done}
+use Rattle.std.proofs.Common.{ℕ, ◌+◌, ◌-◌, ◌*◌, sym, ap, ◌∙◌, arith}
+use Rattle.entries.specs.Entry.{forms_ok, codes_from, find_code}
+use Rattle.entries.proofs.Laws.{at_next, has_room, form, forms_split, find_hit, find_on, find_done}
 use Rattle.entries.proofs.find_code.Goals as goal
 
-more : (n i : ℕ) → i < n → n - i ≡ suc (n - (i + 1))
-more n i h = omega arith
+pub overflow_mul-size : goal.overflow_mul-size
+overflow_mul-size c = let r = has_room c.args.size c.args.first c.args.n c.loop-i.i (omega arith) in omega arith
 
-pub loop-i-init : goal.loop-i-init
-loop-i-init c = (omega arith, rw sub-zero refl, rw sub-zero c.requires.2, rw sub-zero refl)
+pub overflow_add-first : goal.overflow_add-first
+overflow_add-first c = let r = has_room c.args.size c.args.first c.args.n c.loop-i.i (omega arith) in omega arith
 
 pub code_is-requires : goal.code_is-requires
 code_is-requires c = let a = c.args in
-    let l = c.loop-i in
-    let e = more a.n l.i (omega arith) in
-    let w = times a.size _ _ e in
-    (omega arith, (form a.t.now l.at (forms_split a.size a.t.now l.at _ _ e l.invariant.2).0).short)
+    let i = c.loop-i.i in
+    let at = a.first + a.size * i in
+    let m = a.n - (i + 1) in
+    let r = has_room a.size a.first a.n i (omega arith) in
+    (omega arith, (form a.t.now at (forms_split a.size a.t.now at (a.n - i) m (omega arith) c.loop-i.invariant.0).0).short)
 
 pub returns-then-code_is : goal.returns-then-code_is
 returns-then-code_is c = let a = c.args in
-    let l = c.loop-i in
-    sym (l.invariant.3 ∙ find_hit a.size a.t.now l.at _ _ (more a.n l.i (omega arith)) l.i a.code.now (sym c.code_is.ensures ∙ c.if-code_is.true))
-
-pub overflow_add-at : goal.overflow_add-at
-overflow_add-at c = let a = c.args in
-    let l = c.loop-i in
-    let w = times a.size _ _ (more a.n l.i (omega arith)) in
-    omega arith
+    let i = c.loop-i.i in
+    let at = a.first + a.size * i in
+    let m = a.n - (i + 1) in
+    let r = has_room a.size a.first a.n i (omega arith) in
+    sym (c.loop-i.invariant.1 ∙ find_hit a.size a.t.now at (a.n - i) m (omega arith) i a.code.now (sym c.code_is.ensures ∙ c.if-code_is.true))
 
 pub loop-i-preserved : goal.loop-i-preserved
 loop-i-preserved c = let a = c.args in
-    let l = c.loop-i in
-    let e = more a.n l.i (omega arith) in
-    let w = times a.size _ _ e in
-    (omega arith, omega arith, (forms_split a.size a.t.now l.at _ _ e l.invariant.2).1, l.invariant.3 ∙ find_on a.size a.t.now l.at _ _ e l.i a.code.now (sym c.code_is.ensures ∙ c.if-code_is.false))
+    let i = c.loop-i.i in
+    let at = a.first + a.size * i in
+    let m = a.n - (i + 1) in
+    let r = has_room a.size a.first a.n i (omega arith) in
+    let e = at_next a.size a.first a.n i in (
+      ap (λ (p : ℕ). forms_ok a.size a.t.now p m) (sym e) ∙ (forms_split a.size a.t.now at (a.n - i) m (omega arith) c.loop-i.invariant.0).1,
+      c.loop-i.invariant.1 ∙ find_on a.size a.t.now at (a.n - i) m (omega arith) i a.code.now (sym c.code_is.ensures ∙ c.if-code_is.false)
+          ∙ ap (λ (p : ℕ). find_code (codes_from a.size a.t.now p m) (i + 1) a.code.now) e,
+    )
 
 pub returns : goal.returns
-returns c = let l = c.loop-i in
-    sym (l.invariant.3 ∙ find_done c.args.size c.args.t.now l.at (c.args.n - l.i) (omega arith) l.i c.args.code.now)
+returns c = let a = c.args in
+    let i = c.loop-i.i in
+    sym (c.loop-i.invariant.1 ∙ find_done a.size a.t.now (a.first + a.size * i) (a.n - i) (omega arith) i a.code.now)

@@ -1,41 +1,36 @@
-use Prim.Native.Nat.{◌-◌}
-use mathlib.Core.Path.{refl, sym, ◌∙◌}
-use native.Mathlib.Omega.{arith}
+use Rattle.std.proofs.Common.{ℕ, ◌+◌, ◌-◌, ◌*◌, sym, ap, ◌∙◌, arith}
 use borrow.Author.Tests.{not-true, not-false}
-use Rattle.entries.proofs.Laws.{times, forms_not, forms_on, forms_done}
+use Rattle.entries.specs.Entry.{forms_ok}
+use Rattle.entries.proofs.Laws.{at_next, has_room, forms_not, forms_on, forms_done}
 use Rattle.entries.proofs.forms_ok.Goals as goal
 
-pub loop-left-init : goal.loop-left-init
-loop-left-init c = (refl, refl)
+pub overflow_mul-size : goal.overflow_mul-size
+overflow_mul-size c = let r = has_room c.args.size c.args.first c.args.n c.loop-i.i (omega arith) in omega arith
+
+pub overflow_add-first : goal.overflow_add-first
+overflow_add-first c = let r = has_room c.args.size c.args.first c.args.n c.loop-i.i (omega arith) in omega arith
 
 pub form_ok-requires : goal.form_ok-requires
-form_ok-requires c = let l = c.loop-left in
-    let s = c.args.size in
-    let m = l.left - 1 in
-    let w = times s l.left m (omega arith) in
-    (omega arith, omega arith)
+form_ok-requires c = let r = has_room c.args.size c.args.first c.args.n c.loop-i.i (omega arith) in (omega arith, omega arith)
 
 pub returns-then-not-form_ok : goal.returns-then-not-form_ok
-returns-then-not-form_ok c = let l = c.loop-left in
-    let s = c.args.size in
-    let m = l.left - 1 in
-    let w = times s l.left m (omega arith) in
-    sym (l.invariant.1 ∙ forms_not s c.args.t.now l.at l.left m (omega arith) (sym c.form_ok.ensures ∙ not-true _ c.if-not-form_ok.true-raw))
+returns-then-not-form_ok c = let a = c.args in
+    let i = c.loop-i.i in
+    let at = a.first + a.size * i in
+    let m = a.n - (i + 1) in
+    let r = has_room a.size a.first a.n i (omega arith) in
+    sym (c.loop-i.invariant ∙ forms_not a.size a.t.now at (a.n - i) m (omega arith) (sym c.form_ok.ensures ∙ not-true _ c.if-not-form_ok.true-raw))
 
-pub overflow_add-at : goal.overflow_add-at
-overflow_add-at c = let l = c.loop-left in
-    let s = c.args.size in
-    let m = l.left - 1 in
-    let w = times s l.left m (omega arith) in
-    omega arith
-
-pub loop-left-preserved : goal.loop-left-preserved
-loop-left-preserved c = let l = c.loop-left in
-    let s = c.args.size in
-    let m = l.left - 1 in
-    let w = times s l.left m (omega arith) in
-    (omega arith, l.invariant.1 ∙ forms_on s c.args.t.now l.at l.left m (omega arith) (sym c.form_ok.ensures ∙ not-false _ c.if-not-form_ok.false-raw))
+pub loop-i-preserved : goal.loop-i-preserved
+loop-i-preserved c = let a = c.args in
+    let i = c.loop-i.i in
+    let at = a.first + a.size * i in
+    let m = a.n - (i + 1) in
+    let r = has_room a.size a.first a.n i (omega arith) in
+    c.loop-i.invariant ∙ forms_on a.size a.t.now at (a.n - i) m (omega arith) (sym c.form_ok.ensures ∙ not-false _ c.if-not-form_ok.false-raw)
+    ∙ ap (λ (p : ℕ). forms_ok a.size a.t.now p m) (at_next a.size a.first a.n i)
 
 pub returns : goal.returns
-returns c = let l = c.loop-left in
-    sym (l.invariant.1 ∙ forms_done c.args.size c.args.t.now l.at l.left (omega arith))
+returns c = let a = c.args in
+    let i = c.loop-i.i in
+    sym (c.loop-i.invariant ∙ forms_done a.size a.t.now (a.first + a.size * i) (a.n - i) (omega arith))

@@ -10,11 +10,11 @@ returns-then-not-is c = sym (root_other c.args.name.now c.args.root c.args.s.now
 pub judge_on-requires : goal.judge_on-requires
 judge_on-requires c = record { at_in_bounds = (c.requires.2, omega arith, c.requires.3); goes = c.requires.4.goes }
 
-pub returns-in-StructureBreaks : goal.returns-in-StructureBreaks
-returns-in-StructureBreaks c = sym (root_judged c.args.name.now c.args.root c.args.s.now c.args.lt c.args.e c.args.at _ (sym c.is.ensures ∙ not-false _ c.if-not-is.false-raw) (sym c.judge_on.ensures ∙ c.in-StructureBreaks.is))
+pub returns-in-Err-StructureBreaks : goal.returns-in-Err-StructureBreaks
+returns-in-Err-StructureBreaks c = sym (root_judged c.args.name.now c.args.root c.args.s.now c.args.lt c.args.e c.args.at _ (sym c.is.ensures ∙ not-false _ c.if-not-is.false-raw) (rw c.in-Err-StructureBreaks.field-0-is at (sym c.judge_on.ensures ∙ c.in-Err-StructureBreaks.is)))
 
-pub returns-in-FieldBreaks : goal.returns-in-FieldBreaks
-returns-in-FieldBreaks c = sym (root_judged c.args.name.now c.args.root c.args.s.now c.args.lt c.args.e c.args.at _ (sym c.is.ensures ∙ not-false _ c.if-not-is.false-raw) (sym c.judge_on.ensures ∙ c.in-FieldBreaks.is))
+pub returns-in-Err-FieldBreaks : goal.returns-in-Err-FieldBreaks
+returns-in-Err-FieldBreaks c = sym (root_judged c.args.name.now c.args.root c.args.s.now c.args.lt c.args.e c.args.at _ (sym c.is.ensures ∙ not-false _ c.if-not-is.false-raw) (rw c.in-Err-FieldBreaks.field-0-is at (sym c.judge_on.ensures ∙ c.in-Err-FieldBreaks.is)))
 
-pub returns-in-Stands : goal.returns-in-Stands
-returns-in-Stands c = sym (root_judged c.args.name.now c.args.root c.args.s.now c.args.lt c.args.e c.args.at _ (sym c.is.ensures ∙ not-false _ c.if-not-is.false-raw) (sym c.judge_on.ensures ∙ c.in-Stands.is))
+pub returns-in-Ok : goal.returns-in-Ok
+returns-in-Ok c = sym (root_judged c.args.name.now c.args.root c.args.s.now c.args.lt c.args.e c.args.at _ (sym c.is.ensures ∙ not-false _ c.if-not-is.false-raw) (sym c.judge_on.ensures ∙ c.in-Ok.is))

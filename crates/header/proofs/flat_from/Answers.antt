@@ -1,7 +1,7 @@
+use Rattle.std.specs.Prelude.{Some}
 use mathlib.Core.Path.{◌≡◌, refl, ap, ◌∙◌}
 use native.Mathlib.Omega.{arith}
 use Rattle.schema.specs.declared.Parent.TheVariants.{FlussoOrdinativi}
-use Rattle.rows.specs.declared.Next.TheVariants.{Named}
 use Rattle.rows.specs.Kept.{kept_from, next_of}
 use Rattle.orders.specs.Said.{number_of}
 use Rattle.orders.specs.Orders.{in_row}
@@ -28,7 +28,7 @@ read_field-requires c = let s = c.args.s.now in
     let q = four_past 3 p s i c.requires.0 in
     let t = c.testata_from-t.ensures in
     let k = c.first_named.result in
-    let n : next_of (kept_from p s j) ≡ Named k = rw (← t) c.first_named.ensures in
+    let n : next_of (kept_from p s j) ≡ Some k = rw (← t) c.first_named.ensures in
     let f = found 3 p s 4 j q.on k n in
     let l = f.lies in
     (l.inner, omega arith)
@@ -41,7 +41,7 @@ returns c = let s = c.args.s.now in
     let q = four_past 3 p s i c.requires.0 in
     let t = c.testata_from-t.ensures in
     let k = c.first_named.result in
-    let n : next_of (kept_from p s j) ≡ Named k = rw (← t) c.first_named.ensures in
+    let n : next_of (kept_from p s j) ≡ Some k = rw (← t) c.first_named.ensures in
     let f = found 3 p s 4 j q.on k n in
-    let x : next_of (in_row 4 (kept_from p s i)) ≡ Named k = ap next_of (q.later 4 (omega arith) ∙ row_one 4 p s j k n f.row) in
+    let x : next_of (in_row 4 (kept_from p s i)) ≡ Some k = ap next_of (q.later 4 (omega arith) ∙ row_one 4 p s j k n f.row) in
     heading_made Oil s i k x c.testata_from-t.result t _ refl refl (c.number_of-esercizio.ensures ∙ ap number_of c.read_field.ensures ∙ says_esercizio s k.child _ refl) refl

@@ -1,7 +1,7 @@
+use Rattle.std.specs.Prelude.{Some}
 use mathlib.Core.Path.{◌≡◌, refl, sym, ap, ◌∙◌}
 use native.Mathlib.Omega.{arith}
 use Rattle.schema.specs.declared.Parent.TheVariants.{FlussoOpi, TestataFlusso}
-use Rattle.rows.specs.declared.Next.TheVariants.{Named}
 use Rattle.rows.specs.Kept.{kept_from, next_of}
 use Rattle.orders.specs.Said.{number_of}
 use Rattle.orders.specs.Orders.{in_row}
@@ -78,6 +78,6 @@ returns c = let s = c.args.s.now in
     let e = c.first_named-2.result in
     let j = k.child.after in
     let g = found 3 p s 1 j f.on e c.first_named-2.ensures in
-    let x : next_of (in_row 1 (kept_from p s i)) ≡ Named e = ap next_of (f.later 1 (omega arith) ∙ row_one 1 p s j e c.first_named-2.ensures g.row) in
+    let x : next_of (in_row 1 (kept_from p s i)) ≡ Some e = ap next_of (f.later 1 (omega arith) ∙ row_one 1 p s j e c.first_named-2.ensures g.row) in
     let t : c.testata_from-t.result ≡ testata_in (kept_from TestataFlusso s c.white_end-inner.result) = c.testata_from-t.ensures in
     heading_made Opi s i e x c.testata_from-t.result (t ∙ ap (λ (w : _). testata_in (kept_from TestataFlusso s w)) c.white_end-inner.ensures ∙ ap testata_in (sym n.own)) _ refl refl (c.number_of-esercizio.ensures ∙ ap number_of c.read_field.ensures ∙ says_esercizio s e.child _ refl) refl

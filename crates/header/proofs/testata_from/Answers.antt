@@ -43,8 +43,8 @@ first_named-requires-4 c = let s = c.args.s.now in
     let fg = found d p s 2 b.child.after fb.on g c.first_named-3.ensures in
     (fg.lies.within, c.requires.1, found_some d p s 3 g.child.after fg.on)
 
-pub span_of-abi-requires : goal.span_of-abi-requires
-span_of-abi-requires c = let s = c.args.s.now in
+pub span_of-requires : goal.span_of-requires
+span_of-requires c = let s = c.args.s.now in
     let p = c.args.parent in
     let q = c.requires.0 in
     let d = q.depth in
@@ -52,8 +52,8 @@ span_of-abi-requires c = let s = c.args.s.now in
     let fa = found d p s 0 c.args.from q.filled a c.first_named.ensures in
     fa.lies.inner
 
-pub span_of-ente-requires : goal.span_of-ente-requires
-span_of-ente-requires c = let s = c.args.s.now in
+pub span_of-requires-2 : goal.span_of-requires-2
+span_of-requires-2 c = let s = c.args.s.now in
     let p = c.args.parent in
     let q = c.requires.0 in
     let d = q.depth in
@@ -80,4 +80,4 @@ returns c = let s = c.args.s.now in
     let fg = found d p s 2 b.child.after fb.on g c.first_named-3.ensures in
     let h = c.first_named-4.result in
     let fh = found d p s 3 g.child.after fg.on h c.first_named-4.ensures in
-    testata_made d p s c.args.from a b g h fa fb fg fh c.first_named.ensures c.first_named-4.ensures _ c.span_of-abi.ensures.0 c.span_of-abi.ensures.1 c.span_of-ente.ensures.0 c.span_of-ente.ensures.1 refl
+    testata_made d p s c.args.from a b g h fa fb fg fh c.first_named.ensures c.first_named-4.ensures _ c.span_of.ensures.0 c.span_of.ensures.1 c.span_of-2.ensures.0 c.span_of-2.ensures.1 refl

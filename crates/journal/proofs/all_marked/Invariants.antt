@@ -6,7 +6,4 @@ use Rattle.journal.specs.Inner.{all_marked}
 use Rattle.journal.proofs.all_marked.Given as goal
 
 abbrev pub invariant-loop-i : goal.invariant-loop-i
-invariant-loop-i l = (l.at ≡ l.base + slot_size * l.i) × ((l.i ≤ l.used) × (all_marked l.marks 0 (slots_at l.t l.base l.used) ≡ all_marked l.marks (8 * l.i) (slots_at l.t l.at (l.used - l.i))))
-
-abbrev pub decreases-loop-i : goal.decreases-loop-i
-decreases-loop-i l = l.used - l.i
+invariant-loop-i l = (l.i ≤ l.used) × (all_marked l.marks 0 (slots_at l.t l.base l.used) ≡ all_marked l.marks (8 * l.i) (slots_at l.t (l.base + slot_size * l.i) (l.used - l.i)))

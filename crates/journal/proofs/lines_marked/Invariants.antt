@@ -1,4 +1,4 @@
-use Prim.Native.Nat.{◌+◌, ◌-◌, ◌≤◌}
+use Prim.Native.Nat.{◌+◌, ◌≤◌}
 use mathlib.Core.Path.{◌≡◌}
 use lib.ListN.{drop}
 use Rattle.record.specs.Slot.{states_offset, eight_at}
@@ -7,6 +7,3 @@ use Rattle.journal.proofs.lines_marked.Given as goal
 
 abbrev pub invariant-loop-k : goal.invariant-loop-k
 invariant-loop-k l = (l.k ≤ 8) × (states_marked l.marks l.p (eight_at l.t (l.at + states_offset)) ≡ states_marked l.marks (l.p + l.k) (drop l.k (eight_at l.t (l.at + states_offset))))
-
-abbrev pub decreases-loop-k : goal.decreases-loop-k
-decreases-loop-k l = 8 - l.k

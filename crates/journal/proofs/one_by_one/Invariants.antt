@@ -1,4 +1,4 @@
-use Prim.Native.Nat.{◌-◌, ◌≤◌}
+use Prim.Native.Nat.{◌≤◌}
 use mathlib.Core.List.{[]}
 use mathlib.Core.Path.{◌≡◌}
 use Rattle.slots.specs.Slots.{records_at}
@@ -9,6 +9,3 @@ use Rattle.journal.proofs.one_by_one.Given as goal
 
 abbrev pub invariant-loop-j : goal.invariant-loop-j
 invariant-loop-j l = (l.j ≤ l.count) × ((journal_code (executed_lines (records_at l.t l.base l.n)) [] (movements_at l.s 0 l.count) ≡ code_from l.t l.base l.n l.s l.count l.j) × Marks l.t l.base l.used l.marks (movements_at l.s 0 l.j))
-
-abbrev pub decreases-loop-j : goal.decreases-loop-j
-decreases-loop-j l = l.count - l.j

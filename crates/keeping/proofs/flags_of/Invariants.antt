@@ -1,4 +1,3 @@
-use Prim.Native.Nat.{◌-◌, ◌≤◌}
 use lib.ListN.{length}
 use Rattle.slots.proofs.Filter.{Marked}
 use Rattle.keeping.specs.Keeping.{keeps_at}
@@ -7,7 +6,4 @@ use mathlib.Core.Path.{◌≡◌}
 use Rattle.keeping.proofs.flags_of.Given as goal
 
 abbrev pub invariant-loop-i : goal.invariant-loop-i
-invariant-loop-i l = (l.i ≤ length l.initial.flags) × (length l.flags ≡ length l.initial.flags) × (keeps_at l.closed l.t l.base (length l.initial.flags) ≡ flags_from l.closed l.t l.base (length l.initial.flags) l.flags l.i) × Marked l.seen (sofar l.t l.base l.flags l.i)
-
-abbrev pub decreases-loop-i : goal.decreases-loop-i
-decreases-loop-i l = length l.initial.flags - l.i
+invariant-loop-i l = (keeps_at l.closed l.t l.base (length l.initial.flags) ≡ flags_from l.closed l.t l.base (length l.initial.flags) l.flags l.i) × Marked l.seen (sofar l.t l.base l.flags l.i)

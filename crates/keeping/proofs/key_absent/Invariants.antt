@@ -1,4 +1,3 @@
-use Prim.Native.Nat.{◌-◌, ◌≤◌}
 use lib.ListN.{take}
 use Rattle.ranges.specs.Ranges.{is_nothing}
 use Rattle.slots.specs.Slots.{slots_at, find_in}
@@ -8,7 +7,4 @@ use mathlib.Core.Path.{◌≡◌}
 use Rattle.keeping.proofs.key_absent.Given as goal
 
 abbrev pub invariant-loop-i : goal.invariant-loop-i
-invariant-loop-i l = (l.i ≤ l.n) × (is_nothing (find_in (chosen (slots_at l.t l.base l.n) (take l.n l.flags)) 0 l.key) ≡ none_from l.t l.base l.flags l.n l.key l.i)
-
-abbrev pub decreases-loop-i : goal.decreases-loop-i
-decreases-loop-i l = l.n - l.i
+invariant-loop-i l = (is_nothing (find_in (chosen (slots_at l.t l.base l.n) (take l.n l.flags)) 0 l.key) ≡ none_from l.t l.base l.flags l.n l.key l.i)

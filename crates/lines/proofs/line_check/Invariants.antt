@@ -1,5 +1,5 @@
 -- The loop stands at a place with a tally, and these and the lines still to come determine the whole list's answer.
-use Rattle.std.proofs.Common.{◌≡◌, ◌≤◌, ◌-◌, length, drop}
+use Rattle.std.proofs.Common.{◌≡◌, ◌≤◌, length, drop}
 use Rattle.lines.specs.Lines.{line_code}
 use Rattle.lines.proofs.Laws.{code_from}
 use Rattle.lines.proofs.line_check.Given as goal
@@ -9,6 +9,3 @@ invariant-loop-i l = record {
   within : l.i ≤ length l.lines;
   so : code_from l.t l.i (drop l.i l.lines) ≡ line_code l.lines l.total;
 }
-
-abbrev pub decreases-loop-i : goal.decreases-loop-i
-decreases-loop-i l = length l.lines - l.i

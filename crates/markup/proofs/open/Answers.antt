@@ -1,14 +1,14 @@
+use Rattle.std.specs.Prelude.{Ok}
 use mathlib.Core.Path.{◌≡◌, sym, ◌∙◌}
 use native.Mathlib.Omega.{arith}
 use borrow.Author.Tests.{eq-eqb}
 use Prim.Native.Nat.{◌+◌}
 use Rattle.scan.specs.Bytes.{byte_at}
-use Rattle.scan.specs.declared.Walk.TheVariants.{Past}
 use Rattle.scan.proofs.Laws.{stands}
 use Rattle.tokens.specs.Tokens.{name_at}
 use Rattle.tokens.proofs.Laws.{name_past}
 use Rattle.markup.specs.Markup.{root_at}
-use Rattle.markup.proofs.Laws.{mark_within, declaration_within, root_is, opened_none, opened_no_name, opened_no_tag, opened_tag}
+use Rattle.markup.proofs.Laws.{passed_on, mark_within, declaration_within, root_is, opened_none, opened_no_name, opened_no_tag, opened_tag}
 use Rattle.markup.proofs.open.Goals as goal
 
 pub optional-d-requires : goal.optional-d-requires
@@ -30,48 +30,42 @@ overflow_add-lt c = let s = c.args.s.now in
     let l = stands 59 s lt (eq-eqb _ _ o) in
     omega arith
 
-pub name_end-name-requires : goal.name_end-name-requires
-name_end-name-requires c = let s = c.args.s.now in
+pub name_end-requires : goal.name_end-requires
+name_end-requires c = let s = c.args.s.now in
     let lt = c.white_end-lt.result in
     let o : byte_at s lt ≡ 60 = sym c.byte.ensures ∙ c.if-byte-ne60.false in
     let l = stands 59 s lt (eq-eqb _ _ o) in
     omega arith
 
-pub returns-in_default : goal.returns-in_default
-returns-in_default c = let s = c.args.s.now in
+pub returns-in_err-e : goal.returns-in_err-e
+returns-in_err-e c = let s = c.args.s.now in
     let lt = c.white_end-lt.result in
     let v : lt ≡ root_at s = root_is s _ c.optional-a.ensures _ c.optional-d.ensures lt c.white_end-lt.ensures in
-    let s = c.args.s.now in
-    let lt = c.white_end-lt.result in
     let o : byte_at s lt ≡ 60 = sym c.byte.ensures ∙ c.if-byte-ne60.false in
-    c.broken.ensures ∙ sym (opened_no_name c.args.ids s lt v o _ _ c.name_end-name.ensures c.in_default.is)
+    passed_on c.from_residual.result _ c.from_residual.ensures.1 ∙ sym (opened_no_name c.args.ids s lt v o _ (sym c.name_end.ensures ∙ c.in_err-e.was))
 
-pub tag_end-tag-requires : goal.tag_end-tag-requires
-tag_end-tag-requires c = let s = c.args.s.now in
+pub tag_end-requires : goal.tag_end-requires
+tag_end-requires c = let s = c.args.s.now in
     let lt = c.white_end-lt.result in
     let o : byte_at s lt ≡ 60 = sym c.byte.ensures ∙ c.if-byte-ne60.false in
-    let e = c.in-Past.e in
-    let n : name_at s (lt + 1) ≡ Past e = sym c.name_end-name.ensures ∙ c.in-Past.is in
+    let e = c.in_ok-e.e in
+    let n : name_at s (lt + 1) ≡ Ok e = sym c.name_end.ensures ∙ c.in_ok-e.was in
     (name_past s (lt + 1) e n).within
 
-pub returns-in_default-tag : goal.returns-in_default-tag
-returns-in_default-tag c = let s = c.args.s.now in
+pub returns-in_err-c : goal.returns-in_err-c
+returns-in_err-c c = let s = c.args.s.now in
     let lt = c.white_end-lt.result in
     let v : lt ≡ root_at s = root_is s _ c.optional-a.ensures _ c.optional-d.ensures lt c.white_end-lt.ensures in
-    let s = c.args.s.now in
-    let lt = c.white_end-lt.result in
     let o : byte_at s lt ≡ 60 = sym c.byte.ensures ∙ c.if-byte-ne60.false in
-    let e = c.in-Past.e in
-    let n : name_at s (lt + 1) ≡ Past e = sym c.name_end-name.ensures ∙ c.in-Past.is in
-    c.broken-in_default-tag.ensures ∙ sym (opened_no_tag c.args.ids s lt v o e n _ _ c.tag_end-tag.ensures c.in_default-tag.is)
+    let e = c.in_ok-e.e in
+    let n : name_at s (lt + 1) ≡ Ok e = sym c.name_end.ensures ∙ c.in_ok-e.was in
+    passed_on c.from_residual-in_err-c.result _ c.from_residual-in_err-c.ensures.1 ∙ sym (opened_no_tag c.args.ids s lt v o e n _ (sym c.tag_end.ensures ∙ c.in_err-c.was))
 
 pub returns : goal.returns
 returns c = let s = c.args.s.now in
     let lt = c.white_end-lt.result in
     let v : lt ≡ root_at s = root_is s _ c.optional-a.ensures _ c.optional-d.ensures lt c.white_end-lt.ensures in
-    let s = c.args.s.now in
-    let lt = c.white_end-lt.result in
     let o : byte_at s lt ≡ 60 = sym c.byte.ensures ∙ c.if-byte-ne60.false in
-    let e = c.in-Past.e in
-    let n : name_at s (lt + 1) ≡ Past e = sym c.name_end-name.ensures ∙ c.in-Past.is in
-    sym (opened_tag c.args.ids s lt v o e n _ (sym c.tag_end-tag.ensures ∙ c.in-Past-tag.is))
+    let e = c.in_ok-e.e in
+    let n : name_at s (lt + 1) ≡ Ok e = sym c.name_end.ensures ∙ c.in_ok-e.was in
+    sym (opened_tag c.args.ids s lt v o e n _ (sym c.tag_end.ensures ∙ c.in_ok-c.was))

@@ -1,9 +1,10 @@
-use mathlib.Core.Path.{ap, ◌∙◌}
-use Prim.Native.Nat.{ℕ}
-use native.Mathlib.Omega.{arith}
-use Rattle.keeping.specs.Keeping.{keeps_at, moved}
+use Rattle.std.proofs.Common.{◌≡◌, ◌∙◌, ap, arith}
 use Rattle.packing.proofs.Laws.{room}
+use Rattle.keeping.specs.Keeping.{keeps_at, moved}
 use Rattle.mending.proofs.moved_in.Goals as goal
 
 pub returns : goal.returns
-returns c = c.moved_by.ensures ∙ ap (λ (m : ℕ). moved (keeps_at c.args.closed c.args.t.now c.args.base m)) (room c.args.n (omega arith))
+returns c = let a = c.args in
+    let q = room a.n (omega arith) in
+    let e : c.flags_of.new.flags ≡ keeps_at a.closed a.t.now a.base a.n = c.flags_of.ensures ∙ ap (keeps_at a.closed a.t.now a.base) q in
+    c.count_moved.ensures.0 ∙ ap moved e

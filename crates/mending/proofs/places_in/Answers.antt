@@ -1,19 +1,20 @@
-use mathlib.Core.Path.{ap, ◌∙◌}
-use Prim.Native.Nat.{ℕ, ◌+◌, ◌*◌}
-use lib.ListN.{length}
-use native.Mathlib.Omega.{arith}
+use Rattle.std.proofs.Common.{◌≡◌, ◌∙◌, ◌+◌, ◌*◌, ap, arith, ℕ, List, length}
+use Rattle.packing.proofs.Laws.{room}
 use Rattle.words.specs.Numbers.{put, bytes4}
 use Rattle.keeping.specs.Keeping.{keeps_at, blanked_from, each_bytes}
-use Rattle.packing.proofs.Laws.{room}
 use Rattle.mending.proofs.places_in.Goals as goal
 
-pub places_by-requires : goal.places_by-requires
-places_by-requires c = let q = room c.args.n (omega arith) in
-    let e = ap (λ (m : ℕ). length (blanked_from c.args.t.now c.args.base (keeps_at c.args.closed c.args.t.now c.args.base m))) q in
+pub put_places-requires : goal.put_places-requires
+put_places-requires c = let a = c.args in
+    let q = room a.n (omega arith) in
+    let e : c.flags_of.new.flags ≡ keeps_at a.closed a.t.now a.base a.n = c.flags_of.ensures ∙ ap (keeps_at a.closed a.t.now a.base) q in
+    let l = ap (λ (fs : List ℕ). length (blanked_from a.t.now a.base fs)) e in
     (omega arith, omega arith)
 
 pub returns : goal.returns
-returns c = let q = room c.args.n (omega arith) in (
-  c.places_by.ensures.0 ∙ ap (λ (m : ℕ). c.args.to + 4 * length (blanked_from c.args.t.now c.args.base (keeps_at c.args.closed c.args.t.now c.args.base m))) q,
-  c.places_by.ensures.1 ∙ ap (λ (m : ℕ). put c.args.r.now c.args.to (each_bytes bytes4 (blanked_from c.args.t.now c.args.base (keeps_at c.args.closed c.args.t.now c.args.base m)))) q,
-)
+returns c = let a = c.args in
+    let q = room a.n (omega arith) in
+    let e : c.flags_of.new.flags ≡ keeps_at a.closed a.t.now a.base a.n = c.flags_of.ensures ∙ ap (keeps_at a.closed a.t.now a.base) q in (
+      c.put_places.ensures.0 ∙ ap (λ (fs : List ℕ). a.to + 4 * length (blanked_from a.t.now a.base fs)) e,
+      c.put_places.ensures.1 ∙ ap (λ (fs : List ℕ). put a.r.now a.to (each_bytes bytes4 (blanked_from a.t.now a.base fs))) e,
+    )

@@ -1,10 +1,11 @@
-use mathlib.Core.Path.{ap, ◌∙◌}
-use Prim.Native.Nat.{ℕ}
-use native.Mathlib.Omega.{arith}
+use Rattle.std.proofs.Common.{◌≡◌, ◌∙◌, ap, arith}
+use Rattle.packing.proofs.Laws.{room}
 use Rattle.packing.specs.Packing.{packed}
 use Rattle.keeping.specs.Keeping.{keeps_at}
-use Rattle.packing.proofs.Laws.{room}
 use Rattle.mending.proofs.repair_in.Goals as goal
 
 pub returns : goal.returns
-returns c = c.repair_by.ensures ∙ ap (λ (m : ℕ). packed c.args.t.now c.args.base (keeps_at c.args.closed c.args.t.now c.args.base m)) (room c.args.n (omega arith))
+returns c = let a = c.args in
+    let q = room a.n (omega arith) in
+    let e : c.flags_of.new.flags ≡ keeps_at a.closed a.t.now a.base a.n = c.flags_of.ensures ∙ ap (keeps_at a.closed a.t.now a.base) q in
+    c.pack.ensures.1 ∙ ap (packed a.t.now a.base) e

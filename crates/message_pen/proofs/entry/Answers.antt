@@ -7,8 +7,8 @@ entry_named-requires c = room_renamed (name_reversali c.args.v.kind c.if-v-eq2.t
 pub returns-then-v-eq2 : goal.returns-then-v-eq2
 returns-then-v-eq2 c = wrote_renamed (name_reversali c.args.v.kind c.if-v-eq2.true) c.entry_named.ensures
 
-pub entry_named-requires-2 : goal.entry_named-requires-2
-entry_named-requires-2 c = room_renamed (name_mandati c.args.v.kind c.if-v-eq2.false) c.requires
+pub entry_named-requires-else-v-eq2 : goal.entry_named-requires-else-v-eq2
+entry_named-requires-else-v-eq2 c = room_renamed (name_mandati c.args.v.kind c.if-v-eq2.false) c.requires
 
-pub returns : goal.returns
-returns c = wrote_renamed (name_mandati c.args.v.kind c.if-v-eq2.false) c.entry_named-2.ensures
+pub returns-else-v-eq2 : goal.returns-else-v-eq2
+returns-else-v-eq2 c = wrote_renamed (name_mandati c.args.v.kind c.if-v-eq2.false) c.entry_named-else-v-eq2.ensures

@@ -1,7 +1,7 @@
 use Rattle.message_read.proofs.by_off.Goals as goal
 
-pub returns-in-At : goal.returns-in-At
-returns-in-At c = rw c.in-At.is
+pub returns-in-Some : goal.returns-in-Some
+returns-in-Some c = rw c.in-Some.is
 
-pub returns-in-Nowhere : goal.returns-in-Nowhere
-returns-in-Nowhere c = rw c.in-Nowhere.is
+pub returns-in-None : goal.returns-in-None
+returns-in-None c = rw c.in-None.is

@@ -2,10 +2,10 @@ use borrow.Author.Tests.{le-leb, lt-leb}
 use Rattle.message_read.proofs.earlier.Goals as goal
 
 pub returns-then-p-q : goal.returns-then-p-q
-returns-then-p-q c = rw (c.in-At.is, le-leb _ _ c.if-p-q.true)
+returns-then-p-q c = rw (c.in-Some.is, le-leb _ _ c.if-p-q.true)
 
 pub returns-else-p-q : goal.returns-else-p-q
-returns-else-p-q c = rw (c.in-At.is, lt-leb _ _ c.if-p-q.false)
+returns-else-p-q c = rw (c.in-Some.is, lt-leb _ _ c.if-p-q.false)
 
-pub returns-in-Nowhere : goal.returns-in-Nowhere
-returns-in-Nowhere c = rw c.in-Nowhere.is
+pub returns-in-None : goal.returns-in-None
+returns-in-None c = rw c.in-None.is

@@ -1,4 +1,4 @@
-use mathlib.Core.Path.{◌∙◌}
+use mathlib.Core.Path.{refl, ◌∙◌}
 use Rattle.message_read.proofs.Laws.{give_none, give_all}
 use Rattle.message_read.proofs.give.Goals as goal
 
@@ -15,5 +15,4 @@ returns c = let s = c.args.s.now in
     let values = c.args.values.now in
     let i = c.args.from in
     let n = c.args.n in
-    let e = c.wide-entries.ensures in
-    give_all s values i n c.if-values-n.false c.requires.1 c.put_head.ensures c.put_entries-to.ensures.0 c.put_entries-to.ensures.1 c.put_entries.ensures.1 (rw e)
+    give_all s values i n c.if-values-n.false c.requires.1 c.put_head.ensures c.put_entries-to.ensures.0 c.put_entries-to.ensures.1 c.put_entries.ensures.1 refl

@@ -1,4 +1,4 @@
-use mathlib.Core.Path.{◌∙◌}
+use mathlib.Core.Path.{refl, ◌∙◌}
 use Rattle.message_rewrite.proofs.Call.{again_none, again_made}
 use Rattle.message_rewrite.proofs.counted.Goals as goal
 
@@ -7,4 +7,4 @@ returns-then-b-to c = let w = again_none c.args.b.now c.args.s.now c.args.v.now 
     (c.no_message.ensures ∙ w.0, w.1)
 
 pub returns : goal.returns
-returns c = again_made c.args.b.now c.args.s.now c.args.v.now c.args.n c.again-to.ensures c.if-b-to.false c.again.ensures c.count_of-length.ensures
+returns c = again_made c.args.b.now c.args.s.now c.args.v.now c.args.n c.again-to.ensures c.if-b-to.false c.again.ensures refl

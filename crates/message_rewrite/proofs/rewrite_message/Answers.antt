@@ -6,4 +6,4 @@ pub returns-in_default : goal.returns-in_default
 returns-in_default c = rw c.no_message.ensures (no_edition (sym c.edition_of.ensures ∙ c.in_default.is))
 
 pub returns : goal.returns
-returns c = by_edition_lem (sym c.edition_of.ensures ∙ c.in-By.is) c.rewrite_in.ensures
+returns c = by_edition_lem (sym c.edition_of.ensures ∙ c.in-Some.is) c.rewrite_in.ensures

@@ -1,4 +1,4 @@
 use Rattle.message_values.proofs.date_of.Goals as goal
 
-pub returns-in-NoDay : goal.returns-in-NoDay
-returns-in-NoDay c = rw c.in-NoDay.is
+pub returns-in-None : goal.returns-in-None
+returns-in-None c = rw c.in-None.is

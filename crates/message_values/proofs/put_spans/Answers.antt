@@ -10,10 +10,6 @@ pub loop-i-init : goal.loop-i-init
 loop-i-init c = let l : length c.args.each ≡ 9 = search rules in
     texts_start c.args.values.now c.args.each l
 
-pub bounds-each-i : goal.bounds-each-i
-bounds-each-i c = let l : length c.args.each ≡ 9 = search rules in
-    omega arith
-
 pub put_span-requires : goal.put_span-requires
 put_span-requires c = let z = c.loop-i.invariant.size in
     let h = c.requires.0 in

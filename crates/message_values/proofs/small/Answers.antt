@@ -3,5 +3,5 @@ use Prim.Native.Nat.{◌≤◌}
 use Rattle.message_values.proofs.small.Goals as goal
 
 pub overflow_cast-result : goal.overflow_cast-result
-overflow_cast-result c = let h : c.in-Value.v ≤ 255 = rw c.in-Value.is at c.requires in
+overflow_cast-result c = let h : c.in-Some.v ≤ 255 = rw c.in-Some.is at c.requires in
     omega arith

@@ -1,4 +1,3 @@
-use Prim.Native.Nat.{◌-◌}
 use native.Mathlib.Omega.{arith}
 use Rattle.names.proofs.Laws.{characters_end}
 use Rattle.names.proofs.characters_of.Goals as goal

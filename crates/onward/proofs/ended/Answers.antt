@@ -1,9 +1,9 @@
+use Rattle.std.specs.Prelude.{Ok}
 use mathlib.Core.Path.{◌≡◌, refl, sym, ◌∙◌}
 use mathlib.Core.Bool.{true}
 use Prim.Native.Nat.{◌+◌, ◌-◌}
 use native.Mathlib.Omega.{arith}
 use borrow.Author.Tests.{not-false}
-use Rattle.scan.specs.declared.Walk.TheVariants.{Past}
 use Rattle.scan.specs.Bytes.{bytes, has_at}
 use Rattle.scan.proofs.Laws.{has_within}
 use Rattle.tokens.specs.Tokens.{end_tag_at}
@@ -65,7 +65,7 @@ overflow_add-q c = let s = c.args.s.now in
     let t = c.requires.0 in
     let l = tagged_on t in
     let o : has_at (bytes "</") s p ≡ true = sym c.closes.ensures ∙ not-false _ c.if-not-closes.false-raw in
-    let z : end_tag_at s a e p ≡ Past (p + 2 + (e + 1 - a)) = end_same t p o (sym c.stands.ensures ∙ not-false _ c.if-not-stands.false-raw) in
+    let z : end_tag_at s a e p ≡ Ok (p + 2 + (e + 1 - a)) = end_same t p o (sym c.stands.ensures ∙ not-false _ c.if-not-stands.false-raw) in
     let w = end_past s a e p (p + 2 + (e + 1 - a)) z in
     omega arith
 
@@ -86,7 +86,7 @@ white_end-requires c = let s = c.args.s.now in
     let t = c.requires.0 in
     let l = tagged_on t in
     let o : has_at (bytes "</") s p ≡ true = sym c.closes.ensures ∙ not-false _ c.if-not-closes.false-raw in
-    let z : end_tag_at s a e p ≡ Past (p + 2 + (e + 1 - a)) = end_same t p o (sym c.stands.ensures ∙ not-false _ c.if-not-stands.false-raw) in
+    let z : end_tag_at s a e p ≡ Ok (p + 2 + (e + 1 - a)) = end_same t p o (sym c.stands.ensures ∙ not-false _ c.if-not-stands.false-raw) in
     let w = end_past s a e p (p + 2 + (e + 1 - a)) z in
     w.within
 
@@ -98,6 +98,6 @@ returns c = let s = c.args.s.now in
     let t = c.requires.0 in
     let l = tagged_on t in
     let o : has_at (bytes "</") s p ≡ true = sym c.closes.ensures ∙ not-false _ c.if-not-closes.false-raw in
-    let z : end_tag_at s a e p ≡ Past (p + 2 + (e + 1 - a)) = end_same t p o (sym c.stands.ensures ∙ not-false _ c.if-not-stands.false-raw) in
+    let z : end_tag_at s a e p ≡ Ok (p + 2 + (e + 1 - a)) = end_same t p o (sym c.stands.ensures ∙ not-false _ c.if-not-stands.false-raw) in
     let w = end_past s a e p (p + 2 + (e + 1 - a)) z in
     (λ f. record { past = p + 2 + (e + 1 - a); closes = o; end = z; next = c.white_end.ensures }, rw c.note.ensures (end_noted t p o _ (p + 2 + (e + 1 - a)) c.requires.2 z c.requires.3))

@@ -1,4 +1,4 @@
 use Rattle.onward.proofs.start_at.Goals as goal
 
-pub returns-in-Opening : goal.returns-in-Opening
-returns-in-Opening c = rw c.in-Opening.is at c.expected.ensures
+pub returns-in-Some : goal.returns-in-Some
+returns-in-Some c = rw c.in-Some.is at c.expected.ensures

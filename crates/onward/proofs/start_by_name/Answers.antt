@@ -1,8 +1,8 @@
+use Rattle.std.specs.Prelude.{Ok}
 use mathlib.Core.Path.{◌≡◌, sym, ◌∙◌}
 use native.Mathlib.Omega.{arith}
 use Prim.Native.Nat.{◌+◌}
 use borrow.Author.Tests.{eq-eqb}
-use Rattle.scan.specs.declared.Walk.TheVariants.{Past}
 use Rattle.scan.specs.Bytes.{byte_at}
 use Rattle.scan.proofs.Laws.{stands}
 use Rattle.tokens.specs.Tokens.{name_at}
@@ -20,24 +20,15 @@ pub spot_of-requires : goal.spot_of-requires
 spot_of-requires c = let s = c.args.s.now in
     let i = c.args.i in
     let y : byte_at s i ≡ 60 = sym c.byte.ensures ∙ c.if-byte-ne60.false in
-    let e = c.in-Past.e in
-    let n : name_at s (i + 1) ≡ Past e = sym c.name_end.ensures ∙ c.in-Past.is in
+    let e = c.in-Ok.e in
+    let n : name_at s (i + 1) ≡ Ok e = sym c.name_end.ensures ∙ c.in-Ok.is in
     let g = name_past s (i + 1) e n in
     (omega arith, g.within)
 
-pub returns-then-byte-eq62 : goal.returns-then-byte-eq62
-returns-then-byte-eq62 c = let s = c.args.s.now in
+pub returns-in-None : goal.returns-in-None
+returns-in-None c = let s = c.args.s.now in
     let i = c.args.i in
     let y : byte_at s i ≡ 60 = sym c.byte.ensures ∙ c.if-byte-ne60.false in
-    let e = c.in-Past.e in
-    let n : name_at s (i + 1) ≡ Past e = sym c.name_end.ensures ∙ c.in-Past.is in
-    let z : byte_at s e ≡ 62 = sym c.byte-in-At.ensures ∙ c.if-byte-eq62.true in
-    record { lt = y; name = n; gt = z; within = stands 61 s e (eq-eqb _ _ z); spot = sym c.spot_of.ensures ∙ c.in-At.is }
-
-pub returns-in-Passed : goal.returns-in-Passed
-returns-in-Passed c = let s = c.args.s.now in
-    let i = c.args.i in
-    let y : byte_at s i ≡ 60 = sym c.byte.ensures ∙ c.if-byte-ne60.false in
-    let e = c.in-Past.e in
-    let n : name_at s (i + 1) ≡ Past e = sym c.name_end.ensures ∙ c.in-Past.is in
-    record { gt = e; lt = y; name = n; spot = sym c.spot_of.ensures ∙ c.in-Passed.is }
+    let e = c.in-Ok.e in
+    let n : name_at s (i + 1) ≡ Ok e = sym c.name_end.ensures ∙ c.in-Ok.is in
+    record { gt = e; lt = y; name = n; spot = sym c.spot_of.ensures ∙ c.in-None.is }

@@ -34,4 +34,4 @@ put_entries-requires c = let q = c.args.q.now in
     (omega (arith, r.few), omega (arith, r.whole), omega arith)
 
 pub returns : goal.returns
-returns c = filled c.args.q.now c.clear.new.t c.put_head.new.t c.put_entries.new.t c.args.n _ c.length_for.result c.requires.0 c.requires.1 c.requires.2 c.length_for.ensures c.clear.ensures c.put_head.ensures c.put_entries.ensures
+returns c = filled c.args.q.now c.fill.new.self c.put_head.new.t c.put_entries.new.t c.args.n _ c.length_for.result c.requires.0 c.requires.1 c.requires.2 c.length_for.ensures (c.fill.ensures.after (λ y q. q)) c.put_head.ensures c.put_entries.ensures

@@ -46,8 +46,8 @@ read_field-requires-2 c = let s = c.args.s.now in
     let i2 = xb.child.after in
     let l = fb.lies in (l.inner, omega arith)
 
-pub named_after-requires : goal.named_after-requires
-named_after-requires c = let s = c.args.s.now in
+pub named_after-named-requires : goal.named_after-named-requires
+named_after-named-requires c = let s = c.args.s.now in
     let p = c.args.parent in
     let i0 = c.args.from in
     let xa = c.first_named.result in
@@ -69,10 +69,10 @@ returns-then-is_replacing c = let s = c.args.s.now in
     let xb = c.first_named-2.result in
     let fb = found 1 p s 1 i1 fa.on xb c.first_named-2.ensures in
     let i2 = xb.child.after in
-    line_made s (kept_from p s i0) _ (c.number_of-progressivo.ensures ∙ ap number_of c.read_field.ensures ∙ says_progressivo s xa.child _ fa.text) (c.number_of-amount.ensures ∙ ap number_of c.read_field-2.ensures ∙ says_importo s xb.child _ (fa.texts 1 (omega arith) ∙ fb.text)) (c.named_after.ensures ∙ sym (named_same s (kept_from p s i0) (kept_from p s i2) (fa.later 3 (omega arith) ∙ fb.later 3 (omega arith))))
+    line_made s (kept_from p s i0) _ (c.number_of-progressivo.ensures ∙ ap number_of c.read_field.ensures ∙ says_progressivo s xa.child _ fa.text) (c.number_of-amount.ensures ∙ ap number_of c.read_field-2.ensures ∙ says_importo s xb.child _ (fa.texts 1 (omega arith) ∙ fb.text)) (c.named_after-named.ensures ∙ sym (named_same s (kept_from p s i0) (kept_from p s i2) (fa.later 3 (omega arith) ∙ fb.later 3 (omega arith))))
 
-pub returns : goal.returns
-returns c = let s = c.args.s.now in
+pub returns-else-is_replacing : goal.returns-else-is_replacing
+returns-else-is_replacing c = let s = c.args.s.now in
     let p = c.args.parent in
     let i0 = c.args.from in
     let xa = c.first_named.result in
@@ -82,4 +82,4 @@ returns c = let s = c.args.s.now in
     let fb = found 1 p s 1 i1 fa.on xb c.first_named-2.ensures in
     let i2 = xb.child.after in
     let r : is_replacing p ≡ false = sym c.is_replacing.ensures ∙ c.if-is_replacing.false in
-    line_made s (kept_from p s i0) _ (c.number_of-progressivo.ensures ∙ ap number_of c.read_field.ensures ∙ says_progressivo s xa.child _ fa.text) (c.number_of-amount.ensures ∙ ap number_of c.read_field-2.ensures ∙ says_importo s xb.child _ (fa.texts 1 (omega arith) ∙ fb.text)) (c.none_named.ensures ∙ sym (named_none p s i0 (subst (λ (b : Bool). ranges (table p) ≡ line_rows b) r c.requires.0)))
+    line_made s (kept_from p s i0) _ (c.number_of-progressivo.ensures ∙ ap number_of c.read_field.ensures ∙ says_progressivo s xa.child _ fa.text) (c.number_of-amount.ensures ∙ ap number_of c.read_field-2.ensures ∙ says_importo s xb.child _ (fa.texts 1 (omega arith) ∙ fb.text)) (c.none_named-named.ensures ∙ sym (named_none p s i0 (subst (λ (b : Bool). ranges (table p) ≡ line_rows b) r c.requires.0)))

@@ -1,9 +1,5 @@
-use Prim.Native.Nat.{◌-◌}
 use Rattle.orders.proofs.Laws.{Lining}
 use Rattle.orders.proofs.lines_from.Given as goal
 
 abbrev pub invariant-loop-count : goal.invariant-loop-count
 invariant-loop-count l = Lining l.parent l.s l.from l.each l.count l.i
-
-abbrev pub decreases-loop-count : goal.decreases-loop-count
-decreases-loop-count l = 8 - l.count

@@ -147,4 +147,4 @@ returns c = let s = c.args.s.now in
     let u1 = c.number_of-number.ensures ∙ ap number_of c.read_field-2.ensures ∙ says_numero s xb.child _ t1 in
     let u2 = c.day_of-date.ensures ∙ ap date_read c.read_field-3.ensures ∙ says_data s xc.child _ t2 in
     let u3 = c.number_of-total.ensures ∙ ap number_of c.read_field-4.ensures ∙ says_importo s xd.child _ t3 in
-    (order_made (kind_of (Rows p)) s (kept_from p s i0) _ c.kind_of-kind.ensures u0 u1 u2 u3 w, c.lines_from-lines.ensures.1)
+    (order_made (kind_of (Rows p)) s (kept_from p s i0) _ c.kind_of.ensures u0 u1 u2 u3 w, c.lines_from-lines.ensures.1)

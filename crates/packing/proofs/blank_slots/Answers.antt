@@ -1,22 +1,11 @@
-use borrow.Author.Rules.{rules}
-use Prim.Native.Nat.{◌-◌}
-use mathlib.Core.Path.{refl}
-use native.Mathlib.Omega.{arith}
-use Rattle.packing.proofs.Laws.{blank_turn, blank_none, blank_all}
+use Rattle.std.proofs.Common.{◌∙◌, ap, arith, ℕ, ◌*◌, ◌+◌, ◌-◌, ◌≡◌, drop, length-drop, length-take-le}
+use lib.ListN.{replicate, length-replicate}
+use Rattle.words.proofs.Parts.{put_part}
 use Rattle.packing.proofs.blank_slots.Goals as goal
 
-pub loop-i-init : goal.loop-i-init
-loop-i-init c = (omega arith, refl, blank_none c.args.t.now c.args.at)
-
-pub loop-i-preserved : goal.loop-i-preserved
-loop-i-preserved c = let l = c.loop-i in
-    let a = c.args in (
-      omega arith,
-      search rules,
-      blank_turn a.t.now l.t _ _ a.at l.i a.m (omega arith) (omega arith) l.invariant.2 refl c.copy_in.ensures,
-    )
-
 pub returns : goal.returns
-returns c = let l = c.loop-i in
-    let a = c.args in
-    blank_all a.t.now l.t a.at l.i a.m (omega arith) (omega arith) l.invariant.2
+returns c = let a = c.args in
+    let k = 96 * a.m in
+    let l = length-take-le (a.at + k - a.at) (drop a.at a.t.now) (omega (arith, length-drop a.at a.t.now)) in
+    let e : c.fill.new.self ≡ replicate k 0 = c.fill.ensures.after (λ y q. q) ∙ ap (λ (n : ℕ). replicate n 0) (l ∙ omega arith) in
+    put_part _ _ _ _ (replicate k 0) e (length-replicate {A = ℕ} k 0 ∙ omega arith)

@@ -1,9 +1,10 @@
-use Prim.Native.Nat.{◌+◌, ◌-◌}
-use Rattle.record.specs.Slot.{slot_size}
-use native.Mathlib.Omega.{arith}
-use Rattle.packing.proofs.Laws.{moved}
+use Rattle.std.proofs.Common.{◌∙◌, ap, arith, ℕ, ◌+◌, ◌-◌, ◌≡◌, take, drop, length-drop}
+use Rattle.words.specs.Numbers.{put}
+use Rattle.words.proofs.Parts.{put_paste}
 use Rattle.packing.proofs.move_slot.Goals as goal
 
 pub returns : goal.returns
 returns c = let a = c.args in
-    moved a.t.now _ _ a.from a.to (a.from + slot_size - a.from) (omega arith) (omega arith) c.copy_in.ensures c.copy_in-2.ensures
+    let k = a.from + 96 - a.from in
+    let q : k ≡ 96 = omega arith in
+    c.copy_within.ensures.after ∙ put_paste a.t.now a.to (drop a.from a.t.now) k (omega (arith, length-drop a.from a.t.now)) ∙ ap (λ (n : ℕ). put a.t.now a.to (take n (drop a.from a.t.now))) q

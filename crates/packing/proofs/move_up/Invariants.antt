@@ -1,12 +1,9 @@
-use Prim.Native.Nat.{◌-◌, ◌≤◌}
+use Prim.Native.Nat.{◌≤◌}
 use mathlib.Core.Path.{◌≡◌}
-use lib.ListN.{length, take}
+use lib.ListN.{take}
 use Rattle.words.specs.Numbers.{put}
 use Rattle.packing.specs.Packing.{chosen_count, chosen_bytes}
 use Rattle.packing.proofs.move_up.Given as goal
 
 abbrev pub invariant-loop-i : goal.invariant-loop-i
-invariant-loop-i l = (l.i ≤ length l.flags) × (length l.t ≡ length l.initial.t) × (l.to ≤ l.i) × (l.to ≡ chosen_count (take l.i l.flags)) × (l.t ≡ put l.initial.t l.base (chosen_bytes l.initial.t l.base (take l.i l.flags)))
-
-abbrev pub decreases-loop-i : goal.decreases-loop-i
-decreases-loop-i l = length l.flags - l.i
+invariant-loop-i l = (l.to ≤ l.i) × (l.to ≡ chosen_count (take l.i l.flags)) × (l.t ≡ put l.initial.t l.base (chosen_bytes l.initial.t l.base (take l.i l.flags)))

@@ -1,19 +1,12 @@
-use mathlib.Core.Path.{refl, sym, ◌∙◌}
-use Prim.Native.Nat.{◌-◌}
-use native.Mathlib.Omega.{arith}
-use borrow.Author.Tests.{not-true, not-false}
+use Rattle.std.proofs.Common.{rules, tests, ◌∙◌}
+use Rattle.std.proofs.lemmas.Iterator.{YieldsList-from_slice}
+use Rattle.std.proofs.lemmas.Iterator.Search.{all_from_yields_List}
+use Rattle.scan.specs.Bytes.{part}
 use Rattle.ranges.specs.Ranges.{is_of}
-use Rattle.ranges.proofs.Laws.{all_more, all_not, all_done}
+use Rattle.ranges.proofs.Laws.{all_is}
 use Rattle.ranges.proofs.are_of.Goals as goal
 
-pub loop-i-init : goal.loop-i-init
-loop-i-init c = (omega arith, omega arith, refl)
-
-pub returns-then-not-is_of : goal.returns-then-not-is_of
-returns-then-not-is_of c = sym (c.loop-i.invariant.2 ∙ all_not (is_of c.args.c) c.args.t.now c.loop-i.i c.args.e (omega arith) (omega arith) (sym c.is_of.ensures ∙ not-true _ c.if-not-is_of.true-raw))
-
-pub loop-i-preserved : goal.loop-i-preserved
-loop-i-preserved c = (omega arith, omega arith, c.loop-i.invariant.2 ∙ all_more (is_of c.args.c) c.args.t.now c.loop-i.i c.args.e (omega arith) (omega arith) (sym c.is_of.ensures ∙ not-false _ c.if-not-is_of.false-raw))
-
 pub returns : goal.returns
-returns c = sym (c.loop-i.invariant.2 ∙ all_done (is_of c.args.c) c.args.t.now c.loop-i.i c.args.e (omega arith))
+returns c = let a = c.args in
+    let bytes = part a.t.now a.a a.e in
+    all_from_yields_List (is_of a.c) _ _ _ c.all.ensures.ran (YieldsList-from_slice bytes cc) (λ x b q k. search (rules, tests)) ∙ all_is (is_of a.c) bytes

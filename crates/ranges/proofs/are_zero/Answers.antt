@@ -1,16 +1,14 @@
-use mathlib.Core.Path.{◌≡◌, sym, ap, ◌∙◌}
-use Prim.Native.Nat.{ℕ, ◌-◌}
-use native.Mathlib.Omega.{arith}
-use lib.Dec.{eqb}
+use Rattle.std.proofs.Common.{rules, tests, ◌∙◌, ap, eqb, max, ℕ}
+use Rattle.std.proofs.lemmas.Iterator.{YieldsList-from_slice}
+use Rattle.std.proofs.lemmas.Iterator.Consumers.{fold_from_yields_List}
+use Rattle.scan.specs.Bytes.{part}
 use Rattle.ranges.specs.Ranges.{zeros}
-use Rattle.ranges.proofs.Laws.{zeros_none, greatest_more}
+use Rattle.ranges.proofs.Laws.{zero_greatest}
 use Rattle.ranges.proofs.are_zero.Goals as goal
 
-pub loop-i-init : goal.loop-i-init
-loop-i-init c = (omega arith, omega arith, sym (zeros_none c.args.t.now c.args.a c.args.a (omega arith)))
-
-pub loop-i-preserved : goal.loop-i-preserved
-loop-i-preserved c = (omega arith, omega arith, ap (λ (x : ℕ). eqb x 0) c.greater-top.ensures ∙ greatest_more c.args.t.now c.args.a c.loop-i.i c.loop-i.top c.loop-i.invariant.0 c.loop-i.invariant.2)
-
 pub returns : goal.returns
-returns c = let q : c.loop-i.i ≡ c.args.e = omega arith in c.loop-i.invariant.2 ∙ ap (zeros c.args.t.now c.args.a) q
+unfolding zeros
+returns c = let a = c.args in
+    let bytes = part a.t.now a.a a.e in
+    let e = fold_from_yields_List _ (λ top b. max top b) 0 c.fold.result c.fold.ensures.ran (YieldsList-from_slice bytes cc) (λ a x b q k. search (rules, tests)) in
+    ap (λ (top : ℕ). eqb top 0) e ∙ zero_greatest 0 bytes

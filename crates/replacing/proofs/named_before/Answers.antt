@@ -7,9 +7,6 @@ use Rattle.replacing.proofs.named_before.Goals as goal
 pub loop-i-init : goal.loop-i-init
 loop-i-init c = (omega arith, refl)
 
-pub naming_at-requires : goal.naming_at-requires
-naming_at-requires c = (omega (arith, c.requires.0), omega (arith, c.requires.1))
-
 pub returns-then-same_line : goal.returns-then-same_line
 returns-then-same_line c = sym (c.loop-i.invariant.1 ∙ earlier_hit c.args.o.kind (lines_there c.args.o.lines) c.loop-i.i c.args.m c.loop-i-test.true c.naming_at.ensures c.same_line.ensures c.if-same_line.true)
 

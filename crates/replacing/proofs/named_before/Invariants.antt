@@ -6,6 +6,3 @@ use Rattle.replacing.proofs.named_before.Given as goal
 
 abbrev pub invariant-loop-i : goal.invariant-loop-i
 invariant-loop-i l = (l.i ≤ l.j) × (named_earlier l.o.kind (lines_there l.o.lines) l.j l.m ≡ named_earlier l.o.kind (lines_there l.o.lines) l.i l.m)
-
-abbrev pub decreases-loop-i : goal.decreases-loop-i
-decreases-loop-i l = l.i

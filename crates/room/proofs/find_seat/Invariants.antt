@@ -1,4 +1,4 @@
-use Prim.Native.Nat.{◌-◌, ◌≤◌}
+use Prim.Native.Nat.{◌≤◌}
 use mathlib.Core.Path.{◌≡◌}
 use lib.ListN.{drop}
 use Rattle.entries.specs.Entry.{find_code}
@@ -8,7 +8,4 @@ use Rattle.room.proofs.Laws.{codes_of}
 use Rattle.room.proofs.find_seat.Given as goal
 
 abbrev pub invariant-loop-b : goal.invariant-loop-b
-invariant-loop-b l = (l.b ≤ l.n) × (numbered (room_of l.r) l.code ≡ find_code (drop l.b (codes_of (room_of l.r))) l.b l.code)
-
-abbrev pub decreases-loop-b : goal.decreases-loop-b
-decreases-loop-b l = l.n - l.b
+invariant-loop-b l = (l.b ≤ l.b-end) × (numbered (room_of l.r) l.code ≡ find_code (drop l.b (codes_of (room_of l.r))) l.b l.code)

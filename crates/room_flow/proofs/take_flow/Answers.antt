@@ -10,11 +10,11 @@ returns-in_default c = let a = c.args in
 
 pub returns-then-f-gt32768 : goal.returns-then-f-gt32768
 returns-then-f-gt32768 c = let a = c.args in
-    flow_long (room_of a.r) a.edition a.f.now a.out.now _ (sym c.edition_of.ensures ∙ c.in-By.is) c.if-f-gt32768.true c.refused-then-f-gt32768.ensures
+    flow_long (room_of a.r) a.edition a.f.now a.out.now _ (sym c.edition_of.ensures ∙ c.in-Some.is) c.if-f-gt32768.true c.refused-then-f-gt32768.ensures
 
 pub take_noted-requires : goal.take_noted-requires
 take_noted-requires c = (c.if-f-gt32768.false, noted_none c.args.f.now 8193)
 
 pub returns : goal.returns
 returns c = let a = c.args in
-    flow_read (room_of a.r) a.edition a.f.now a.out.now _ (sym c.edition_of.ensures ∙ c.in-By.is) c.if-f-gt32768.false c.take_noted.ensures
+    flow_read (room_of a.r) a.edition a.f.now a.out.now _ (sym c.edition_of.ensures ∙ c.in-Some.is) c.if-f-gt32768.false c.take_noted.ensures

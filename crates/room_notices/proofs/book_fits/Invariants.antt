@@ -1,4 +1,4 @@
-use Prim.Native.Nat.{◌-◌, ◌≤◌}
+use Prim.Native.Nat.{◌≤◌}
 use mathlib.Core.Path.{◌≡◌}
 use lib.ListN.{drop}
 use Rattle.training.specs.Training.{list_of}
@@ -6,7 +6,4 @@ use Rattle.plain.specs.Plain.{fits}
 use Rattle.room_notices.proofs.book_fits.Given as goal
 
 abbrev pub invariant-loop-i : goal.invariant-loop-i
-invariant-loop-i l = (l.i ≤ l.n) × (fits (list_of l.b) ≡ fits (drop l.i (list_of l.b)))
-
-abbrev pub decreases-loop-i : goal.decreases-loop-i
-decreases-loop-i l = l.n - l.i
+invariant-loop-i l = (l.i ≤ l.i-end) × (fits (list_of l.b) ≡ fits (drop l.i (list_of l.b)))

@@ -1,10 +1,7 @@
-use Prim.Native.Nat.{◌-◌, ◌≤◌}
+use Prim.Native.Nat.{◌≤◌}
 use Rattle.training.specs.Training.{list_of}
 use Rattle.room_notices.proofs.Laws.{Counted}
 use Rattle.room_notices.proofs.cents_of.Given as goal
 
 abbrev pub invariant-loop-i : goal.invariant-loop-i
-invariant-loop-i l = (l.i ≤ l.n) × Counted (list_of l.b) l.kind l.i l.cents
-
-abbrev pub decreases-loop-i : goal.decreases-loop-i
-decreases-loop-i l = l.n - l.i
+invariant-loop-i l = (l.i ≤ l.i-end) × Counted (list_of l.b) l.kind l.i l.cents

@@ -6,11 +6,11 @@ use Rattle.room.proofs.Laws.{numbered_low}
 use Rattle.room_notices.proofs.Laws.{totals_at}
 use Rattle.room_notices.proofs.totals.Goals as goal
 
-pub seat_at-p-requires : goal.seat_at-p-requires
-seat_at-p-requires c = numbered_low (room_of c.args.r) c.args.code.now _ (sym c.find_seat.ensures ∙ c.in-At.is)
+pub seat_at-requires : goal.seat_at-requires
+seat_at-requires c = numbered_low (room_of c.args.r) c.args.code.now _ (sym c.find_seat.ensures ∙ c.in-Some.is)
 
-pub returns-in-At : goal.returns-in-At
-returns-in-At c = totals_at (room_of c.args.r) c.args.code.now c.find_seat.ensures c.in-At.is (c.book_totals.ensures ∙ ap (λ (l : Listed). list_totals l.orders) c.seat_at-p.ensures)
+pub returns-in-Some : goal.returns-in-Some
+returns-in-Some c = totals_at (room_of c.args.r) c.args.code.now c.find_seat.ensures c.in-Some.is (c.book_totals.ensures ∙ ap (λ (l : Listed). list_totals l.orders) c.seat_at.ensures)
 
-pub returns-in-Nothing : goal.returns-in-Nothing
-returns-in-Nothing c = totals_at (room_of c.args.r) c.args.code.now c.find_seat.ensures c.in-Nothing.is c.no_totals.ensures
+pub returns-in-None : goal.returns-in-None
+returns-in-None c = totals_at (room_of c.args.r) c.args.code.now c.find_seat.ensures c.in-None.is c.no_totals.ensures

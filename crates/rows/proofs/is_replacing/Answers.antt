@@ -9,8 +9,8 @@ operation_at-requires c = (rw c.white_end-i.ensures (run_within is_white _ _ c.r
 pub is_replacing_from-requires : goal.is_replacing_from-requires
 is_replacing_from-requires c = ((rw c.white_end-i.ensures (run_within is_white _ _ c.requires.0)), c.requires.1)
 
-pub returns-in-Known : goal.returns-in-Known
-returns-in-Known c = told _ _ _ c.white_end-i.ensures _ _ _ c.operation_at.ensures c.in-Known.is c.requires.2
+pub returns-in-Some : goal.returns-in-Some
+returns-in-Some c = told _ _ _ c.white_end-i.ensures _ _ _ c.operation_at.ensures c.in-Some.is c.requires.2
 
-pub returns-in-Unread : goal.returns-in-Unread
-returns-in-Unread c = told_on _ _ _ c.white_end-i.ensures _ _ c.is_replacing_from.ensures
+pub returns-in-None : goal.returns-in-None
+returns-in-None c = told_on _ _ _ c.white_end-i.ensures _ _ c.is_replacing_from.ensures

@@ -1,11 +1,13 @@
 use mathlib.Core.Path.{sym, ap, ◌∙◌}
+use Rattle.markup.proofs.Laws.{passed_on}
 use Rattle.rows.specs.Read.{read_at, field_read}
+use Rattle.rows.proofs.Laws.{read_ok, read_err}
 use Rattle.rows.proofs.read_field.Goals as goal
 
-pub returns-in-Some : goal.returns-in-Some
+pub returns-in_err-v : goal.returns-in_err-v
 unfolding field_read
-returns-in-Some c = ap (read_at c.args.c) (sym c.in-Some.is ∙ c.value_of.ensures)
+returns-in_err-v c = passed_on c.from_residual.result _ c.from_residual.ensures.1 ∙ (read_err c.value_of.result c.args.c _ (sym c.ok_or.ensures.value ∙ c.in_err-v.was) ∙ ap (read_at c.args.c) c.value_of.ensures)
 
-pub returns-in-None : goal.returns-in-None
+pub returns : goal.returns
 unfolding field_read
-returns-in-None c = ap (read_at c.args.c) (sym c.in-None.is ∙ c.value_of.ensures)
+returns c = read_ok c.value_of.result c.args.c _ (sym c.ok_or.ensures.value ∙ c.in_ok-v.was) ∙ ap (read_at c.args.c) c.value_of.ensures

@@ -1,4 +1,4 @@
-use Prim.Native.Nat.{◌+◌, ◌-◌, ◌*◌, ◌≤◌}
+use Prim.Native.Nat.{◌+◌, ◌-◌, ◌*◌}
 use mathlib.Core.Bool.{true}
 use mathlib.Core.Path.{◌≡◌}
 use Rattle.record.specs.Slot.{slot_size}
@@ -7,7 +7,4 @@ use Rattle.slots.proofs.Filter.{Marked}
 use Rattle.slots.proofs.keys_distinct.Given as goal
 
 abbrev pub invariant-loop-later : goal.invariant-loop-later
-invariant-loop-later l = (l.next + slot_size * l.later ≡ l.base + slot_size * l.n) × ((l.later ≤ l.n) × ((distinct (slots_at l.t l.next l.later) ≡ true) × Marked l.seen (slots_at l.t l.next l.later)))
-
-abbrev pub decreases-loop-later : goal.decreases-loop-later
-decreases-loop-later l = l.n - l.later
+invariant-loop-later l = (distinct (slots_at l.t (l.base + slot_size * (l.n - l.later)) l.later) ≡ true) × Marked l.seen (slots_at l.t (l.base + slot_size * (l.n - l.later)) l.later)

@@ -1,4 +1,4 @@
-use Prim.Native.Nat.{◌+◌, ◌-◌, ◌*◌, ◌≤◌}
+use Prim.Native.Nat.{◌+◌, ◌-◌, ◌*◌}
 use mathlib.Core.Path.{◌≡◌}
 use Rattle.record.specs.Slot.{slot_size}
 use Rattle.slots.specs.Slots.{records_at}
@@ -6,7 +6,4 @@ use Rattle.slots.specs.Inner.{seek_in}
 use Rattle.slots.proofs.seek.Given as goal
 
 abbrev pub invariant-loop-i : goal.invariant-loop-i
-invariant-loop-i l = (l.at ≡ l.base + slot_size * l.i) × ((l.i ≤ l.n) × (seek_in (records_at l.t l.base l.n) 0 l.key ≡ seek_in (records_at l.t l.at (l.n - l.i)) l.i l.key))
-
-abbrev pub decreases-loop-i : goal.decreases-loop-i
-decreases-loop-i l = l.n - l.i
+invariant-loop-i l = seek_in (records_at l.t l.base l.n) 0 l.key ≡ seek_in (records_at l.t (l.base + slot_size * l.i) (l.n - l.i)) l.i l.key

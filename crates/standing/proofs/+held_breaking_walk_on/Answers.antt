@@ -1,5 +1,5 @@
 use mathlib.Core.Path.{refl, sym, ◌∙◌}
-use Prim.Native.Nat.{◌-◌, ◌+◌}
+use Prim.Native.Nat.{◌+◌}
 use native.Mathlib.Omega.{arith}
 use borrow.Author.Tests.{not-true, not-false}
 use Rattle.scan.specs.Bytes.{is_white}
@@ -45,31 +45,31 @@ walk_on-next_named-requires t c = (c.loop-parent.invariant.0, c.requires.4)
 pub walk_on-returns-then-filled : goal.walk_on-returns-then-filled
 walk_on-returns-then-filled t c = whole _ c.args.d _ _ c.loop-parent.so_far _ _ _ c.loop-parent.invariant (sym c.next_named.ensures ∙ c.in_default.is) (rw c.rows.ensures at (sym c.filled.ensures ∙ c.if-filled.true))
 
-pub walk_on-returns-in_default : goal.walk_on-returns-in_default
-walk_on-returns-in_default t c = unfilled _ c.args.d _ _ c.loop-parent.so_far _ _ _ c.loop-parent.invariant (sym c.next_named.ensures ∙ c.in_default.is) (rw c.rows.ensures at (sym c.filled.ensures ∙ c.if-filled.false))
+pub walk_on-returns-else-filled : goal.walk_on-returns-else-filled
+walk_on-returns-else-filled t c = unfilled _ c.args.d _ _ c.loop-parent.so_far _ _ _ c.loop-parent.invariant (sym c.next_named.ensures ∙ c.in_default.is) (rw c.rows.ensures at (sym c.filled.ensures ∙ c.if-filled.false))
 
 pub walk_on-returns-then-not-filled : goal.walk_on-returns-then-not-filled
-walk_on-returns-then-not-filled t c = let g = found _ c.args.d _ _ c.loop-parent.so_far _ _ _ c.loop-parent.invariant _ (sym c.next_named.ensures ∙ c.in-Named.is) in
+walk_on-returns-then-not-filled t c = let g = found _ c.args.d _ _ c.loop-parent.so_far _ _ _ c.loop-parent.invariant _ (sym c.next_named.ensures ∙ c.in-Some.is) in
     let l = g.lies in
     g.short (sym c.filled-in-loop-parent.ensures ∙ not-true _ c.if-not-filled.true-raw)
 
 pub walk_on-counted-m-requires : goal.walk_on-counted-m-requires
-walk_on-counted-m-requires t c = let g = found _ c.args.d _ _ c.loop-parent.so_far _ _ _ c.loop-parent.invariant _ (sym c.next_named.ensures ∙ c.in-Named.is) in
+walk_on-counted-m-requires t c = let g = found _ c.args.d _ _ c.loop-parent.so_far _ _ _ c.loop-parent.invariant _ (sym c.next_named.ensures ∙ c.in-Some.is) in
     let l = g.lies in
     omega (arith, c.loop-parent.invariant.1)
 
 pub walk_on-held_breaking-requires : goal.walk_on-held_breaking-requires
-walk_on-held_breaking-requires t c = let g = found _ c.args.d _ _ c.loop-parent.so_far _ _ _ c.loop-parent.invariant _ (sym c.next_named.ensures ∙ c.in-Named.is) in
+walk_on-held_breaking-requires t c = let g = found _ c.args.d _ _ c.loop-parent.so_far _ _ _ c.loop-parent.invariant _ (sym c.next_named.ensures ∙ c.in-Some.is) in
     let l = g.lies in
     (omega arith, (l.inner, omega arith, c.requires.3, c.requires.4))
 
 pub walk_on-loop-parent-smaller : goal.walk_on-loop-parent-smaller
-walk_on-loop-parent-smaller t c = let g = found _ c.args.d _ _ c.loop-parent.so_far _ _ _ c.loop-parent.invariant _ (sym c.next_named.ensures ∙ c.in-Named.is) in
+walk_on-loop-parent-smaller t c = let g = found _ c.args.d _ _ c.loop-parent.so_far _ _ _ c.loop-parent.invariant _ (sym c.next_named.ensures ∙ c.in-Some.is) in
     let l = g.lies in
     omega arith
 
 pub walk_on-loop-parent-preserved : goal.walk_on-loop-parent-preserved
-walk_on-loop-parent-preserved t c = let g = found _ c.args.d _ _ c.loop-parent.so_far _ _ _ c.loop-parent.invariant _ (sym c.next_named.ensures ∙ c.in-Named.is) in
+walk_on-loop-parent-preserved t c = let g = found _ c.args.d _ _ c.loop-parent.so_far _ _ _ c.loop-parent.invariant _ (sym c.next_named.ensures ∙ c.in-Some.is) in
     let l = g.lies in
     g.on (sym c.filled-in-loop-parent.ensures ∙ not-false _ c.if-not-filled.false-raw) _ c.counted-m.ensures _ refl _ c.held_breaking.ensures _ c.then-so_far.ensures
 

@@ -1,39 +1,59 @@
-use Prim.Native.Nat.{◌-◌, ◌+◌, ◌*◌}
-use mathlib.Core.Path.{refl, sym, ◌∙◌}
-use native.Mathlib.Omega.{arith}
+use Rattle.std.proofs.Common.{ℕ, ◌+◌, ◌-◌, ◌*◌, ◌≡◌, sym, ap, ◌∙◌, arith}
 use borrow.Author.Tests.{not-true, not-false}
 use Rattle.entries.specs.Entry.{place_of}
-use Rattle.entries.proofs.Laws.{times}
-use Rattle.table.specs.Table.{head_size}
+use Rattle.entries.proofs.Laws.{at_next, has_room}
+use Rattle.table.specs.Table.{head_size, layout_ok, bodies_ok}
 use Rattle.table.proofs.Laws.{lay_own, lay_next, lay_room, lay_form, bodies_not, bodies_on, bodies_done}
 use Rattle.table.proofs.bodies_ok.Goals as goal
 
-pub loop-left-init : goal.loop-left-init
-loop-left-init c = (refl, (λ h. lay_own c.args.l c.args.t.now head_size c.args.n (head_size + c.args.l.entry * c.args.n) h c.requires.3), refl)
+pub loop-i-init : goal.loop-i-init
+loop-i-init c = let a = c.args in
+    let p : head_size ≡ head_size + a.l.entry * 0 = omega arith in
+    let q : a.n ≡ a.n - 0 = omega arith in (
+      (λ h. (λ j. layout_ok a.l a.t.now (sym p j) (sym q j) (place_of a.t.now (sym p j))) ∙ lay_own a.l a.t.now head_size a.n (head_size + a.l.entry * a.n) h c.requires.3),
+      (λ j. bodies_ok a.l a.t.now (p j) (q j)),
+    )
 
-pub body_holds-requires : goal.body_holds-requires
-body_holds-requires c = let k = c.requires.0 in
-    let w = times c.args.l.entry c.loop-left.left (c.loop-left.left - 1) (omega arith) in
-    let f = k.fixed in
-    let i = k.inside in
-    (k, omega arith, lay_room c.args.l c.args.t.now c.loop-left.at c.loop-left.left (place_of c.args.t.now c.loop-left.at) (omega arith) (c.loop-left.invariant.1 (omega arith)), (lay_form c.args.l c.args.t.now c.loop-left.at c.loop-left.left (place_of c.args.t.now c.loop-left.at) (omega arith) (c.loop-left.invariant.1 (omega arith))).most_slots)
-
-pub returns-then-not-body_holds : goal.returns-then-not-body_holds
-returns-then-not-body_holds c = sym (c.loop-left.invariant.2 ∙ bodies_not c.args.l c.args.t.now c.loop-left.at c.loop-left.left (c.loop-left.left - 1) (omega arith) (sym c.body_holds.ensures ∙ not-true _ c.if-not-body_holds.true-raw))
-
-pub overflow_add-at : goal.overflow_add-at
-overflow_add-at c = let k = c.requires.0 in
-    let w = times c.args.l.entry c.loop-left.left (c.loop-left.left - 1) (omega arith) in
-    let f = k.fixed in
-    let i = k.inside in
+pub overflow_mul-l : goal.overflow_mul-l
+overflow_mul-l c = let r = has_room c.args.l.entry head_size c.args.n c.loop-i.i (omega arith) in
+    let f = c.requires.0.fixed in
+    let j = c.requires.0.inside in
     omega arith
 
-pub loop-left-preserved : goal.loop-left-preserved
-loop-left-preserved c = let k = c.requires.0 in
-    let w = times c.args.l.entry c.loop-left.left (c.loop-left.left - 1) (omega arith) in
-    let f = k.fixed in
-    let i = k.inside in
-    (omega arith, (λ h. lay_own c.args.l c.args.t.now (c.loop-left.at + c.args.l.entry) (c.loop-left.left - 1) _ h (lay_next c.args.l c.args.t.now c.loop-left.at c.loop-left.left (place_of c.args.t.now c.loop-left.at) (omega arith) (c.loop-left.invariant.1 (omega arith)))), c.loop-left.invariant.2 ∙ bodies_on c.args.l c.args.t.now c.loop-left.at c.loop-left.left (c.loop-left.left - 1) (omega arith) (sym c.body_holds.ensures ∙ not-false _ c.if-not-body_holds.false-raw))
+pub overflow_add-l : goal.overflow_add-l
+overflow_add-l c = let r = has_room c.args.l.entry head_size c.args.n c.loop-i.i (omega arith) in
+    let f = c.requires.0.fixed in
+    let j = c.requires.0.inside in
+    omega arith
+
+pub body_holds-requires : goal.body_holds-requires
+body_holds-requires c = let a = c.args in
+    let i = c.loop-i.i in
+    let at = head_size + a.l.entry * i in
+    let m = a.n - (i + 1) in
+    let r = has_room a.l.entry head_size a.n i (omega arith) in
+    let w = c.loop-i.invariant.0 (omega arith) in
+    (c.requires.0, omega arith, lay_room a.l a.t.now at (a.n - i) (place_of a.t.now at) (omega arith) w, (lay_form a.l a.t.now at (a.n - i) (place_of a.t.now at) (omega arith) w).most_slots)
+
+pub returns-then-not-body_holds : goal.returns-then-not-body_holds
+returns-then-not-body_holds c = let a = c.args in
+    let i = c.loop-i.i in
+    let at = head_size + a.l.entry * i in
+    let m = a.n - (i + 1) in
+    sym (c.loop-i.invariant.1 ∙ bodies_not a.l a.t.now at (a.n - i) m (omega arith) (sym c.body_holds.ensures ∙ not-true _ c.if-not-body_holds.true-raw))
+
+pub loop-i-preserved : goal.loop-i-preserved
+loop-i-preserved c = let a = c.args in
+    let i = c.loop-i.i in
+    let at = head_size + a.l.entry * i in
+    let m = a.n - (i + 1) in
+    let e = at_next a.l.entry head_size a.n i in
+    let w : a.n - i - 1 ≡ m = omega arith in (
+      (λ h. (λ j. layout_ok a.l a.t.now (sym e j) (sym w j) (place_of a.t.now (sym e j))) ∙ lay_own a.l a.t.now (at + a.l.entry) (a.n - i - 1) _ (omega arith) (lay_next a.l a.t.now at (a.n - i) (place_of a.t.now at) (omega arith) (c.loop-i.invariant.0 (omega arith)))),
+      c.loop-i.invariant.1 ∙ bodies_on a.l a.t.now at (a.n - i) m (omega arith) (sym c.body_holds.ensures ∙ not-false _ c.if-not-body_holds.false-raw)
+          ∙ ap (λ (p : ℕ). bodies_ok a.l a.t.now p m) (at_next a.l.entry head_size a.n i),
+    )
 
 pub returns : goal.returns
-returns c = sym (c.loop-left.invariant.2 ∙ bodies_done c.args.l c.args.t.now c.loop-left.at c.loop-left.left (omega arith))
+returns c = let a = c.args in
+    sym (c.loop-i.invariant.1 ∙ bodies_done a.l a.t.now (head_size + a.l.entry * c.loop-i.i) (a.n - c.loop-i.i) (omega arith))

@@ -4,7 +4,7 @@ use mathlib.Core.Bool.{true}
 use native.Mathlib.Omega.{arith}
 use borrow.Author.Tests.{not-true, not-false}
 use Rattle.table.specs.Table.{head_size, bodies, head_ok, layout_ok}
-use Rattle.table.proofs.Laws.{head, lay_forms, contents_head, contents_layout, contents_codes}
+use Rattle.table.proofs.Laws.{head, lay_forms, contents_head}
 use Rattle.table.proofs.contents_ok.Goals as goal
 
 pub returns-then-not-head_ok : goal.returns-then-not-head_ok
@@ -23,14 +23,6 @@ layout_ok-requires c = let g : head_ok c.args.l c.args.t.now ≡ true = sym c.he
     let z : c.args.l.entry * n ≡ c.args.l.entry * bodies c.args.t.now = ap (λ (x : ℕ). c.args.l.entry * x) e in
     (c.requires, omega (arith, h.few), omega (arith, h.room), omega (arith, h.fits))
 
-pub returns-then-not-layout_ok : goal.returns-then-not-layout_ok
-returns-then-not-layout_ok c = let g : head_ok c.args.l c.args.t.now ≡ true = sym c.head_ok.ensures ∙ not-false _ c.if-not-head_ok.false-raw in
-    let h = head c.args.l c.args.t.now g in
-    let f = c.requires.fits in
-    let e : c.body_count-n.result ≡ bodies c.args.t.now = c.body_count-n.ensures.0 in
-    let n = c.body_count-n.result in
-    sym (contents_layout c.args.l c.args.t.now g n e (sym c.layout_ok.ensures ∙ not-true _ c.if-not-layout_ok.true-raw))
-
 pub codes_distinct-requires : goal.codes_distinct-requires
 codes_distinct-requires c = let g : head_ok c.args.l c.args.t.now ≡ true = sym c.head_ok.ensures ∙ not-false _ c.if-not-head_ok.false-raw in
     let h = head c.args.l c.args.t.now g in
@@ -38,16 +30,7 @@ codes_distinct-requires c = let g : head_ok c.args.l c.args.t.now ≡ true = sym
     let e : c.body_count-n.result ≡ bodies c.args.t.now = c.body_count-n.ensures.0 in
     let n = c.body_count-n.result in
     let z : c.args.l.entry * n ≡ c.args.l.entry * bodies c.args.t.now = ap (λ (x : ℕ). c.args.l.entry * x) e in
-    let l : layout_ok c.args.l c.args.t.now head_size n (head_size + c.args.l.entry * n) ≡ true = sym c.layout_ok.ensures ∙ not-false _ c.if-not-layout_ok.false-raw in
+    let l : layout_ok c.args.l c.args.t.now head_size n (head_size + c.args.l.entry * n) ≡ true = sym c.layout_ok.ensures ∙ c.if-layout_ok.true in
     let i = c.requires.inside in
     let j = c.requires.fixed in
     (omega arith, omega (arith, h.room), lay_forms c.args.l c.args.t.now head_size n (head_size + c.args.l.entry * n) l)
-
-pub returns : goal.returns
-returns c = let g : head_ok c.args.l c.args.t.now ≡ true = sym c.head_ok.ensures ∙ not-false _ c.if-not-head_ok.false-raw in
-    let h = head c.args.l c.args.t.now g in
-    let f = c.requires.fits in
-    let e : c.body_count-n.result ≡ bodies c.args.t.now = c.body_count-n.ensures.0 in
-    let n = c.body_count-n.result in
-    let l : layout_ok c.args.l c.args.t.now head_size n (head_size + c.args.l.entry * n) ≡ true = sym c.layout_ok.ensures ∙ not-false _ c.if-not-layout_ok.false-raw in
-    c.codes_distinct.ensures ∙ sym (contents_codes c.args.l c.args.t.now g n e l)

@@ -1,4 +1,3 @@
-use Prim.Native.Nat.{◌-◌}
 use native.Mathlib.Omega.{arith}
 use Rattle.order.specs.Ordinativo.{lines_there}
 use Rattle.training.specs.Training.{list_of}
@@ -8,20 +7,11 @@ use Rattle.training.proofs.mark_lines.Goals as goal
 pub loop-j-init : goal.loop-j-init
 loop-j-init c = marking_start (list_of c.args.b) c.args.o.kind (lines_there c.args.o.lines)
 
-pub naming_at-requires : goal.naming_at-requires
-naming_at-requires c = (omega (arith, c.count_of-count.ensures.0, c.loop-j-test.true), omega (arith, c.count_of-count.ensures.1, c.loop-j-test.true))
-
 pub returns-then-code-ne0 : goal.returns-then-code-ne0
-returns-then-code-ne0 c = marking_stops (list_of c.args.b) c.args.o.kind (lines_there c.args.o.lines) (list_of c.loop-j.book) c.loop-j.j c.loop-j.invariant (omega (arith, c.count_of-count.ensures.0, c.loop-j-test.true)) c.naming_at.ensures c.mark_line-s.ensures.0 c.if-code-ne0.true
-
-pub overflow_add-j : goal.overflow_add-j
-overflow_add-j c = omega (arith, c.count_of-count.ensures.1, c.loop-j-test.true)
-
-pub loop-j-smaller : goal.loop-j-smaller
-loop-j-smaller c = omega (arith, c.count_of-count.ensures.0, c.loop-j-test.true)
+returns-then-code-ne0 c = marking_stops (list_of c.args.b) c.args.o.kind (lines_there c.args.o.lines) (list_of c.loop-j.book) c.loop-j.j c.loop-j.invariant (omega (arith, c.count_of-j-end.ensures.0, c.loop-j-test.true)) c.naming_at.ensures c.mark_line-s.ensures.0 c.if-code-ne0.true
 
 pub loop-j-preserved : goal.loop-j-preserved
-loop-j-preserved c = marking_next (list_of c.args.b) c.args.o.kind (lines_there c.args.o.lines) (list_of c.loop-j.book) c.loop-j.j c.loop-j.invariant (omega (arith, c.count_of-count.ensures.0, c.loop-j-test.true)) c.naming_at.ensures c.mark_line-s.ensures.0 c.if-code-ne0.false (c.mark_line-s.ensures.1 c.if-code-ne0.false)
+loop-j-preserved c = marking_next (list_of c.args.b) c.args.o.kind (lines_there c.args.o.lines) (list_of c.loop-j.book) c.loop-j.j c.loop-j.invariant (omega (arith, c.count_of-j-end.ensures.0, c.loop-j-test.true)) c.naming_at.ensures c.mark_line-s.ensures.0 c.if-code-ne0.false (c.mark_line-s.ensures.1 c.if-code-ne0.false)
 
 pub returns : goal.returns
-returns c = marking_end (list_of c.args.b) c.args.o.kind (lines_there c.args.o.lines) (list_of c.loop-j.book) c.loop-j.j c.loop-j.invariant (omega (arith, c.count_of-count.ensures.0, c.loop-j-test.false))
+returns c = marking_end (list_of c.args.b) c.args.o.kind (lines_there c.args.o.lines) (list_of c.loop-j.book) c.loop-j.j c.loop-j.invariant (omega (arith, c.count_of-j-end.ensures.0, c.loop-j-test.false))

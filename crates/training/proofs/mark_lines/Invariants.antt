@@ -1,5 +1,3 @@
-use Prim.Native.Nat.{◌-◌}
-use lib.ListN.{length}
 use Rattle.order.specs.Ordinativo.{lines_there}
 use Rattle.training.specs.Training.{list_of}
 use Rattle.training.proofs.Laws.{Marking}
@@ -7,6 +5,3 @@ use Rattle.training.proofs.mark_lines.Given as goal
 
 abbrev pub invariant-loop-j : goal.invariant-loop-j
 invariant-loop-j l = Marking (list_of l.b) (list_of l.book) l.o.kind (lines_there l.o.lines) l.j
-
-abbrev pub decreases-loop-j : goal.decreases-loop-j
-decreases-loop-j l = length (lines_there l.o.lines) - l.j

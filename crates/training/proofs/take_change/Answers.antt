@@ -8,10 +8,10 @@ pub returns-then-code-ne0 : goal.returns-then-code-ne0
 returns-then-code-ne0 c = change_lines c.args.slots c.args.year (ordinativo c.args.o) (list_of c.args.b) c.args.c c.check_lines-code.ensures c.if-code-ne0.true
 
 pub change_record-requires : goal.change_record-requires
-change_record-requires c = found_low (list_of c.args.b) (key_for c.args.year (ordinativo c.args.o)) c.find.ensures c.in-At.is
+change_record-requires c = found_low (list_of c.args.b) (key_for c.args.year (ordinativo c.args.o)) c.find.ensures c.in-Some.is
 
-pub returns-in-At : goal.returns-in-At
-returns-in-At c = change_at c.args.slots c.args.year (ordinativo c.args.o) (list_of c.args.b) c.args.c c.check_lines-code.ensures c.if-code-ne0.false c.find.ensures c.in-At.is c.change_record.ensures
+pub returns-in-Some : goal.returns-in-Some
+returns-in-Some c = change_at c.args.slots c.args.year (ordinativo c.args.o) (list_of c.args.b) c.args.c c.check_lines-code.ensures c.if-code-ne0.false c.find.ensures c.in-Some.is c.change_record.ensures
 
-pub returns-in-Nothing : goal.returns-in-Nothing
-returns-in-Nothing c = change_none c.args.slots c.args.year (ordinativo c.args.o) (list_of c.args.b) c.args.c c.check_lines-code.ensures c.if-code-ne0.false c.find.ensures c.in-Nothing.is c.change_absent.ensures
+pub returns-in-None : goal.returns-in-None
+returns-in-None c = change_none c.args.slots c.args.year (ordinativo c.args.o) (list_of c.args.b) c.args.c c.check_lines-code.ensures c.if-code-ne0.false c.find.ensures c.in-None.is c.change_absent.ensures

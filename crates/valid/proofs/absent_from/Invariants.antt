@@ -1,4 +1,4 @@
-use Prim.Native.Nat.{◌-◌, ◌≤◌}
+use Prim.Native.Nat.{◌-◌}
 use mathlib.Core.Path.{◌≡◌}
 use mathlib.Core.Bool.{◌&&◌}
 use Rattle.record.specs.Slot.{record_at}
@@ -6,7 +6,4 @@ use Rattle.valid.specs.Valid.{line_ok, all_from}
 use Rattle.valid.proofs.absent_from.Given as goal
 
 abbrev pub invariant-loop-k : goal.invariant-loop-k
-invariant-loop-k l = (l.lines ≤ l.k) × (l.k ≤ 8) × (all_from (line_ok (record_at l.t l.at)) l.lines (8 - l.lines) ≡ (l.right && all_from (line_ok (record_at l.t l.at)) l.k (8 - l.k)))
-
-abbrev pub decreases-loop-k : goal.decreases-loop-k
-decreases-loop-k l = 8 - l.k
+invariant-loop-k l = all_from (line_ok (record_at l.t l.at)) l.lines (8 - l.lines) ≡ (l.right && all_from (line_ok (record_at l.t l.at)) l.k (8 - l.k))

@@ -13,13 +13,13 @@ pub returns-then-not-ranges_ok : goal.returns-then-not-ranges_ok
 returns-then-not-ranges_ok c = broken (record_at c.args.t.now c.args.at) (ranges_not (record_at c.args.t.now c.args.at) (sym c.ranges_ok.ensures ∙ not-true _ c.if-not-ranges_ok.true-raw))
 
 pub lines_absent-requires : goal.lines_absent-requires
-lines_absent-requires c = (omega arith, lines_most c.args.t.now c.args.at c.wide-lines.ensures.0 (sym c.ranges_ok.ensures ∙ not-false _ c.if-not-ranges_ok.false-raw), lines_is c.args.t.now c.args.at c.wide-lines.ensures.0 (sym c.ranges_ok.ensures ∙ not-false _ c.if-not-ranges_ok.false-raw))
+lines_absent-requires c = (omega arith, lines_most c.args.t.now c.args.at c.from-lines.ensures (sym c.ranges_ok.ensures ∙ not-false _ c.if-not-ranges_ok.false-raw), lines_is c.args.t.now c.args.at c.from-lines.ensures (sym c.ranges_ok.ensures ∙ not-false _ c.if-not-ranges_ok.false-raw))
 
 pub returns-then-not-lines_absent : goal.returns-then-not-lines_absent
-returns-then-not-lines_absent c = broken (record_at c.args.t.now c.args.at) (past_not c.args.t.now c.args.at c.wide-lines.ensures.0 (sym c.ranges_ok.ensures ∙ not-false _ c.if-not-ranges_ok.false-raw) (sym c.lines_absent.ensures ∙ not-true _ c.if-not-lines_absent.true-raw))
+returns-then-not-lines_absent c = broken (record_at c.args.t.now c.args.at) (past_not c.args.t.now c.args.at c.from-lines.ensures (sym c.ranges_ok.ensures ∙ not-false _ c.if-not-ranges_ok.false-raw) (sym c.lines_absent.ensures ∙ not-true _ c.if-not-lines_absent.true-raw))
 
 pub lines_there-requires : goal.lines_there-requires
-lines_there-requires c = (omega arith, lines_most c.args.t.now c.args.at c.wide-lines.ensures.0 (sym c.ranges_ok.ensures ∙ not-false _ c.if-not-ranges_ok.false-raw), lines_is c.args.t.now c.args.at c.wide-lines.ensures.0 (sym c.ranges_ok.ensures ∙ not-false _ c.if-not-ranges_ok.false-raw), past_sum c.args.t.now c.args.at c.wide-lines.ensures.0 (sym c.ranges_ok.ensures ∙ not-false _ c.if-not-ranges_ok.false-raw) (sym c.lines_absent.ensures ∙ not-false _ c.if-not-lines_absent.false-raw), (ranges_bounds (record_at c.args.t.now c.args.at) (sym c.ranges_ok.ensures ∙ not-false _ c.if-not-ranges_ok.false-raw)).total)
+lines_there-requires c = (omega arith, lines_most c.args.t.now c.args.at c.from-lines.ensures (sym c.ranges_ok.ensures ∙ not-false _ c.if-not-ranges_ok.false-raw), lines_is c.args.t.now c.args.at c.from-lines.ensures (sym c.ranges_ok.ensures ∙ not-false _ c.if-not-ranges_ok.false-raw), past_sum c.args.t.now c.args.at c.from-lines.ensures (sym c.ranges_ok.ensures ∙ not-false _ c.if-not-ranges_ok.false-raw) (sym c.lines_absent.ensures ∙ not-false _ c.if-not-lines_absent.false-raw), (ranges_bounds (record_at c.args.t.now c.args.at) (sym c.ranges_ok.ensures ∙ not-false _ c.if-not-ranges_ok.false-raw)).total)
 
 pub returns : goal.returns
-returns c = c.lines_there.ensures ∙ ap (λ (b : Bool). judged_by b (executed (record_at c.args.t.now c.args.at))) (sym (past_ok c.args.t.now c.args.at c.wide-lines.ensures.0 (sym c.ranges_ok.ensures ∙ not-false _ c.if-not-ranges_ok.false-raw) (sym c.lines_absent.ensures ∙ not-false _ c.if-not-lines_absent.false-raw)))
+returns c = c.lines_there.ensures ∙ ap (λ (b : Bool). judged_by b (executed (record_at c.args.t.now c.args.at))) (sym (past_ok c.args.t.now c.args.at c.from-lines.ensures (sym c.ranges_ok.ensures ∙ not-false _ c.if-not-ranges_ok.false-raw) (sym c.lines_absent.ensures ∙ not-false _ c.if-not-lines_absent.false-raw)))

@@ -1,4 +1,4 @@
-use Prim.Native.Nat.{◌+◌, ◌-◌, ◌≤◌}
+use Prim.Native.Nat.{◌+◌, ◌≤◌}
 use mathlib.Core.Path.{◌≡◌}
 use lib.ListN.{drop}
 use Rattle.bounds.specs.Bounds.{max_cents}
@@ -8,11 +8,7 @@ use Rattle.valid.proofs.Lines.{left_ok}
 use Rattle.valid.proofs.lines_there.Given as goal
 
 abbrev pub invariant-loop-k : goal.invariant-loop-k
-invariant-loop-k l = (l.k ≤ l.lines)
-    × (l.cents + l.rest ≤ 18446744073709551615)
+invariant-loop-k l = (l.cents + l.rest ≤ 18446744073709551615)
     × (executed (record_at l.t l.at) ≡ l.cents + executed_in (drop l.k (record_at l.t l.at).states) (drop l.k (record_at l.t l.at).amounts))
     × (left_ok (record_at l.t l.at) l.lines 0 (record_at l.t l.at).total ≡ left_ok (record_at l.t l.at) l.lines l.k l.rest)
     × (l.rest ≤ max_cents)
-
-abbrev pub decreases-loop-k : goal.decreases-loop-k
-decreases-loop-k l = l.lines - l.k

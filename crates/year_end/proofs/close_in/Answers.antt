@@ -1,16 +1,10 @@
+use Rattle.std.specs.Prelude.{Ok}
 use mathlib.Core.Path.{refl, sym, ap, ◌∙◌}
 use native.Mathlib.Omega.{arith}
 use Rattle.slots.specs.Slots.{records_at}
 use Rattle.entries.specs.Entry.{closed_of}
-use Rattle.year_end.specs.declared.CloseAnswer.TheVariants.{Closed}
-use Rattle.year_end.proofs.Laws.{too_early, too_late, no_later, earlier_there, line_there_lem, may_close}
+use Rattle.year_end.proofs.Laws.{no_later, earlier_there, line_there_lem, may_close}
 use Rattle.year_end.proofs.close_in.Goals as goal
-
-pub returns-then-year-lt-FIRST_YEAR : goal.returns-then-year-lt-FIRST_YEAR
-returns-then-year-lt-FIRST_YEAR c = (too_early (closed_of c.args.t.now c.args.e) c.args.year (records_at c.args.t.now c.args.base c.args.n) c.if-year-lt-FIRST_YEAR.true, refl)
-
-pub returns-then-year-gt-LAST_YEAR : goal.returns-then-year-gt-LAST_YEAR
-returns-then-year-gt-LAST_YEAR c = (too_late (closed_of c.args.t.now c.args.e) c.args.year (records_at c.args.t.now c.args.base c.args.n) (omega arith) c.if-year-gt-LAST_YEAR.true, refl)
 
 pub returns-then-year-closed_of : goal.returns-then-year-closed_of
 returns-then-year-closed_of c = (no_later (closed_of c.args.t.now c.args.e) c.args.year (records_at c.args.t.now c.args.base c.args.n) (omega arith) (omega arith) (omega (arith, c.closed_of.ensures.0)), refl)
@@ -22,4 +16,4 @@ pub returns-then-line_waits : goal.returns-then-line_waits
 returns-then-line_waits c = (line_there_lem (closed_of c.args.t.now c.args.e) c.args.year (records_at c.args.t.now c.args.base c.args.n) (omega arith) (omega arith) (omega (arith, c.closed_of.ensures.0)) (sym c.earlier_remains.ensures ∙ c.if-earlier_remains.false) (sym c.line_waits.ensures ∙ c.if-line_waits.true), refl)
 
 pub returns : goal.returns
-returns c = (ap Closed c.close_body.ensures.0 ∙ may_close (closed_of c.args.t.now c.args.e) c.args.year (records_at c.args.t.now c.args.base c.args.n) (omega arith) (omega arith) (omega (arith, c.closed_of.ensures.0)) (sym c.earlier_remains.ensures ∙ c.if-earlier_remains.false) (sym c.line_waits.ensures ∙ c.if-line_waits.false), c.close_body.ensures.1)
+returns c = (ap Ok c.close_body.ensures.0 ∙ may_close (closed_of c.args.t.now c.args.e) c.args.year (records_at c.args.t.now c.args.base c.args.n) (omega arith) (omega arith) (omega (arith, c.closed_of.ensures.0)) (sym c.earlier_remains.ensures ∙ c.if-earlier_remains.false) (sym c.line_waits.ensures ∙ c.if-line_waits.false), c.close_body.ensures.1)

@@ -6,5 +6,5 @@ use Rattle.year_end.proofs.settle_body.Goals as goal
 pub returns-in_default : goal.returns-in_default
 returns-in_default c = absurd (sums_broken c.args.t.now c.args.base c.args.n c.requires.valid (sym c.judge.ensures ∙ c.in_default.is))
 
-pub returns : goal.returns
-returns c = settled_with c.args.t.now _ c.args.e (records_at c.args.t.now c.args.base c.args.n) (sums_right c.args.t.now c.args.base c.args.n c.requires.valid (sym c.judge.ensures ∙ c.in-Right.is)) c.settle.ensures
+pub returns-in-Some : goal.returns-in-Some
+returns-in-Some c = settled_with c.args.t.now _ c.args.e (records_at c.args.t.now c.args.base c.args.n) (sums_right c.args.t.now c.args.base c.args.n c.requires.valid (sym c.judge.ensures ∙ c.in-Some.is)) c.settle.ensures

@@ -1,8 +1,0 @@
-use Prim.Native.Nat.{◌≤◌}
-use Rattle.casebook.proofs.last_column.Given as goal
-
-abbrev pub invariant-loop-i : goal.invariant-loop-i
-invariant-loop-i l = (l.a ≤ l.i) × (l.i ≤ l.e)
-
-abbrev pub decreases-loop-i : goal.decreases-loop-i
-decreases-loop-i l = l.i

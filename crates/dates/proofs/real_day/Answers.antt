@@ -1,4 +1,0 @@
-use Rattle.dates.proofs.real_day.Goals as goal
-
-pub returns-in-On : goal.returns-in-On
-returns-in-On c = rw c.in-On.is c.on_date.ensures

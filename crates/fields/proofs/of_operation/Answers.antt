@@ -1,4 +1,0 @@
-use Rattle.fields.proofs.of_operation.Goals as goal
-
-pub returns-in-Operazione : goal.returns-in-Operazione
-returns-in-Operazione c = rw c.in-Operazione.is

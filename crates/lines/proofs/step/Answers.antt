@@ -1,4 +1,0 @@
-use Rattle.lines.proofs.step.Goals as goal
-
-pub returns : goal.returns
-returns c = cc

@@ -1,4 +1,0 @@
-use Rattle.record.proofs.date_at.Goals as goal
-
-pub returns : goal.returns
-returns c = cc

@@ -1,8 +1,0 @@
-use mathlib.Core.Path.{sym, ◌∙◌}
-use Rattle.schema.proofs.versante_spot.Goals as goal
-
-pub returns-then-is : goal.returns-then-is
-returns-then-is c = rw (sym c.is.ensures ∙ c.if-is.true)
-
-pub returns : goal.returns
-returns c = rw (sym c.is.ensures ∙ c.if-is.false)

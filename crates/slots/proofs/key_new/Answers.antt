@@ -1,6 +1,0 @@
-use mathlib.Core.Path.{sym}
-use borrow.Author.Tests.{not-true}
-use Rattle.slots.proofs.key_new.Goals as goal
-
-pub returns-then-not-maybe : goal.returns-then-not-maybe
-returns-then-not-maybe c = sym (c.requires.1 (not-true _ c.if-not-maybe.true-raw))
