@@ -3,10 +3,26 @@ use Prim.Native.Nat.{ℕ, ◌+◌, ◌-◌, ◌*◌, ◌/◌, ◌%◌, ◌≤◌
 use mathlib.Core.Path.{◌≡◌, refl, sym, ap, ◌∙◌}
 use mathlib.Core.List.{List, [], ◌++◌, append_assoc, append-nil}
 use native.Mathlib.Omega.{arith}
+use native.Mathlib.Numerals.{add-one}
 use native.Mathlib.Nat.{add-zero, zero-add, add_assoc, mod-eq_of_lt}
-use lib.ListN.{length, take, drop, get_or, length-append, length-drop, take-append-drop, get_or-append}
-use lib.Seq.{length-take-le, take_at, drop_at, drop-drop, get_or-take, get_or-drop, get_or-append-add}
+use lib.ListN.{length, take, drop, get_or, set, length-append, length-drop, take-append-drop, get_or-append}
+use lib.Seq.{paste, paste-suc, take-length, length-take-le, take_at, drop_at, drop-drop, get_or-take, get_or-drop, get_or-append-add}
 use Rattle.words.specs.Numbers.{put, be2, be4, be8, bytes2, bytes4, bytes8}
+
+-- one turn of the loop that copies
+pub turn : (s₀ s : List ℕ) (at : ℕ) (v : List ℕ) (i : ℕ) → at + length v ≤ length s₀ → i < length v → s ≡ paste s₀ at v i
+    → set s (at + i) (get_or v i 0) ≡ paste s₀ at v (i + 1)
+turn s₀ s at v i fits below e =
+    ap (λ (l : List ℕ). set l (at + i) (get_or v i 0)) e
+    ∙ paste-suc s₀ at v i 0 (omega arith) below
+    ∙ ap (paste s₀ at v) (sym (add-one i))
+
+-- the whole copy
+pub whole : (s₀ s : List ℕ) (at : ℕ) (v : List ℕ) (i : ℕ) → i ≤ length v → length v ≤ i → s ≡ paste s₀ at v i → s ≡ put s₀ at v
+unfolding put
+whole s₀ s at v i le ge e =
+    let q : i ≡ length v = omega arith in
+    e ∙ ap (paste s₀ at v) q ∙ ap (λ (l : List ℕ). take at s₀ ++ l ++ drop (at + length v) s₀) (take-length v)
 
 pub length_put : (s : List ℕ) (at : ℕ) (v : List ℕ) → at + length v ≤ length s → length (put s at v) ≡ length s
 unfolding put

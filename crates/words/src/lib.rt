@@ -28,12 +28,15 @@ pub fn read8(s: &[u8], at: usize) -> u64
     read4(s, at) * 4294967296 + read4(s, at + 4)
 }
 
-// s's bytes from at on are those of v afterwards; all others stay.
+// s's bytes from at on are those of v afterwards; all others stay. Byte by byte: for the slice's own copy the archive would need memmove from outside,
+// and a call for each few bytes.
 pub fn copy_in(s: &mut [u8], at: usize, v: &[u8])
     requires { at + length v.now ≤ length s.old }
     ensures { s.new ≡ put s.old at v.now }
 {
-    s[at..at + v.len()].copy_from_slice(v);
+    for (i, &b) in v.iter().enumerate() {
+        s[at + i] = b;
+    }
 }
 
 pub fn write2(s: &mut [u8], at: usize, v: u64)
