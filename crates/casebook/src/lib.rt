@@ -2,7 +2,7 @@
 // hexadecimal digits.
 #![tactic(auto)]
 
-ghost use Rattle.std.specs.Prelude.{◌≤◌, length, IfOk};
+ghost use Rattle.std.specs.Prelude.{◌≡◌, ◌+◌, ◌*◌, ◌%◌, ◌≤◌, ◌<◌, length, IfOk};
 ghost use Rattle.std.specs.Iterator.{at_most};
 ghost use Rattle.std.specs.Counts.{IsPrefixLen};
 
@@ -43,7 +43,9 @@ fn say_outcome<W: Write>(to: &mut W, out: &[u8; 16]) -> io::Result<()> {
 }
 
 // The outcomes of so many orders, each after a comma: the bytes past them.
-pub fn say_outcomes<'a, W: Write>(to: &mut W, out: &'a [u8], orders: u64) -> io::Result<&'a [u8]> {
+pub fn say_outcomes<'a, W: Write>(to: &mut W, out: &'a [u8], orders: u64) -> io::Result<&'a [u8]>
+    ensures { IfOk result (λ rest. length rest.now ≤ length out.now) }
+{
     let mut rest = out;
     for _ in 0..orders {
         let Some((order, others)) = rest.split_first_chunk::<16>() else {
@@ -62,7 +64,9 @@ pub struct Lines<'a> {
     rest: &'a [u8],
 }
 
-pub fn lines_of(text: &[u8]) -> Lines<'_> {
+pub fn lines_of(text: &[u8]) -> Lines<'_>
+    ensures { result.rest.now ≡ text.now }
+{
     Lines { rest: text }
 }
 
@@ -90,7 +94,9 @@ impl<'a> Iterator for Lines<'a> {
 }
 
 // Column k of a line, as it is written; empty where there are fewer.
-pub fn column(line: &[u8], k: usize) -> &[u8] {
+pub fn column(line: &[u8], k: usize) -> &[u8]
+    ensures { length result.now ≤ length line.now }
+{
     line.split(|&b| b == b'\t').nth(k).unwrap_or(b"")
 }
 
@@ -143,7 +149,9 @@ pub fn bytes(line: &[u8], k: usize, out: &mut [u8]) -> usize
 }
 
 // The number v followed by a digit, as far as there is room.
-pub fn more(v: u64, b: u8) -> u64 {
+pub fn more(v: u64, b: u8) -> u64
+    ensures { (v ≤ 1000000000000000000 → result ≡ v * 10 + b % 16) × (1000000000000000000 < v → result ≡ v) }
+{
     if 1000000000000000000 < v {
         v
     } else {

@@ -81,8 +81,9 @@ fn say_case<W: Write>(to: &mut W, flow: &[u8], line: &[u8], m: &mut [u8]) -> io:
 // What document 02 says of a case.
 fn say_due<W: Write>(to: &mut W, line: &[u8]) -> io::Result<()> {
     say(to, column(line, 13))?;
+    let text = column(line, 18);
     for _ in 0..number(line, 16) {
-        say(to, column(line, 18))?;
+        say(to, text)?;
     }
     say(to, column(line, 19))
 }

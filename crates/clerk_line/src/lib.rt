@@ -62,9 +62,16 @@ pub fn read_line<R: Read>(from: &mut R, buf: &mut [u8]) -> io::Result<Line>
     })
 }
 
+// What stands past the white space that a text begins with.
+#[tactic(auto, using(scan::proofs::Laws::run_within))]
+fn past_white(s: &[u8]) -> &[u8] {
+    &s[scan::white_end(s, 0)..]
+}
+
 // Word k of a line, the first being 0: empty where there are fewer.
 pub fn word(line: &[u8], k: usize) -> &[u8] {
     line.split(|&b| b == b' ')
+        .map(|w| past_white(w))
         .filter(|w| !w.is_empty())
         .nth(k)
         .unwrap_or(b"")

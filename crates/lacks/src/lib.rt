@@ -53,8 +53,12 @@ const REPLACING_REVERSALE: [&str; 4] = [
 
 // Whether a text stands somewhere in a flow.
 fn occurs(flow: &[u8], text: &str) -> bool {
+    let Some((&first, others)) = text.as_bytes().split_first() else {
+        return !flow.is_empty();
+    };
     for i in 0..flow.len() {
-        if flow[i..].starts_with(text.as_bytes()) {
+        // Most places differ in the first byte.
+        if flow[i] == first && flow[i + 1..].starts_with(others) {
             return true;
         }
     }

@@ -79,6 +79,8 @@ pub fn say_order<W: Write>(to: &mut W, out: &[u8; 16]) -> io::Result<()> {
 }
 
 // The line of a body: its code, used slots, balance.
-pub fn say_body<W: Write>(to: &mut W, code: &str, used: u64, balance: i64) -> io::Result<()> {
-    write!(to, "body {code} {used} {balance}\n")
+pub fn say_body<W: Write>(to: &mut W, code: &[u8], used: u64, balance: i64) -> io::Result<()> {
+    say(to, b"body ")?;
+    say(to, code)?;
+    write!(to, " {used} {balance}\n")
 }

@@ -17,8 +17,8 @@ fn tell_orders<W: Write>(to: &mut W, out: &[u8], orders: u64, explaining: bool) 
     Ok(())
 }
 
-fn tell_body<W: Write>(to: &mut W, table: &[u8], code: &str) -> io::Result<()> {
-    let t = notices::totals(table, code.as_bytes());
+fn tell_body<W: Write>(to: &mut W, table: &[u8], code: &[u8]) -> io::Result<()> {
+    let t = notices::totals(table, code);
     say_body(to, code, t.used, t.balance)
 }
 
@@ -64,8 +64,8 @@ fn run<W: Write>(to: &mut W, flow: &[u8], explaining: bool) -> io::Result<()> {
     say_flow(to, code, place, orders, accepted)?;
     tell_reason(to, flow, code, place, cause, explaining)?;
     tell_orders(to, &outcomes, orders, explaining)?;
-    tell_body(to, &table, "000471")?;
-    tell_body(to, &table, "471")
+    tell_body(to, &table, b"000471")?;
+    tell_body(to, &table, b"471")
 }
 
 // The whole program. One byte more than the longest flow is read, so that a longer one shows; input that cannot be read is no flow.

@@ -13,7 +13,8 @@ fn place_of(s: &[u8], x: &[u8], k: u64) -> usize
     }
     let mut left = k;
     for i in 0..s.len() {
-        if s[i..].starts_with(x) {
+        // Most places differ in the first byte.
+        if (x.is_empty() || s[i] == x[0]) && s[i..].starts_with(x) {
             if left <= 1 {
                 return i;
             }
