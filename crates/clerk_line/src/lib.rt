@@ -1,7 +1,7 @@
 // A clerk's line: how it is read from standard input, and what it says: its words, and the numbers, kinds and dates that they write.
 #![tactic(auto)]
 
-ghost use Rattle.std.specs.Prelude.{◌≡◌, length, IfOk, OnErr};
+ghost use Rattle.std.specs.Prelude.{◌≡◌, ◌≤◌, length, IfOk, OnErr};
 ghost use Rattle.std.specs.Counts.{IsPrefixLen};
 
 use calendar::Date;
@@ -64,7 +64,9 @@ pub fn read_line<R: Read>(from: &mut R, buf: &mut [u8]) -> io::Result<Line>
 
 // What stands past the white space that a text begins with.
 #[tactic(auto, using(scan::proofs::Laws::run_within))]
-fn past_white(s: &[u8]) -> &[u8] {
+fn past_white(s: &[u8]) -> &[u8]
+    ensures { length result.now ≤ length s.now }
+{
     &s[scan::white_end(s, 0)..]
 }
 

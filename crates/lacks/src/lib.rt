@@ -51,14 +51,23 @@ const REPLACING_REVERSALE: [&str; 4] = [
     "<esercizio_reversale_da_sostituire>",
 ];
 
+// Whether bytes begin with a text. By its places, up to the first that differs: most differ at once.
+fn begins(flow: &[u8], text: &[u8]) -> bool {
+    if flow.len() < text.len() {
+        return false;
+    }
+    for i in 0..text.len() {
+        if flow[i] != text[i] {
+            return false;
+        }
+    }
+    true
+}
+
 // Whether a text stands somewhere in a flow.
 fn occurs(flow: &[u8], text: &str) -> bool {
-    let Some((&first, others)) = text.as_bytes().split_first() else {
-        return !flow.is_empty();
-    };
     for i in 0..flow.len() {
-        // Most places differ in the first byte.
-        if flow[i] == first && flow[i + 1..].starts_with(others) {
+        if begins(&flow[i..], text.as_bytes()) {
             return true;
         }
     }
