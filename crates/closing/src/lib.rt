@@ -36,7 +36,7 @@ fn any_waiting(t: &[u8], at: usize) -> bool
     requires { at + 8 ≤ length t.now }
     ensures { result ≡ any_waiting (eight_at t.now at) }
 {
-    t[at..at + 8].contains(&record::WAITING)
+    t[at..at + 8].iter().any(|&state| state == record::WAITING)
 }
 
 // Whether the record in the slot at a place is an acquired order of the year with a waiting line.
