@@ -103,6 +103,7 @@ fn stood(w: Result<(), Flaw>, off: Option<usize>, n: usize) -> Result<usize, Mes
 }
 
 // Structure first, with 1 to 64 entries in all; then the first element that breaks.
+#[tactic(auto, using(crate::proofs::Laws::judged_few, crate::proofs::Laws::judged_many, crate::proofs::Laws::judged_is))]
 fn settle(w: Result<(), Flaw>, off: Option<usize>, n: usize) -> Result<usize, MessageFlaw>
     ensures { result ≡ judged_by w off n }
 {
